@@ -63,7 +63,7 @@ def replies(text):
     return out
 
 
-def told_right(script, words, text, kind):
+def check_reported(script, words, text, kind):
     """What is wrong with replies of a run that came to its end; and how many lines tell the fault."""
     given, lines = replies(text), commands(script)
     if len(given) != len(lines):
@@ -100,15 +100,15 @@ def judge(script, words, answer, kind, how, front=None, once=True, at=None):
         return (None, 0) if base.startswith(text) and (kind != "stdout" or text != base) else ("no front of the replies", 0)
     if status not in (0, 1) or error:
         return f"status {status} and '{error.strip()}'", 0
-    wrong, faults = told_right(script, words, text, kind)
+    wrong, faults = check_reported(script, words, text, kind)
     if wrong is None and status != (1 if any(r.startswith(b"error ") for r in replies(text)) else 0):
         wrong = f"status {status}"
     if wrong is None and how == "short" and faults:
-        wrong = "a fault is told"
+        wrong = "a fault is reported"
     if wrong is None and how in ("fail", "nothing") and not faults and not may_show_nowhere(words, kind, at, once):
-        wrong = "the fault is not told"
+        wrong = "the fault is not reported"
     if wrong is None and once and faults > 1:
-        wrong = f"one fault is told {faults} times"
+        wrong = f"one fault is reported {faults} times"
     return wrong, faults
 
 
@@ -160,21 +160,21 @@ def sweep():
                 if kind == "stdin" and how == "fail":
                     whole = script[: 40 * (at - 1)].split(b"\n")[:-1]
                     front = len(commands(b"\n".join(whole)))
-                wrong, told = judge(script, words, answer, kind, how, front, "FAULT_ON" not in more, at)
+                wrong, reported = judge(script, words, answer, kind, how, front, "FAULT_ON" not in more, at)
                 total += 1
                 tally = by_kind.setdefault(f"{kind} {how}{' from there on' if 'FAULT_ON' in more else ''}", [0, 0, 0])
                 tally[0] += 1
-                tally[1] += told > 0
+                tally[1] += reported > 0
                 tally[2] += answer[1] == 3
-                refused, stopped = refused + (told > 0), stopped + (answer[1] == 3)
-                quiet += told == 0 and answer[1] != 3
+                refused, stopped = refused + (reported > 0), stopped + (answer[1] == 3)
+                quiet += reported == 0 and answer[1] != 3
                 if wrong:
                     bad += 1
                     print(f"WRONG {name}: {kind} {how} at {at}{' and on' if 'FAULT_ON' in more else ''}: {wrong}")
         sys.stdout.flush()
-    for kind, (runs, told, ended) in by_kind.items():
-        print(f"{kind}: {runs} runs, {told} told as a reply, {ended} ended with status 3")
-    print(f"{total} faults in {total} runs: {refused} told as a reply, {stopped} ended with status 3, {quiet} with the replies "
+    for kind, (runs, reported, ended) in by_kind.items():
+        print(f"{kind}: {runs} runs, {reported} reported as a reply, {ended} ended with status 3")
+    print(f"{total} faults in {total} runs: {refused} reported as a reply, {stopped} ended with status 3, {quiet} with the replies "
           f"as they were; {bad} wrong")
     return bad
 
@@ -221,8 +221,8 @@ def squeeze():
     while True:
         answer = run(script, limit=(resource.RLIMIT_AS, limit))
         runs += 1
-        wrong, told = judge(script, (), answer, "alloc", "limit", once=False)
-        refused += told > 0
+        wrong, reported = judge(script, (), answer, "alloc", "limit", once=False)
+        refused += reported > 0
         if wrong:
             bad += 1
             print(f"WRONG deep: with {limit} bytes of addresses: {wrong}")
@@ -258,7 +258,7 @@ def report_wrong(answer, base, kind, how):
             return f"status {status} and '{error.strip()}'"
         return None if same or (status == 1 and b"NoTable" in text) else "other text without a table"
     if same:
-        return None if how in ("short", "interrupt") or kind == "alloc" else "the fault is not told"
+        return None if how in ("short", "interrupt") or kind == "alloc" else "the fault is not reported"
     if how == "short" or status != 1:
         return f"status {status}, and other text"
     names = [name.encode().removeprefix(b"error ") for name in TOLD.get(kind, ())]
@@ -329,9 +329,9 @@ def tried(numbers):
         done = subprocess.run(command, input=script, capture_output=True, cwd=f"{TOP}/crates/studybench", timeout=300)
         text = done.stdout.decode() + done.stderr.decode()
         status = re.search(r"run=ended status=(\d)", text)
-        told = "studybench: OutOfMemory\n" if "studybench: OutOfMemory" in text else ""
+        reported = "studybench: OutOfMemory\n" if "studybench: OutOfMemory" in text else ""
         given = re.sub(r"(?m)^(allocations:|checked:|run=|studybench:|rt:).*\n", "", text).encode()
-        wrong, faults = judge(script, words, (given, int(status[1]) if status else "none", told), "alloc", "fail")
+        wrong, faults = judge(script, words, (given, int(status[1]) if status else "none", reported), "alloc", "fail")
         runs += 1
         bad += wrong is not None
         print(f"rt try --fail-alloc {number}: {wrong or 'right'}, status {status and status[1]}, {faults} lines tell it")

@@ -157,6 +157,6 @@ while_read "a table without a byte" ': > "$work/live/KRK.dtm"' "error TableRead 
 while_read "a byte turned" 'printf "\\377" | dd of="$work/live/KRK.dtm" bs=1 seek=$((64 + 4128 * 5 + 63)) conv=notrunc 2> /dev/null' "error TableRead Page 5"
 echo "$cases cases of whole devices, $wrong wrong"
 "$top/tools/files.sh"; filed=$?
-reported; told=$?
+reported; reports=$?
 imported; read=$?
-[ $swept = 0 ] && [ $squeezed = 0 ] && [ $wrong = 0 ] && [ $filed = 0 ] && [ $told = 0 ] && [ $read = 0 ]
+[ $swept = 0 ] && [ $squeezed = 0 ] && [ $wrong = 0 ] && [ $filed = 0 ] && [ $reports = 0 ] && [ $read = 0 ]

@@ -168,7 +168,7 @@ class Study:
         self.walk((), self.root)
 
     def parse(self, tokens):
-        tokens = tokens[1:]  # what the opening comment says is told by the lines
+        tokens = tokens[1:]  # what the opening comment says is in the lines
         stack, at, before = [], self.root, None
         for token in tokens:
             if token == "(":
@@ -477,7 +477,7 @@ def following(study, path, numbered):
     return out + (inside("ul", items) if items else "") + following(study, path + (0,), len(children) > 1)
 
 
-def told_of(study, kind):
+def facts_about(study, kind):
     """The nodes that have facts of a kind, in written order, with those facts."""
     for path in study.order:
         facts = study.of(kind, path)
@@ -487,7 +487,7 @@ def told_of(study, kind):
 
 def cards(study):
     out = ""
-    for path, also in told_of(study, "also"):
+    for path, also in facts_about(study, "also"):
         before = study.position[path[:-1]]
         items = ""
         for fact in also:
@@ -513,7 +513,7 @@ def table(heading, heads, rows):
     return inside("section", inside("h2", heading) + inside("table", top + inside("tbody", rows)))
 
 
-def told(study, path, san, value):
+def move_and_value(study, path, san, value):
     """A move of the opponent from the node at the path, and small the value after it."""
     words = value_words(not study.position[path].white, value)
     return inside("b", say(san)) + inside("sub", say(short(study, words)))
@@ -526,13 +526,13 @@ def legal(study, path):
 
 def tries(study):
     rows = ""
-    for path, refuted in told_of(study, "refuted"):
+    for path, refuted in facts_about(study, "refuted"):
         cell = ""
         for fact in refuted:
             if fact[1:] == ["stalemate"]:
                 cell += "stalemate"
             else:
-                cell += inside("span", told(study, path, fact[1], " ".join(fact[2:])), 'class="nb"') + " "
+                cell += inside("span", move_and_value(study, path, fact[1], " ".join(fact[2:])), 'class="nb"') + " "
         if refuted[0][1:] != ["stalemate"]:
             cell += inside("b", "only") if len(refuted) == 1 else inside("small", f"({len(refuted)} of {legal(study, path)})")
         rows += inside("tr", inside("td", say(study.label(path))) + inside("td", say(study.node[path].value)) + inside("td", cell))
@@ -541,7 +541,7 @@ def tries(study):
 
 def zugzwang_rows(study):
     rows = ""
-    for path, facts in told_of(study, "zugzwang"):
+    for path, facts in facts_about(study, "zugzwang"):
         kind = facts[0][1:]
         white = "draw" if kind == ["half", "white"] else "Black wins"
         black = "draw" if kind == ["half", "black"] else "White wins"
@@ -552,12 +552,12 @@ def zugzwang_rows(study):
 
 def defences(study):
     rows = ""
-    for path, missing in told_of(study, "missing"):
+    for path, missing in facts_about(study, "missing"):
         one, several = {}, ""
         for fact in missing:
             value = "draw" if fact[2] == "draw" else " ".join(fact[2:4])
             rest = fact[3:] if fact[2] == "draw" else fact[4:]
-            move = told(study, path, fact[1], value)
+            move = move_and_value(study, path, fact[1], value)
             if rest[0] == "1":
                 one[rest[1]] = one.get(rest[1], "") + inside("span", move, 'class="nb"') + " "
             else:
@@ -604,7 +604,7 @@ def page(study, number):
 def left_out_row(line):
     """The row of a game without a block, from its comment: its place among the games, and why."""
     place, _, why = line[2:].partition(":")
-    return inside("tr", inside("td", "") + inside("td", say(place)) + inside("td", "") + inside("td", "") + inside("td", say(why[1:])))
+    return inside("tr", inside("td", "") + inside("td", say(place)) + inside("td", "") + inside("td", "") + inside("td", say(why[1:] + meaning(line))))
 
 
 def summary(entries):
@@ -665,6 +665,25 @@ REASONS = {
 }
 
 
+# why a game was left out that a script would not be refused for
+GAME_REASONS = {
+    "GameTooLarge": "more than 1,048,576 bytes",
+    "TagForm": "a tag that is not a name and a text in quotation marks",
+    "OpenString": "a tag whose text is not closed in its line",
+    "NoStipulation": "it does not say what is to be done",
+    "TagInMoves": "a tag among the moves",
+    "Numbering": "a move number that does not fit",
+    "NullMove": "a null move in the main line",
+    "BehindResult": "moves behind the result",
+    "Byte": "a letter that begins no move",
+    "OpenComment": "a comment that is not closed",
+    "NoMoveBefore": "a variation before the first move",
+    "NotOpened": "a ) without its (",
+    "OpenVariation": "a ( without its )",
+    "TooNested": "more than 256 variations within one another",
+}
+
+
 def refusal(number, line, name, reason=None):
     return inside("p", say(f"Line {number} was refused: ") + inside("code", say(line)) + " " + inside("b", say(name)) + ": "
                   + say(reason or REASONS[name.split()[0]]), 'class="warn"')
@@ -685,11 +704,17 @@ def is_left_out(line):
     return bool(re.match(r"# game \d*, line ", line)) and not re.match(r"[^:]*: stipulated by ", line)
 
 
+def meaning(line):
+    """What the fault means that the comment names, if it names one."""
+    why = re.match(r"[^:]*: (.*)", line)[1]
+    return "" if why.startswith("left out: ") else ": " + {**REASONS, **GAME_REASONS}[why.split()[0]]
+
+
 def remark(line):
     """The paragraph of a comment of studyimport: a game without a block, the original text of a tag, or what a block does not have. Other comments have
     none."""
     if is_left_out(line):
-        return inside("p", say("No page for " + line[2:]), 'class="warn"')
+        return inside("p", say("No page for " + line[2:] + meaning(line)), 'class="warn"')
     if re.match(r"# ((Event|Site|Date|Round|White|Black) was|not taken over|behind the result|a tail): ", line):
         return inside("p", in_its_letters(line[2:]), 'class="note"')
     return ""
@@ -704,7 +729,7 @@ def games_in(replies):
     return re.findall(r'^\[Event .*?(?:1-0|0-1|1/2-1/2|\*)\n\n', replies, re.S | re.M)
 
 
-def told_by(lines, replies):
+def studies_by(lines, replies):
     """The studies of a script, by the lines of a report over it and the replies of studybench to it."""
     parts = re.split(r"^(?=study )", "\n".join(l for l in lines.splitlines() if not l.startswith("refused ")) + "\n", flags=re.M)[1:]
     games = games_in(replies)
@@ -712,9 +737,9 @@ def told_by(lines, replies):
     return [Study(game, facts.splitlines()) for game, facts in zip(games, parts)]
 
 
-def told_in(name):
+def studies_in(name):
     """The studies of a gallery script."""
-    return told_by(read(EXAMPLES, name + ".lines"), read(EXAMPLES, name + ".expected"))
+    return studies_by(read(EXAMPLES, name + ".lines"), read(EXAMPLES, name + ".expected"))
 
 
 QUESTIONS = "mark moves fen solve pgn build load save verify".split()
@@ -765,7 +790,7 @@ def file_of(texts, more=()):
     for script, lines, replies in texts:
         refused = {int(l.split(" ", 2)[1]): l.split(" ", 2)[2] for l in lines.splitlines() if l.startswith("refused ")}
         script = script.split("\n")[:-1]
-        for study, text, games in part(told_by(lines, replies), number, script, refused, tags):
+        for study, text, games in part(studies_by(lines, replies), number, script, refused, tags):
             body += text
             entries += games
             if study:
@@ -821,13 +846,13 @@ def agree(tables, scripts):
     load_all = read(EXAMPLES, "load_all.script")
     for path in scripts:
         script = read(path)
-        (told, lines), (printed, had) = answer_of(tables, script, "--lines"), answer_of(tables, script)
+        (status, lines), (printed, had) = answer_of(tables, script, "--lines"), answer_of(tables, script)
         _, replies = answer_of(tables, load_all + re.sub(r"(?m)^(build|load|save|verify) .*\n", "", script), "--pages", "1024", name="studybench")
         wanted = file_of([(script, lines, replies)])
         facts += lines.count("\n")
-        if told != printed or had != wanted:
+        if status != printed or had != wanted:
             wrong += 1
-            print(f"WRONG {path} (status {told} and {printed}): {difference(wanted, had)}")
+            print(f"WRONG {path} (status {status} and {printed}): {difference(wanted, had)}")
     print(f"{len(scripts)} scripts with {facts} facts, the lines and the page agree in {len(scripts) - wrong}")
     return wrong == 0
 
@@ -894,7 +919,7 @@ if __name__ == "__main__":
         sys.stdout.write(expected_file(words[1:]))
     elif words == ["facts"]:
         for name in gallery():
-            lines, studies = read(EXAMPLES, name + ".lines"), told_in(name)
+            lines, studies = read(EXAMPLES, name + ".lines"), studies_in(name)
             parts = re.split(r"^(?=study |refused )", lines, flags=re.M)[1:]
             text = "".join(part if part.startswith("refused ") else "\n".join(with_facts(studies.pop(0), part.splitlines())) + "\n" for part in parts)
             if text != lines:
@@ -902,7 +927,7 @@ if __name__ == "__main__":
                 with open(os.path.join(EXAMPLES, name + ".lines"), "w", encoding="latin-1") as file:
                     file.write(text)
     elif words == ["gate"]:
-        two = told_in("krk_waiting")
+        two = studies_in("krk_waiting")
         front = read(TOP, "crates/gallery/stdout").split("== pages\n")[0]
         front = re.sub(r"(?m)^(== (\S+), lines of a report\n)(?:(?!== ).*\n)*", lambda m: m.group(1) + read(EXAMPLES, m.group(2) + ".lines"), front)
         with open(os.path.join(TOP, "crates/gallery/stdout"), "w", encoding="latin-1") as file:

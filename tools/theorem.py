@@ -23,7 +23,7 @@ study_tablefile tables_are_read_again
 study_tablefile only_texts_are_read
 study_values Values::value game stays_honest
 study_prober WholeTables::value
-study_prober PagedTables::value told whole
+study_prober PagedTables::value reported whole
 study_marks Bench::new made right refusal
 study_marks Bench::set_position edited right refusal same
 study_marks Bench::shift_position edited right broken refusal same

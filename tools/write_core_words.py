@@ -57,6 +57,12 @@ def reasons():
     return "".join(f"  {name}: {quoted(words)},\n" for name, words in pairs)
 
 
+def game_reasons():
+    """Why a game was left out that a script would not be refused for, by the name of the fault, as the printed page has it."""
+    words = words_in(body(source("study_print/src/left_out.rt"), "game_reason") + body(source("study_print/src/left_out.rt"), "moves_reason"))
+    return "".join(f"  {name}: {quoted(reason)},\n" for name, reason in zip(words[::2], words[1::2]))
+
+
 def lost():
     """What the sentence of a verdict says of faults that all lose time alone: of one, and of several."""
     which = words_in(body(source("study_head/src/verdict.rt"), "add_which"))[0]
@@ -114,6 +120,9 @@ def written():
     return FRONT + f"""/** Why a line is refused, by the name of the refusal, as the printed page has it. */
 export const REASONS = /** @type {{Record<string, string>}} */ ({{
 {reasons()}}});
+/** Why a game was left out that a script would not be refused for, by the name of the fault. */
+export const GAME_REASONS = /** @type {{Record<string, string>}} */ ({{
+{game_reasons()}}});
 /** What the sentence of a verdict says of the one fault if it loses time alone, and of several that do. */
 export const LOST = [{quoted(one)}, {quoted(several)}];
 /** The stamp of a study all of whose faults lose time alone. */
@@ -128,7 +137,7 @@ export const LATER = [{quoted(as_quick)}, {quoted(longer)}, {quoted(quicker)}];
 /** What the value of the start follows. */
 export const AT_START = {quoted(at_start)};
 /** The start, and a study without a title. */
-export const THE_START = {quoted(words_in(body(source("study_page/src/words.rt"), "add_node_name"))[0])};
+export const THE_START = {quoted(words_in(body(source("study_page/src/node_rows.rt"), "add_node_name"))[0])};
 export const UNTITLED = {quoted(said("study_head/src/head.rt", "title_words"))};
 /** A value: a draw, a mate, and what stands between who mates and in how many moves. */
 export const DRAW = {quoted(words_in(body(values, "add_value"))[0])};

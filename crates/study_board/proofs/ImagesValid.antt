@@ -274,7 +274,8 @@ module _ (s : Symmetry) where
     reaches-turned side Knight a x la lx k = knight_jump-turned s a x la lx
     reaches-turned side Pawn a x la lx k = pawn_captures-turned s (k refl) side a x la lx
 
-    pub bears_on-turned : (m : Man) (x : ℕ) → IsSeated s m → x < 64 → attacks_square (turned_men s xs) (turned_man s m) (turned_square s x) ≡ attacks_square xs m x
+    pub bears_on-turned : (m : Man) (x : ℕ) → IsSeated s m → x < 64 → attacks_square (turned_men s xs) (turned_man s m) (turned_square s x) ≡ attacks_square
+        xs m x
     bears_on-turned m x k lx = rw (turned_apart s m.at x k.on lx, reaches-turned m.side m.kind m.at x k.on lx k.pawn)
 
     pub is_attacked-turned : (side : Side) (x : ℕ) → x < 64

@@ -8,15 +8,15 @@ use Rattle.std.proofs.lemmas.List.Splits.{length-slice_split, slice_split_at, sl
 use Rattle.std.specs.List.{list_all}
 use Rattle.std.specs.Str.{bytes_eq}
 use Rattle.std.specs.Str.Parse.{digits_value}
-use Rattle.study_command.specs.Paths.{is_place, place_told, places_in, is_path, is_path_word}
+use Rattle.study_command.specs.Paths.{is_place, place_parsed, places_in, is_path, is_path_word}
 
 -- a path that is not `root` has places
 pub other_form : (word : List ℕ) → is_path_word word ≡ true → bytes_eq word (codes "root") ≡ false → list_all is_place (places_in word) ≡ true
 unfolding is_path_word is_path
 other_form word h e = rw e at h
 
-pub place_is : (part : List ℕ) → is_place part ≡ true → place_told part ≡ Some (digits_value 10 part)
-unfolding place_told
+pub place_is : (part : List ℕ) → is_place part ≡ true → place_parsed part ≡ Some (digits_value 10 part)
+unfolding place_parsed
 place_is part h = rw h refl
 
 -- the part before the first point, and the rest

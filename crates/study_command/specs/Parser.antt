@@ -28,7 +28,7 @@ use Rattle.study_command.specs.declared.command.Command.{Command}
 use Rattle.study_command.specs.declared.command.Command.TheVariants as command
 use Rattle.study_command.specs.declared.command.SolveDepth.{SolveDepth}
 use Rattle.study_command.specs.declared.command.PathText.{PathText}
-use Rattle.study_command.specs.Paths.{place_told, is_path_word, steps_of}
+use Rattle.study_command.specs.Paths.{place_parsed, is_path_word, steps_of}
 
 -- a command with its arguments read; a class is still a word, since the mode is checked before it
 pub data Asked : Type 0 where
@@ -70,8 +70,8 @@ two_words _ = None
 -- ---- the arguments
 
 -- a text that is not empty
-abbrev pub text_told : List ℕ → Option (List ℕ)
-text_told rest = if length (trimmed rest) == 0 then None else Some (trimmed rest)
+abbrev pub text_parsed : List ℕ → Option (List ℕ)
+text_parsed rest = if length (trimmed rest) == 0 then None else Some (trimmed rest)
 
 -- the places of a path
 abbrev pub path_of : List ℕ → Option (List ℕ)
@@ -83,9 +83,9 @@ path_in None = None
 path_in (Some word) = path_of word
 
 -- `1`, `2` or `3`
-abbrev pub count_told : List ℕ → Option ℕ
-count_told (b ∷ []) = if nat_le 49 b && nat_le b 51 then Some (b - 48) else None
-count_told _ = None
+abbrev pub count_parsed : List ℕ → Option ℕ
+count_parsed (b ∷ []) = if nat_le 49 b && nat_le b 51 then Some (b - 48) else None
+count_parsed _ = None
 
 abbrev pub few_moves : Option ℕ → Option ℕ
 few_moves None = None
@@ -93,10 +93,10 @@ few_moves (Some n) = if nat_le 1 n && nat_le n 127 then Some n else None
 
 -- one to three digits, with a value from 1 to 127
 abbrev pub mate_moves_of : List ℕ → Option ℕ
-mate_moves_of word = few_moves (place_told word)
+mate_moves_of word = few_moves (place_parsed word)
 
-abbrev pub side_told : List ℕ → Option Side
-side_told word = if bytes_eq word (codes "white") then Some White else (if bytes_eq word (codes "black") then Some Black else None)
+abbrev pub side_parsed : List ℕ → Option Side
+side_parsed word = if bytes_eq word (codes "white") then Some White else (if bytes_eq word (codes "black") then Some Black else None)
 
 abbrev pub mate_in : Option ℕ → Option Goal
 mate_in None = None
@@ -115,11 +115,11 @@ aimed _ _ = None
 -- `SIDE GOAL`
 abbrev pub stipulation_of : List (List ℕ) → Option Stipulation
 stipulation_of [] = None
-stipulation_of (side ∷ goal) = aimed (side_told side) (goal_of goal)
+stipulation_of (side ∷ goal) = aimed (side_parsed side) (goal_of goal)
 
 -- the name of a tag that can be set
-abbrev pub tag_told : List ℕ → Option TagName
-tag_told word =
+abbrev pub tag_parsed : List ℕ → Option TagName
+tag_parsed word =
     if bytes_eq word (codes "Event") then Some tag_named.Event
     else (if bytes_eq word (codes "Site") then Some tag_named.Site
     else (if bytes_eq word (codes "Date") then Some tag_named.Date
@@ -159,7 +159,7 @@ solve_at _ _ = None
 
 abbrev pub solve_asked : Option (List ℕ × List ℕ) → Option Asked
 solve_asked None = None
-solve_asked (Some pair) = solve_at (count_told pair.0) (path_of pair.1)
+solve_asked (Some pair) = solve_at (count_parsed pair.0) (path_of pair.1)
 
 -- `tag NAME TEXT`: the name is checked before the text
 abbrev pub tag_named_asked : Option TagName → Option (List ℕ) → Asks
@@ -169,7 +169,7 @@ tag_named_asked (Some name) (Some text) = Ok (Some (tag name text))
 
 abbrev pub tag_asked : List ℕ → List (List ℕ) → Asks
 tag_asked rest [] = Err BadArguments
-tag_asked rest (name ∷ more) = tag_named_asked (tag_told name) (text_told (behind_word rest))
+tag_asked rest (name ∷ more) = tag_named_asked (tag_parsed name) (text_parsed (behind_word rest))
 
 abbrev pub pgn_asked : List (List ℕ) → Option Asked
 pgn_asked [] = Some pgn
@@ -177,7 +177,7 @@ pgn_asked (word ∷ more) = None
 
 -- the command of the first word of a line and the rest
 unfoldable pub word_asked : Keyword → List ℕ → Asks
-word_asked (FromFen word) rest = arguments_needed (with_text (fen_command word) (text_told rest))
+word_asked (FromFen word) rest = arguments_needed (with_text (fen_command word) (text_parsed rest))
 word_asked (Query word) rest = arguments_needed (with_text (node_query word) (path_in (one_word (words rest))))
 word_asked (Node word) rest = arguments_needed (with_text (node_command word) (path_in (one_word (words rest))))
 word_asked (Table word) rest = arguments_needed (with_text (table_command word) (one_word (words rest)))

@@ -10,8 +10,8 @@ abbrev pub is_place : List ℕ → Bool
 is_place part = nat_le 1 (length part) && nat_le (length part) 3 && list_all is_digit part
 
 -- the number that one to three digits spell
-unfoldable pub place_told : List ℕ → Option ℕ
-place_told part = if is_place part then Some (digits_value 10 part) else None
+unfoldable pub place_parsed : List ℕ → Option ℕ
+place_parsed part = if is_place part then Some (digits_value 10 part) else None
 
 -- the parts between points
 abbrev pub places_in : List ℕ → List (List ℕ)

@@ -4,7 +4,7 @@ ghost use Rattle.std.specs.Option.{option_map};
 ghost use Rattle.std.specs.List.{list_all};
 ghost use Rattle.study_text.specs.Words.{words};
 ghost use Rattle.study_marks.specs.Edits.{is_printable};
-ghost use Rattle.study_command.specs.Parser.{ended, trimmed, text_told, one_word, two_words};
+ghost use Rattle.study_command.specs.Parser.{ended, trimmed, text_parsed, one_word, two_words};
 
 use std::str;
 use study_text::{next_word, space_len};
@@ -46,7 +46,7 @@ fn trim(text: &[u8]) -> &[u8]
 #[tactic(auto, using(crate::proofs::Printable::printable_trimmed))]
 pub fn read_text(rest: &[u8]) -> Option<&str>
     requires { list_all is_printable rest.now ≡ true }
-    ensures { option_map (λ text. text.now) result ≡ text_told rest.now }
+    ensures { option_map (λ text. text.now) result ≡ text_parsed rest.now }
 {
     let text = trim(rest);
     if text.is_empty() {

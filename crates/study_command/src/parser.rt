@@ -4,8 +4,8 @@ ghost use Rattle.std.specs.Option.{option_map};
 ghost use Rattle.std.specs.List.{list_all};
 ghost use Rattle.study_text.specs.Words.{words};
 ghost use Rattle.study_marks.specs.Edits.{is_printable};
-ghost use Rattle.study_command.specs.Parser.{count_told, mate_moves_of, side_told, goal_of};
-ghost use Rattle.study_command.specs.Parser.{stipulation_of, tag_told, insert_asked, solve_asked, pgn_asked};
+ghost use Rattle.study_command.specs.Parser.{count_parsed, mate_moves_of, side_parsed, goal_of};
+ghost use Rattle.study_command.specs.Parser.{stipulation_of, tag_parsed, insert_asked, solve_asked, pgn_asked};
 ghost use Rattle.study_command.specs.Parser.{tag_asked, path_in, one_word, two_words, arguments_needed, word_asked, word_of};
 ghost use Rattle.study_command.specs.Parser.{begins_comment, command_of, line_seen, count_seen, path_seen};
 
@@ -190,7 +190,7 @@ fn read_tag(rest: &[u8]) -> Result<Option<Command<'_>>, SyntaxFault>
 }
 
 fn read_tag_name(word: &[u8]) -> Option<TagName>
-    ensures { result ≡ tag_told word.now }
+    ensures { result ≡ tag_parsed word.now }
 {
     if word == b"Event".as_slice() {
         Some(TagName::Event)
@@ -222,7 +222,7 @@ fn read_stipulation(rest: &[u8]) -> Option<Stipulation>
 
 /// `white` or `black`.
 pub fn read_side(word: &[u8]) -> Option<Side>
-    ensures { result ≡ side_told word.now }
+    ensures { result ≡ side_parsed word.now }
 {
     if word == b"white".as_slice() {
         Some(Side::White)
@@ -268,7 +268,7 @@ pub fn read_mate_moves(word: &[u8]) -> Option<MateMoves>
 
 /// One byte, `1`, `2` or `3`.
 fn read_count(word: &[u8]) -> Option<SolveDepth>
-    ensures { option_map count_seen result ≡ count_told word.now }
+    ensures { option_map count_seen result ≡ count_parsed word.now }
 {
     match word {
         [digit @ b'1'..=b'3'] => Some(SolveDepth {

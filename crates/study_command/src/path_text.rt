@@ -3,7 +3,7 @@ ghost use Rattle.std.specs.Prelude.{◌≡◌};
 ghost use Rattle.std.specs.Option.{option_map};
 ghost use Rattle.std.specs.List.{list_all};
 ghost use Rattle.study_notation.specs.Fen.{is_digit};
-ghost use Rattle.study_command.specs.Paths.{is_place, place_told, is_path, is_path_word};
+ghost use Rattle.study_command.specs.Paths.{is_place, place_parsed, is_path, is_path_word};
 ghost use Rattle.study_command.specs.Parser.{path_of, path_seen};
 
 use crate::command::PathText;
@@ -50,9 +50,9 @@ fn are_digits(part: &[u8]) -> bool
 }
 
 /// The number that one to three digits spell.
-#[tactic(auto, unfolding(crate::specs::Paths::place_told))]
+#[tactic(auto, unfolding(crate::specs::Paths::place_parsed))]
 pub fn read_place(text: &[u8]) -> Option<u16>
-    ensures value { result ≡ place_told text.now }
+    ensures value { result ≡ place_parsed text.now }
 {
     read_digits(text, 3)
 }

@@ -63,10 +63,10 @@ legal-goes-on p next x old mid new (Ok y) legal e t g = (
 )
 
 -- best play from evaluated moves
-pub play-told : (p next : Position) (x : EvaluatedMove) (told empty mid new : List EvaluatedMove) (o : Option EvaluatedMove)
-    → AreChosen (λ v. true) p (legal_list p) told → o ≡ first_best told → o ≡ Some x → next ≡ after p x.played → empty ≡ []
+pub play-evaluated : (p next : Position) (x : EvaluatedMove) (evaluated empty mid new : List EvaluatedMove) (o : Option EvaluatedMove)
+    → AreChosen (λ v. true) p (legal_list p) evaluated → o ≡ first_best evaluated → o ≡ Some x → next ≡ after p x.played → empty ≡ []
     → mid ≡ empty ++ x ∷ [] → IsPlayed 19 next mid new → IsBestPlay 20 p new
-play-told p next x told empty mid new o all best is n e t g =
+play-evaluated p next x evaluated empty mid new o all best is n e t g =
     let k : IsPlayed 20 p empty new =
-    play-goes-on {T = Unit {0}} {E = Unit {0}} 20 p next x empty mid new (Ok tt) (λ z. absurd (omega (arith, z))) (told, all, sym is ∙ best) n t g in
+    play-goes-on {T = Unit {0}} {E = Unit {0}} 20 p next x empty mid new (Ok tt) (λ z. absurd (omega (arith, z))) (evaluated, all, sym is ∙ best) n t g in
     subst (λ (l : List EvaluatedMove). IsBestPlay 20 p l) (sym (k.2 ∙ ap (λ (u : List EvaluatedMove). u ++ k.0) e)) k.1

@@ -41,8 +41,10 @@ listed a d path k (more m x b r) =
 
 -- ---- solution steps
 
-pub step-on : (a : Aim) (d : ℕ) (path : List ℕ) (k : ℕ) → in_solution a d (path ++ k ∷ []) ≡ (in_solution a d path && (not (hero_moves a (d + length path)) || (k == 0)))
-step-on a d [] k = ap (λ n. (not (hero_moves a n) || (k == 0)) && true) (let z : d ≡ d + 0 = omega arith in z) ∙ and-true (not (hero_moves a (d + 0)) || (k == 0))
+pub step-on : (a : Aim) (d : ℕ) (path : List ℕ) (k : ℕ)
+    → in_solution a d (path ++ k ∷ []) ≡ (in_solution a d path && (not (hero_moves a (d + length path)) || (k == 0)))
+step-on a d [] k = ap (λ n. (not (hero_moves a n) || (k == 0)) && true) (let z : d ≡ d + 0 = omega arith in z)
+    ∙ and-true (not (hero_moves a (d + 0)) || (k == 0))
   where
     and-true : (b : Bool) → (b && true) ≡ b
     and-true true = refl

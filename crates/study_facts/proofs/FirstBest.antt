@@ -100,7 +100,8 @@ go-on law p m ms v y g h b = record {
   there = later-in m ms y.played h.there;
   value = h.value;
   best = λ n w c k. elim (split m ms n c.0 c.1 c.2) [
-    | inl e ↦ subst (λ u. is_better u y.value ≡ false) (one-value law (after p m) v w g (subst (λ (z : Move). IsValueOf (after p z) w) (sym e) k)) (one-way y.value v b)
+    | inl e ↦ subst (λ u. is_better u y.value ≡ false) (one-value law (after p m) v w g (subst (λ (z : Move). IsValueOf (after p z) w) (sym e) k))
+        (one-way y.value v b)
     | inr d ↦ h.best n w d k
   ];
   first = λ n w c k l. elim (split m ms n c.0 c.1 c.2) [

@@ -12,11 +12,10 @@ pub mod Within
 pub mod Asking
 pub mod WrittenOrder
 pub mod TimeCounted
-pub mod ZugzwangTold
+pub mod ZugzwangReported
 pub mod Stands
 pub mod NodesShown
 pub mod TextGrows
 pub mod OneFacts
 pub mod Trails
 pub mod EachAdded
-pub mod PlacesWalked

@@ -1,15 +1,23 @@
 -- The contents of a node.
-use Rattle.std.proofs.Common.{◌≡◌, ◌==◌, ℕ, suc, zero, Bool, true, false, not, ◌&&◌, List, [], ◌∷◌, ◌++◌, refl, sym, ap, ◌∙◌, subst, arith}
+use Rattle.std.proofs.Common.{◌≡◌, ◌==◌, ℕ, suc, zero, Bool, true, false, not, ◌&&◌, List, [], ◌∷◌, ◌++◌, length, refl, sym, ap, ◌∙◌, subst, arith}
 use Rattle.std.proofs.lemmas.List.{append-nil}
 use Rattle.std.proofs.lemmas.Bool.{ne_eqb}
+use Rattle.study_board.specs.Position.{Position}
+use Rattle.study_moves.specs.LegalList.{legal_list}
+use Rattle.study_values.specs.declared.value.Value.{Value}
 use Rattle.study_tree.specs.Forest.{Forest, none, more}
 use Rattle.study_tree.specs.Edits.{node_in, width}
 use Rattle.study_tree.specs.Tree.{Plain, spot_at, twig_spot}
 use Rattle.study_marks.specs.declared.mark.Mark.{Mark}
 use Rattle.study_marks.specs.Bench.{on_move_of}
+use Rattle.study_marks.specs.declared.mark_rules.Aim.{Aim}
 use Rattle.study_marks.specs.FaultSums.{below_at}
+use Rattle.study_marks.specs.Study.{Study}
+use Rattle.study_marks.specs.Goals.{aim_of, hero_moves, holds}
 use Rattle.study_marks.proofs.PathWalks.{spot_last}
-use Rattle.study_facts.specs.Nodes.{parent_path, has_no_idle_move, is_idle, is_leaf, EmptyUnless}
+use Rattle.study_facts.specs.Faults.{in_solution}
+use Rattle.study_facts.specs.Nodes.{parent_path, has_no_idle_move, is_idle, is_leaf, value_at, is_defended, is_open_end, EmptyUnless}
+use Rattle.study_facts.specs.WalkState.{IsNodeAt}
 use Rattle.study_facts.specs.Made.{Grew}
 
 front-last : (xs : List ℕ) (k : ℕ) → parent_path (xs ++ k ∷ []) ≡ xs
@@ -59,6 +67,24 @@ none-narrow (more m l b r) = not-zero (width (more m l b r)) (λ e. absurd (omeg
 -- a node with 0 children has no child
 pub none-counted : {L : Type 0} (f : Forest L) (n : ℕ) → width f ≡ n → (n == 0) ≡ is_leaf f
 none-counted f n e = ap (λ k. k == 0) (sym e) ∙ none-narrow f
+
+module _ (s : Study Mark) (path : List ℕ) (a : Aim) (d : ℕ) (p : Position) (h : IsNodeAt s path a d p) where
+  -- the opponent is to move at a node of the solution that holds
+  pub defended-here : (v : Value) (solution : Bool) → v ≡ value_at s path → solution ≡ in_solution (aim_of s) 0 path
+      → (not (hero_moves a d) && (holds a d v && solution)) ≡ is_defended s path
+  defended-here v solution e so =
+      ap (λ (x : Aim). not (hero_moves x d) && (holds x d v && solution)) h.aim
+      ∙ ap (λ n. not (hero_moves (aim_of s) n) && (holds (aim_of s) n v && solution)) h.depth
+      ∙ ap (λ (w : Value). not (hero_moves (aim_of s) (length path)) && (holds (aim_of s) (length path) w && solution)) e
+      ∙ ap (λ b. not (hero_moves (aim_of s) (length path)) && (holds (aim_of s) (length path) (value_at s path) && b)) so
+
+  -- the tree ends at a node without children, and the game does not where there is a legal move
+  pub open-here : (children n : ℕ) → children ≡ width (below_at s.tree.below path) → n ≡ length (legal_list p)
+      → ((children == 0) && not (n == 0)) ≡ is_open_end s path
+  open-here children n e k =
+      ap (λ b. b && not (n == 0)) (none-counted (below_at s.tree.below path) children (sym e))
+      ∙ ap (λ i. is_leaf (below_at s.tree.below path) && not (i == 0)) k
+      ∙ ap (λ (q : Position). is_leaf (below_at s.tree.below path) && not (length (legal_list q) == 0)) h.position
 
 -- lines if the test is true, and no lines if it is not
 pub not-there : (b : Bool) (Lines : List ℕ → Type 0) (text : List ℕ) → b ≡ false → Grew (EmptyUnless b Lines) text text

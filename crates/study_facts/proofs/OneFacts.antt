@@ -27,7 +27,7 @@ use Rattle.study_facts.specs.declared.time_loss.Alternative.{Alternative}
 use Rattle.study_facts.specs.declared.missing_defences.Defence.{Defence}
 use Rattle.study_facts.specs.Continuations.{wanted_moves, moves_except, AreChosen}
 use Rattle.study_facts.specs.Repetition.{IsWasteOfTime}
-use Rattle.study_facts.specs.Time.{IsTimeTold, AreTimed, AreTimedAlternatives}
+use Rattle.study_facts.specs.Time.{IsTimeGiven, AreTimed, AreTimedAlternatives}
 use Rattle.study_facts.specs.Defences.{only_move, AreAnswered, AreDefences}
 use Rattle.study_facts.specs.Best.{first_best, IsBestMove, IsBestPlay}
 use Rattle.study_facts.specs.Line.{line_to, moves_of}
@@ -36,7 +36,7 @@ use Rattle.study_facts.specs.Nodes.{parent_path, EmptyUnless, is_dual, is_try, i
 use Rattle.study_facts.specs.Nodes.{AreAlso, AlsoLines, RefutedLines, MissingLines, IsPlay, IsEnd, EndLines, NodeLines, IsFaultOf, FaultLines}
 use Rattle.study_facts.specs.Order.{written_order, LinesOfEach, SumOfEach, AreTimeFaults}
 use Rattle.study_facts.specs.Zugzwang.{zugzwang_line, ZugzwangLines}
-use Rattle.study_facts.proofs.ZugzwangTold.{one-kind}
+use Rattle.study_facts.proofs.ZugzwangReported.{one-kind}
 use Rattle.study_facts.specs.TimeFaults.{CountWhere, IsTimeFaultOf, IsTimeFault, all_lose_time}
 
 pub one-chosen : EachHasAtMostOneValue → (wanted : Value → Bool) (p : Position) (ms : List Move) (l k : List EvaluatedMove)
@@ -52,10 +52,10 @@ one-least line q None (Some n) h j = absurd (h n j.0 j.1)
 one-least line q (Some m) None h j = absurd (j m h.0 h.1)
 one-least line q (Some m) (Some n) h j = ap Some (one-order m n (λ lt. j.2 m lt h.1) (λ lt. h.2 n lt j.1))
 
-one-told : (g : Goal) (line : List Position) (q : Position) (t u : Option ℕ) → IsTimeTold g line q t → IsTimeTold g line q u → t ≡ u
-one-told goals.Win line q t u h j = one-least line q t u h j
-one-told goals.Draw line q t u h j = h ∙ sym j
-one-told (goals.MateIn k) line q t u h j = h ∙ sym j
+one-evaluated : (g : Goal) (line : List Position) (q : Position) (t u : Option ℕ) → IsTimeGiven g line q t → IsTimeGiven g line q u → t ≡ u
+one-evaluated goals.Win line q t u h j = one-least line q t u h j
+one-evaluated goals.Draw line q t u h j = h ∙ sym j
+one-evaluated (goals.MateIn k) line q t u h j = h ∙ sym j
 
 alternative-is : (x y : Alternative) → x.played ≡ y.played → x.value ≡ y.value → x.time ≡ y.time → x ≡ y
 alternative-is x y em ev et =
@@ -70,7 +70,7 @@ one-timed g line p [] (y ∷ ys) zs h j = absurd h
 one-timed g line p (x ∷ xs) [] zs h j = absurd h
 one-timed g line p (x ∷ xs) (y ∷ ys) [] h j = absurd j
 one-timed g line p (x ∷ xs) (y ∷ ys) (z ∷ zs) h j =
-    ap (λ a. a ∷ ys) (alternative-is y z (h.0 ∙ sym j.0) (h.1 ∙ sym j.1) (one-told g line (after p x.played) y.time z.time h.2 j.2))
+    ap (λ a. a ∷ ys) (alternative-is y z (h.0 ∙ sym j.0) (h.1 ∙ sym j.1) (one-evaluated g line (after p x.played) y.time z.time h.2 j.2))
     ∙ ap (λ l. z ∷ l) (one-timed g line p xs ys zs h.3 j.3)
 
 pub one-alternatives : EachHasAtMostOneValue → (a : Aim) (d : ℕ) (line : List Position) (p : Position) (m : Move) (ys zs : List Alternative)
@@ -138,7 +138,8 @@ module _ (law : EachHasAtMostOneValue) (s : Study Mark) (path : List ℕ) where
   one-also : (m : Move) → One (AreAlso s path m)
   one-also m t u h j =
       h.2 ∙ ap (flat_map (also_line path (position_at s (parent_path path))))
-      (one-alternatives law (aim_of s) (length (parent_path path)) (line_to s (parent_path path)) (position_at s (parent_path path)) m h.0 j.0 h.1 j.1) ∙ sym j.2
+      (one-alternatives law (aim_of s) (length (parent_path path)) (line_to s (parent_path path)) (position_at s (parent_path path)) m h.0 j.0 h.1 j.1)
+      ∙ sym j.2
 
   also-once : One (AlsoLines s path)
   also-once = one-where (is_dual (mark_at s path)) _ (one-match (played_by (spot_at s.tree path)) (AreAlso s path) one-also)
@@ -177,7 +178,8 @@ module _ (law : EachHasAtMostOneValue) (s : Study Mark) (path : List ℕ) where
   fault-once m None t u h j = h ∙ sym j
   fault-once m (Some (Dual k)) t u h j =
       h.2 ∙ ap (λ l. dual_line path (position_at s (parent_path path)) m (value_at s path) k (times_lost l))
-      (one-alternatives law (aim_of s) (length (parent_path path)) (line_to s (parent_path path)) (position_at s (parent_path path)) m h.0 j.0 h.1 j.1) ∙ sym j.2
+      (one-alternatives law (aim_of s) (length (parent_path path)) (line_to s (parent_path path)) (position_at s (parent_path path)) m h.0 j.0 h.1 j.1)
+      ∙ sym j.2
   fault-once m (Some Mistake) t u h j = h ∙ sym j
   fault-once m (Some Only) t u h j = h ∙ sym j
   fault-once m (Some Idle) t u h j = h ∙ sym j
@@ -211,7 +213,8 @@ module _ (law : EachHasAtMostOneValue) (s : Study Mark) (path : List ℕ) where
   time-fault-once x None m n h j = h ∙ sym j
   time-fault-once x (Some (Dual k)) m n h j =
       h.2 ∙ ap (λ l. if all_lose_time l then 1 else 0)
-      (one-alternatives law (aim_of s) (length (parent_path path)) (line_to s (parent_path path)) (position_at s (parent_path path)) x h.0 j.0 h.1 j.1) ∙ sym j.2
+      (one-alternatives law (aim_of s) (length (parent_path path)) (line_to s (parent_path path)) (position_at s (parent_path path)) x h.0 j.0 h.1 j.1)
+      ∙ sym j.2
   time-fault-once x (Some Mistake) m n h j = h ∙ sym j
   time-fault-once x (Some Only) m n h j = h ∙ sym j
   time-fault-once x (Some Idle) m n h j = h ∙ sym j

@@ -21,10 +21,10 @@ use Rattle.study_marks.proofs.PathWalks.{spot_last, width_some}
 use Rattle.study_facts.specs.declared.walk_state.WalkState.{WalkState}
 use Rattle.study_facts.specs.declared.walk_state.MoveToNode.{MoveToNode}
 use Rattle.study_facts.specs.Faults.{in_solution}
-use Rattle.study_facts.specs.Line.{line_to, IsMadeIn}
-use Rattle.study_facts.specs.declared.line.MoveContext.{MoveContext}
-use Rattle.study_facts.specs.Nodes.{parent_path, has_no_idle_move, is_idle, is_mistake, is_try, is_solution_move, is_hero_move, mark_at, value_at, value_of_spot}
-use Rattle.study_facts.specs.WalkState.{arrival_by, arrival_of, IsStand, IsNodeAt}
+use Rattle.study_facts.specs.Line.{line_to}
+use Rattle.study_facts.specs.Nodes.{parent_path, has_no_idle_move, is_idle, is_mistake, is_try, is_solution_move, is_hero_move, mark_at, value_at}
+use Rattle.study_facts.specs.Nodes.{value_of_spot}
+use Rattle.study_facts.specs.WalkState.{arrival_by, arrival_of, IsStateAt, IsNodeAt}
 use Rattle.study_facts.proofs.FaultsListed.{step-on}
 use Rattle.study_facts.proofs.Lines.{line-last}
 use Rattle.study_facts.proofs.NodesShown.{front-is, idle-last}
@@ -75,15 +75,15 @@ module _ (s : Study Mark) (steps : List ℕ) (by : MoveToNode) (e : arrival_of (
   arrival-there = there-spot s.tree steps shown.spot shown.is
 
   module _ (front : List ℕ) (k : ℕ) (path : steps ≡ front ++ k ∷ []) (h : IsPlayable s.start.position s.tree.below) where
-    pub arrival-legal : (before : WalkState) → IsStand s (parent_path steps) before → is_legal before.position by.played ≡ true
+    pub arrival-legal : (before : WalkState) → IsStateAt s (parent_path steps) before → is_legal before.position by.played ≡ true
     arrival-legal before b =
         legal-last s.start.position before.position s.tree steps front k by.played path arrival-played h
         (b.position ∙ ap (position_at s) (sym (front-is steps front k path)))
 
-    pub stand-after : (before here : WalkState) → IsStand s (parent_path steps) before → here.position ≡ after before.position by.played
+    pub stand-after : (before here : WalkState) → IsStateAt s (parent_path steps) before → here.position ≡ after before.position by.played
         → here.children ≡ by.children
         → here.solution ≡ (before.solution && (not (hero_moves (aim_of s) (length front)) || (k == 0)))
-        → here.quiet ≡ (before.quiet && not (is_idle by.mark.on_move)) → IsStand s steps here
+        → here.quiet ≡ (before.quiet && not (is_idle by.mark.on_move)) → IsStateAt s steps here
     stand-after before here b p c so q =
         let same = sym (front-is steps front k path) in
         let at = b.position ∙ ap (position_at s) same in
@@ -92,14 +92,15 @@ module _ (s : Study Mark) (steps : List ℕ) (by : MoveToNode) (e : arrival_of (
           position = p ∙ position-last s.start.position before.position s.tree steps front k by.played path arrival-played h at;
           children = c ∙ arrival-children;
           solution = so ∙ ap (λ b. b && turn) (b.solution ∙ ap (in_solution (aim_of s) 0) same)
-              ∙ ap (λ n. in_solution (aim_of s) 0 front && (not (hero_moves (aim_of s) n) || (k == 0))) (let z : length front ≡ 0 + length front = omega arith in z)
+              ∙ ap (λ n. in_solution (aim_of s) 0 front && (not (hero_moves (aim_of s) n) || (k == 0)))
+              (let z : length front ≡ 0 + length front = omega arith in z)
               ∙ sym (step-on (aim_of s) 0 front k) ∙ ap (in_solution (aim_of s) 0) (sym path);
           quiet = q ∙ ap (λ b. b && not (is_idle by.mark.on_move)) (b.quiet ∙ ap (has_no_idle_move s.tree.below) same)
               ∙ ap (λ (o : Option MoveMark). has_no_idle_move s.tree.below front && not (is_idle o)) arrival-mark
               ∙ sym (idle-last s.tree steps front k path);
         }
 
-    pub line-after : (before here : WalkState) (mid new : List Position) → IsStand s (parent_path steps) before → IsStand s steps here
+    pub line-after : (before here : WalkState) (mid new : List Position) → IsStateAt s (parent_path steps) before → IsStateAt s steps here
         → mid ≡ line_to s (parent_path steps) → new ≡ mid ++ here.position ∷ [] → new ≡ line_to s steps
     line-after before here mid new b st m n =
         let same = sym (front-is steps front k path) in
@@ -108,7 +109,7 @@ module _ (s : Study Mark) (steps : List ℕ) (by : MoveToNode) (e : arrival_of (
         (st.position ∙ sym (position-last s.start.position before.position s.tree steps front k by.played path arrival-played h at))
         (m ∙ ap (line_to s) same) n
 
--- ---- the place of a node
+-- ---- the move to a node
 
 made-by : (a : Aim) (steps front : List ℕ) (k : ℕ) → steps ≡ front ++ k ∷ [] → is_hero_move a steps ≡ hero_moves a (length front)
 made-by a steps front k e = ap (is_hero_move a) e ∙ go front
@@ -136,7 +137,7 @@ module _ (s : Study Mark) (steps : List ℕ) (some : 0 < length steps) where
   front-same : last.front ≡ parent_path steps
   front-same = front-is steps last.front last.place last.is
 
-  pub front-length : length (parent_path steps) + 1 ≡ length steps
+  front-length : length (parent_path steps) + 1 ≡ length steps
   front-length =
       let n = length-append last.front (last.place ∷ []) in
       let same = ap length front-same in
@@ -147,48 +148,28 @@ module _ (s : Study Mark) (steps : List ℕ) (some : 0 < length steps) where
       made-by a steps last.front last.place last.is
       ∙ ap (hero_moves a) (let z : length last.front ≡ d = omega (arith, front-length, ap length front-same, e) in z)
 
-  pub solution-move : (a : Aim) (d : ℕ) (here : WalkState) → a ≡ aim_of s → d + 1 ≡ length steps → IsStand s steps here
+  pub solution-move : (a : Aim) (d : ℕ) (here : WalkState) → a ≡ aim_of s → d + 1 ≡ length steps → IsStateAt s steps here
       → (hero_moves a d && here.solution) ≡ is_solution_move s steps
   solution-move a d here e n h =
       ap (λ (x : Aim). hero_moves x d && here.solution) e
       ∙ ap (λ b. b && here.solution) (sym (made-last (aim_of s) d n)) ∙ ap (λ b. is_hero_move (aim_of s) steps && b) h.solution
 
   pub tried-move : (a : Aim) (d : ℕ) (mark : Option MoveMark) (before : WalkState) → a ≡ aim_of s → d + 1 ≡ length steps
-      → mark ≡ mark_at s steps → IsStand s (parent_path steps) before
+      → mark ≡ mark_at s steps → IsStateAt s (parent_path steps) before
       → (hero_moves a d && (is_mistake mark || (is_idle mark && (before.solution && before.quiet)))) ≡ is_try s steps
   tried-move a d mark before e n m b =
       ap (λ (x : Aim). hero_moves x d && (is_mistake mark || (is_idle mark && (before.solution && before.quiet)))) e
       ∙ ap (λ c. c && (is_mistake mark || (is_idle mark && (before.solution && before.quiet)))) (sym (made-last (aim_of s) d n))
       ∙ ap (λ (o : Option MoveMark). is_hero_move (aim_of s) steps && (is_mistake o || (is_idle o && (before.solution && before.quiet)))) m
       ∙ ap (λ c. is_hero_move (aim_of s) steps && (is_mistake (mark_at s steps) || (is_idle (mark_at s steps) && (c && before.quiet)))) b.solution
-      ∙ ap (λ c. is_hero_move (aim_of s) steps && (is_mistake (mark_at s steps) || (is_idle (mark_at s steps) && (in_solution (aim_of s) 0 (parent_path steps) && c)))) b.quiet
+      ∙ ap (λ c. is_hero_move (aim_of s) steps &&
+      (is_mistake (mark_at s steps) || (is_idle (mark_at s steps) && (in_solution (aim_of s) 0 (parent_path steps) && c)))) b.quiet
 
   pub legal-before : (by : MoveToNode) → arrival_of (spot_at s.tree steps) ≡ Some by → IsPlayable s.start.position s.tree.below → (before : WalkState)
-      → IsStand s (parent_path steps) before → is_legal before.position by.played ≡ true
+      → IsStateAt s (parent_path steps) before → is_legal before.position by.played ≡ true
   legal-before by e h before b = arrival-legal s steps by e last.front last.place last.is h before b
 
-  -- the move to the node, made from the place of the node before it
-  pub made-here : (x : MoveContext) → played_by (spot_at s.tree steps) ≡ Some x.played → x.before.aim ≡ aim_of s → x.before.depth + 1 ≡ length steps
-      → x.before.position ≡ position_at s (parent_path steps) → x.before.line.items ≡ line_to s (parent_path steps) → IsMadeIn s steps x
-  made-here x m a d p l = record {
-    front = last.front;
-    place = last.place;
-    path = last.is;
-    played = m;
-    before = record {
-      aim = a;
-      depth = (let e = ap length front-same in let z : x.before.depth ≡ length last.front = omega (arith, d, front-length, e) in z);
-      position = p ∙ ap (position_at s) (sym front-same);
-      line = l ∙ ap (line_to s) (sym front-same);
-    };
-  }
-
-  pub line-here : (by : MoveToNode) → arrival_of (spot_at s.tree steps) ≡ Some by → IsPlayable s.start.position s.tree.below
-      → (before here : WalkState) (mid new : List Position) → IsStand s (parent_path steps) before → IsStand s steps here
-      → mid ≡ line_to s (parent_path steps) → new ≡ mid ++ here.position ∷ [] → new ≡ line_to s steps
-  line-here by e h before here mid new b st m n = line-after s steps by e last.front last.place last.is h before here mid new b st m n
-
-  pub node-before : (a : Aim) (d : ℕ) (before : WalkState) → a ≡ aim_of s → d + 1 ≡ length steps → IsStand s (parent_path steps) before
+  pub node-before : (a : Aim) (d : ℕ) (before : WalkState) → a ≡ aim_of s → d + 1 ≡ length steps → IsStateAt s (parent_path steps) before
       → IsNodeAt s (parent_path steps) a d before.position
   node-before a d before e n b = record {
     aim = e;

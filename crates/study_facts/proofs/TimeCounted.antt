@@ -170,7 +170,8 @@ module _ (s : Study Mark) where
 
   pub time-unplayed : (path : List ℕ) (n : ℕ) → played_by (spot_at s.tree path) ≡ None → Rose (IsTimeFault s path) n n
   time-unplayed path n e =
-      stays path n (time-where path (subst (λ (o : Option Move). MatchOption o (◌≡◌ {A = ℕ} 0 0) (λ m. IsTimeFaultOf s path m (mark_at s path) 0)) (sym e) refl))
+      stays path n (time-where path (subst (λ (o : Option Move). MatchOption o (◌≡◌ {A = ℕ} 0 0) (λ m. IsTimeFaultOf s path m (mark_at s path) 0)) (sym e)
+      refl))
 
   -- no move leads to the root
   pub root-time : (n : ℕ) → Rose (IsTimeFault s []) n n

@@ -6,7 +6,7 @@ use Rattle.study_marks.specs.Study.{Study}
 use Rattle.study_facts.specs.declared.walk_state.WalkState.{WalkState}
 use Rattle.study_facts.specs.Nodes.{parent_path}
 use Rattle.study_facts.specs.Walk.{IsAt}
-use Rattle.study_facts.specs.WalkState.{IsStand}
+use Rattle.study_facts.specs.WalkState.{IsStateAt}
 use Rattle.study_facts.proofs.NodesShown.{front-is}
 
 abbrev last_or : {X : Type 0} → X → List X → X
@@ -33,13 +33,14 @@ module _ (s : Study Mark) (path : List ℕ) (states : List WalkState) (here : Is
       let same = ap length here.1.2 in omega (arith, n, same)
 
   module _ (x : WalkState) (last : (front : List WalkState) × (states ≡ front ++ x ∷ [])) where
-    pub at-last : IsStand s path x
-    at-last = subst (IsStand s path) (last-same here.0 last.0 here.1.0 x (sym here.1.2 ∙ last.1)) here.1.1
+    pub at-last : IsStateAt s path x
+    at-last = subst (IsStateAt s path) (last-same here.0 last.0 here.1.0 x (sym here.1.2 ∙ last.1)) here.1.1
 
     -- the walk state before the last move of a path
-    pub at-front : (steps : List ℕ) (k : ℕ) → steps ≡ path ++ k ∷ [] → IsStand s (parent_path steps) x
-    at-front steps k e = subst (λ (u : List ℕ). IsStand s u x) (front-is steps path k e) at-last
+    pub at-front : (steps : List ℕ) (k : ℕ) → steps ≡ path ++ k ∷ [] → IsStateAt s (parent_path steps) x
+    at-front steps k e = subst (λ (u : List ℕ). IsStateAt s u x) (front-is steps path k e) at-last
 
 -- the walk begins at the root
-pub root-state : (s : Study Mark) (path : List ℕ) (states : List WalkState) (x : WalkState) → path ≡ [] → states ≡ x ∷ [] → IsStand s [] x → IsAt s path states
-root-state s path states x none one is = ([], (x, subst (λ (u : List ℕ). IsStand s u x) (sym none) is, one))
+pub root-state : (s : Study Mark) (path : List ℕ) (states : List WalkState) (x : WalkState) → path ≡ [] → states ≡ x ∷ [] → IsStateAt s [] x
+    → IsAt s path states
+root-state s path states x none one is = ([], (x, subst (λ (u : List ℕ). IsStateAt s u x) (sym none) is, one))

@@ -18,15 +18,15 @@ use Rattle.study_values.specs.declared.value.Value.{Value}
 use Rattle.study_values.specs.Values.{ProbeAnswer, ValueSource}
 use Rattle.study_values.specs.declared.values.ProbeFault.{ProbeFault}
 use Rattle.study_values.specs.declared.values.ProbeFault.TheVariants as probe
-use Rattle.study_marks.specs.Answers.{Answers, WereTold, IsFirstFault}
+use Rattle.study_marks.specs.Answers.{Answers, WereEvaluated, IsFirstFault}
 use Rattle.study_marks.specs.Queries.{IsFirstMissing}
 use Rattle.study_marks.specs.Evaluated.{IsProbeFaultOf}
 use Rattle.study_marks.specs.Study.{Study, IsPlayable, moves_to, position_after, position_at}
-use Rattle.study_facts.specs.Asked.{IsReached, IsWithinNeeds, within, HasProbed, AllTold, Stopped}
+use Rattle.study_facts.specs.Asked.{IsReached, IsWithinNeeds, within, HasProbed, AllEvaluated, Stopped}
 use Rattle.study_facts.specs.Continuations.{contains_move, moves_except}
 use Rattle.study_facts.specs.Made.{HasAsked}
 use Rattle.study_facts.specs.declared.fault.TextFault.{TextFault}
-use Rattle.study_facts.specs.declared.fault.TextFault.TheVariants.{OutOfMemory, Untold}
+use Rattle.study_facts.specs.declared.fault.TextFault.TheVariants.{OutOfMemory, NoValue}
 use Rattle.study_facts.proofs.Chosen.{all-first, all-rest}
 use Rattle.study_facts.proofs.LegalMoves.{legal-listed}
 
@@ -107,15 +107,17 @@ pub each-other : (p : Position) (there : List Move) → EachReached p (map (afte
 each-other p there =
     each-after p (moves_except there p) (All-filter (λ m. not (contains_move m there)) (λ m. is_legal p m ≡ true) (legal_list p) (legal-listed p))
 
-missing-needed : (p : Position) (held : Class → Bool) (qs : List Position) (c : Class) → EachReached p qs → IsValid p → IsFirstMissing held qs c → NeedsClass p c
+missing-needed : (p : Position) (held : Class → Bool) (qs : List Position) (c : Class) → EachReached p qs → IsValid p → IsFirstMissing held qs c
+    → NeedsClass p c
 missing-needed p held [] c h v x = absurd x
 missing-needed p held (q ∷ qs) c h v (inl x) = h.0 v c x.0
 missing-needed p held (q ∷ qs) c h v (inr x) = missing-needed p held qs c h.1 v x.1
 
-untold-needed : (p : Position) (held : Class → Bool) (qs : List Position) (f : ProbeFault) → EachReached p qs → IsProbeFaultOf held qs f → IsWithinNeeds p (Err f)
-untold-needed p held qs f h untold v c e =
+no_value-needed : (p : Position) (held : Class → Bool) (qs : List Position) (f : ProbeFault) → EachReached p qs → IsProbeFaultOf held qs f
+    → IsWithinNeeds p (Err f)
+no_value-needed p held qs f h no_value v c e =
     let same : f ≡ probe.NoTable c = cc in
-    missing-needed p held qs c h v (subst (λ (x : ProbeFault). IsProbeFaultOf held qs x) same untold)
+    missing-needed p held qs c h v (subst (λ (x : ProbeFault). IsProbeFaultOf held qs x) same no_value)
 
 -- ---- answers
 
@@ -149,10 +151,10 @@ module _ {V : Type 0} (source : ValueSource V) where
     fails_as_before = h.fails_as_before;
   }
 
-  told-more : (G H : V → Position → ProbeAnswer → Type 0) → ((v : V) (p : Position) (a : ProbeAnswer) → G v p a → H v p a)
-      → (old new : V) (qs : List Position) → WereTold (giving G) old qs new → WereTold (giving H) old qs new
-  told-more G H f old new [] h = h
-  told-more G H f old new (q ∷ qs) (v, mid, a, h) = (v, mid, answers-more G H old q (Ok v) mid (f old q (Ok v)) a, told-more G H f mid new qs h)
+  evaluated-more : (G H : V → Position → ProbeAnswer → Type 0) → ((v : V) (p : Position) (a : ProbeAnswer) → G v p a → H v p a)
+      → (old new : V) (qs : List Position) → WereEvaluated (giving G) old qs new → WereEvaluated (giving H) old qs new
+  evaluated-more G H f old new [] h = h
+  evaluated-more G H f old new (q ∷ qs) (v, mid, a, h) = (v, mid, answers-more G H old q (Ok v) mid (f old q (Ok v)) a, evaluated-more G H f mid new qs h)
 
   fault-more : (G H : V → Position → ProbeAnswer → Type 0) → ((v : V) (p : Position) (a : ProbeAnswer) → G v p a → H v p a)
       → (old new : V) (qs : List Position) (e : ProbeFault) → IsFirstFault (giving G) old qs e new → IsFirstFault (giving H) old qs e new
@@ -162,13 +164,13 @@ module _ {V : Type 0} (source : ValueSource V) where
       inr (v, mid, answers-more G H old q (Ok v) mid (f old q (Ok v)) a, fault-more G H f mid new qs e h)
 
   module _ (p : Position) where
-    told-each : (old new : V) (qs : List Position) → EachReached p qs → WereTold source old qs new → WereTold (within p source) old qs new
-    told-each old new [] r h = h
-    told-each old new (q ∷ qs) r (v, mid, a, h) = (
+    evaluated-each : (old new : V) (qs : List Position) → EachReached p qs → WereEvaluated source old qs new → WereEvaluated (within p source) old qs new
+    evaluated-each old new [] r h = h
+    evaluated-each old new (q ∷ qs) r (v, mid, a, h) = (
       v,
       mid,
       answers-more source.gives (within p source).gives old q (Ok v) mid (λ g. (g, r.0, value-within p v)) a,
-      told-each mid new qs r.1 h,
+      evaluated-each mid new qs r.1 h,
     )
 
     fault-each : (old new : V) (qs : List Position) (e : ProbeFault) → EachReached p qs → IsWithinNeeds p (Err e) → IsFirstFault source old qs e new
@@ -183,19 +185,19 @@ module _ {V : Type 0} (source : ValueSource V) where
     )
 
     -- these positions were probed, and the position leads to each
-    pub some-told : (old new : V) (qs : List Position) → EachReached p qs → WereTold source old qs new
-        → (asked : List Position) × WereTold (within p source) old asked new
-    some-told old new qs r h = (qs, told-each old new qs r h)
+    pub some-evaluated : (old new : V) (qs : List Position) → EachReached p qs → WereEvaluated source old qs new
+        → (asked : List Position) × WereEvaluated (within p source) old asked new
+    some-evaluated old new qs r h = (qs, evaluated-each old new qs r h)
 
     pub some-fault : (held : Class → Bool) (old new : V) (qs : List Position) (e : ProbeFault) → EachReached p qs → IsProbeFaultOf held qs e
         → IsFirstFault source old qs e new → (asked : List Position) × IsFirstFault (within p source) old asked e new
-    some-fault held old new qs e r n h = (qs, fault-each old new qs e r (untold-needed p held qs e r n) h)
+    some-fault held old new qs e r n h = (qs, fault-each old new qs e r (no_value-needed p held qs e r n) h)
 
     -- the same for a position that leads to it
     module _ (q : Position) (lead : LeadsTo p q) where
-      pub told-wider : (old new : V) → ((asked : List Position) × WereTold (within q source) old asked new)
-          → (asked : List Position) × WereTold (within p source) old asked new
-      told-wider old new h = (h.0, told-more (within q source).gives (within p source).gives (wider p q lead) old new h.0 h.1)
+      pub evaluated-wider : (old new : V) → ((asked : List Position) × WereEvaluated (within q source) old asked new)
+          → (asked : List Position) × WereEvaluated (within p source) old asked new
+      evaluated-wider old new h = (h.0, evaluated-more (within q source).gives (within p source).gives (wider p q lead) old new h.0 h.1)
 
       pub fault-wider : (old new : V) (e : ProbeFault) → ((asked : List Position) × IsFirstFault (within q source) old asked e new)
           → (asked : List Position) × IsFirstFault (within p source) old asked e new
@@ -203,16 +205,16 @@ module _ {V : Type 0} (source : ValueSource V) where
 
       pub has-wider : {T : Type 0} (old new : V) (r : Result T ProbeFault) → HasProbed (within q source) old r new
           → HasProbed (within p source) old r new
-      has-wider old new (Ok x) h = told-wider old new h
+      has-wider old new (Ok x) h = evaluated-wider old new h
       has-wider old new (Err e) h = fault-wider old new e h
 
-      pub all-wider : (old new : V) → AllTold (within q source) old new → AllTold (within p source) old new
-      all-wider old new h = record { told = told-wider old new h.told; failures = h.failures; honest = h.honest; tables = h.tables }
+      pub all-wider : (old new : V) → AllEvaluated (within q source) old new → AllEvaluated (within p source) old new
+      all-wider old new h = record { evaluated = evaluated-wider old new h.evaluated; failures = h.failures; honest = h.honest; tables = h.tables }
 
       pub stops-wider : (old new : V) (f : ProbeFault) → Stopped (within q source) old f new → Stopped (within p source) old f new
       stops-wider old new f h = record {
-        told = fault-wider old new f h.told;
-        untold = h.untold;
+        evaluated = fault-wider old new f h.evaluated;
+        no_value = h.no_value;
         no_damage = h.no_damage;
         failures = h.failures;
         honest = h.honest;
@@ -223,7 +225,7 @@ module _ {V : Type 0} (source : ValueSource V) where
           → HasAsked (within p source) {T = T} old r new
       asks-wider old new (Ok x) h = all-wider old new h
       asks-wider old new (Err OutOfMemory) h = all-wider old new h
-      asks-wider old new (Err (Untold f)) h = stops-wider old new f h
+      asks-wider old new (Err (NoValue f)) h = stops-wider old new f h
 
 -- ---- the meaning of the fault
 

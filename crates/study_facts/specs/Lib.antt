@@ -16,3 +16,4 @@ pub mod Made
 pub mod WalkState
 pub mod Order
 pub mod Walk
+pub mod StudyNode

@@ -6,7 +6,7 @@ use Rattle.study_marks.specs.declared.mark.Mark.{Mark}
 use Rattle.study_marks.specs.Study.{Study}
 use Rattle.study_facts.specs.declared.fault.ReviewFault.{ReviewFault}
 use Rattle.study_facts.specs.declared.fault.ReviewFault.TheVariants.{OutOfMemory, Device, Values}
-use Rattle.study_facts.specs.Asked.{AllTold, Stopped}
+use Rattle.study_facts.specs.Asked.{AllEvaluated, Stopped}
 use Rattle.study_facts.specs.Nodes.{is_leaf}
 use Rattle.study_facts.specs.TimeFaults.{IsTimeFault}
 
@@ -46,7 +46,7 @@ AreTimeFaults s n = SumOfEach (IsTimeFault s) (written_order s) n
 module _ {V : Type 0} (source : ValueSource V) where
   -- each value was read, unless the call was refused for the first that could not be read
   abbrev pub HasReviewed : {T : Type 0} → V → Result T ReviewFault → V → Type 0
-  HasReviewed old (Ok x) new = AllTold source old new
-  HasReviewed old (Err OutOfMemory) new = AllTold source old new
-  HasReviewed old (Err Device) new = AllTold source old new
+  HasReviewed old (Ok x) new = AllEvaluated source old new
+  HasReviewed old (Err OutOfMemory) new = AllEvaluated source old new
+  HasReviewed old (Err Device) new = AllEvaluated source old new
   HasReviewed old (Err (Values f)) new = Stopped source old f new

@@ -12,7 +12,7 @@ use Rattle.study_facts.specs.declared.walk_state.WalkState.{WalkState}
 use Rattle.study_facts.specs.declared.walk_state.MoveToNode.{MoveToNode}
 use Rattle.study_facts.specs.Line.{line_to}
 use Rattle.study_facts.specs.Nodes.{parent_path}
-use Rattle.study_facts.specs.WalkState.{arrival_of, IsStand}
+use Rattle.study_facts.specs.WalkState.{arrival_of, IsStateAt}
 
 -- what the nodes at these paths add, one node after the other
 abbrev pub AddsEach : {T : Type 0} → (List ℕ → T → T → Type 0) → List (List ℕ) → T → T → Type 0
@@ -24,13 +24,13 @@ pub record IsWalkStep (s : Study Mark) (path : List ℕ) (a : Aim) (ps : List Po
   pub aim : a ≡ aim_of s
   pub some : 0 < length path
   pub line : ps ≡ line_to s (parent_path path)
-  pub before : IsStand s (parent_path path) x
-  pub here : IsStand s path y
+  pub before : IsStateAt s (parent_path path) x
+  pub here : IsStateAt s path y
   pub by : arrival_of (spot_at s.tree path) ≡ Some m
 
 -- the walk went on to the node at the path: its walk state was added
 abbrev pub WentTo : Study Mark → List ℕ → List WalkState → List WalkState → Type 0
-WentTo s path old new = (x : WalkState) × IsStand s path x × (new ≡ old ++ x ∷ [])
+WentTo s path old new = (x : WalkState) × IsStateAt s path x × (new ≡ old ++ x ∷ [])
 
 -- the walk is at the node at the path: the last of these is its walk state
 abbrev pub IsAt : Study Mark → List ℕ → List WalkState → Type 0

@@ -26,7 +26,7 @@ arrival_of None = None
 arrival_of (Some s) = arrival_by s.played s.label s.children
 
 -- the walk state at the node at the path
-pub record IsStand (s : Study Mark) (path : List ℕ) (x : WalkState) : Type 0 where
+pub record IsStateAt (s : Study Mark) (path : List ℕ) (x : WalkState) : Type 0 where
   pub position : x.position ≡ position_at s path
   pub children : x.children ≡ width (below_at s.tree.below path)
   pub solution : x.solution ≡ in_solution (aim_of s) 0 path

@@ -18,8 +18,8 @@ unfoldable pub front_words : List ℕ → List ℕ → List ℕ
 front_words kind path = kind ++ (path_text path ++ codes " ")
 
 -- a move from p, and the value after it
-unfoldable pub told_move : Position → Move → Value → List ℕ
-told_move p m v = move_text p m ++ (codes " " ++ value_words v)
+unfoldable pub move_and_value : Position → Move → Value → List ℕ
+move_and_value p m v = move_text p m ++ (codes " " ++ value_words v)
 
 -- the time that is lost, if any
 abbrev pub time_words : Option ℕ → List ℕ
@@ -28,11 +28,11 @@ time_words (Some m) = codes " time " ++ decimal m
 
 -- `also 0.0.0 Qg1 loss 4 time 0`
 unfoldable pub also_line : List ℕ → Position → Alternative → List ℕ
-also_line path p x = front_words (codes "also ") path ++ (told_move p x.played x.value ++ (time_words x.time ++ codes "\n"))
+also_line path p x = front_words (codes "also ") path ++ (move_and_value p x.played x.value ++ (time_words x.time ++ codes "\n"))
 
 -- `refuted 0.0.1 Kd8 win 3`
 unfoldable pub refuted_line : List ℕ → Position → EvaluatedMove → List ℕ
-refuted_line path p x = front_words (codes "refuted ") path ++ (told_move p x.played x.value ++ codes "\n")
+refuted_line path p x = front_words (codes "refuted ") path ++ (move_and_value p x.played x.value ++ codes "\n")
 
 unfoldable pub stalemate_line : List ℕ → List ℕ
 stalemate_line path = front_words (codes "refuted ") path ++ codes "stalemate\n"
@@ -51,7 +51,7 @@ answers_words q n only = codes " " ++ (decimal n ++ (only_words q only ++ none_w
 -- `missing 0 Kc6 draw 1 Ke6`
 unfoldable pub missing_line : List ℕ → Position → Defence → List ℕ
 missing_line path p y =
-    front_words (codes "missing ") path ++ (told_move p y.played y.value ++ (answers_words (after p y.played) y.answers y.only ++ codes "\n"))
+    front_words (codes "missing ") path ++ (move_and_value p y.played y.value ++ (answers_words (after p y.played) y.answers y.only ++ codes "\n"))
 
 -- moves played one after the other, each after a space
 abbrev pub play_words : Position → List EvaluatedMove → List ℕ
@@ -80,7 +80,7 @@ times_lost list = count_by (λ x. is_some x.time) list
 unfoldable pub dual_line : List ℕ → Position → Move → Value → ℕ → ℕ → List ℕ
 dual_line path p m v k t =
     front_words (codes "fault ") path
-    ++ (told_move p m v ++ (codes " dual " ++ (decimal k ++ (codes " time " ++ (decimal t ++ codes "\n")))))
+    ++ (move_and_value p m v ++ (codes " dual " ++ (decimal k ++ (codes " time " ++ (decimal t ++ codes "\n")))))
 
 -- `sound but for loss of time` if all faults lose time alone, otherwise the number that do: `unsound 5, 4 lose time alone`
 abbrev pub alone_words : ℕ → List ℕ
@@ -92,4 +92,4 @@ time_verdict faults n =
     else codes "unsound " ++ (decimal faults ++ (codes ", " ++ (decimal n ++ alone_words n)))
 
 unfoldable pub mistake_line : List ℕ → Position → Move → Value → List ℕ
-mistake_line path p m v = front_words (codes "fault ") path ++ (told_move p m v ++ codes " mistake\n")
+mistake_line path p m v = front_words (codes "fault ") path ++ (move_and_value p m v ++ codes " mistake\n")

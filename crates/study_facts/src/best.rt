@@ -3,7 +3,7 @@ ghost use Rattle.std.specs.Prelude.{◌≡◌, ◌+◌, ◌++◌, ◌≤◌, tru
 ghost use Rattle.std.specs.List.{All};
 ghost use Rattle.arrayvec.specs.ArrayVec.{array_vec_len};
 ghost use Rattle.study_values.specs.Values.{IsNotDamage};
-ghost use Rattle.study_marks.specs.Answers.{WereTold, IsFirstFault};
+ghost use Rattle.study_marks.specs.Answers.{WereEvaluated, IsFirstFault};
 ghost use Rattle.study_facts.specs.Asked.{HasProbed, within};
 ghost use Rattle.study_material.specs.declared.class.Class.{Class as AClass};
 ghost use Rattle.study_moves.specs.Rules.{is_legal, after};
@@ -54,10 +54,10 @@ fn best_among<V: Values>(
     requires { All (λ m. is_legal p.now m ≡ true) moves.now }
     ensures game { V.source.is_honest values.old → IfOk result (λ best. (list : List AContinuation)
         × AreChosen (λ v. true) p.now moves.now list × (best ≡ first_best list)) }
-    ensures untold { IfErr result
+    ensures no_value { IfErr result
         (IsProbeFaultOf (V.source.held values.old) (map (after p.now) moves.now)) }
-    ensures told { OnOk result
-        (WereTold V.source values.old (map (after p.now) moves.now) values.new) }
+    ensures evaluated { OnOk result
+        (WereEvaluated V.source values.old (map (after p.now) moves.now) values.new) }
     ensures first { IfErr result (λ f.
         IsFirstFault V.source values.old (map (after p.now) moves.now) f values.new) }
     ensures no_damage { V.source.is_honest values.old → IfErr result IsNotDamage }
@@ -98,10 +98,10 @@ pub fn best_move<V: Values>(
         → IfOk result (λ best. IfSome best (IsFirstBestMove p.now)) }
     ensures none { V.source.is_honest values.old
         → IfOk result (λ best. IfNone best (HasNoMove p.now)) }
-    ensures untold { IfErr result
+    ensures no_value { IfErr result
         (IsProbeFaultOf (V.source.held values.old) (map (after p.now) (legal_list p.now))) }
-    ensures told { OnOk result
-        (WereTold V.source values.old (map (after p.now) (legal_list p.now)) values.new) }
+    ensures evaluated { OnOk result
+        (WereEvaluated V.source values.old (map (after p.now) (legal_list p.now)) values.new) }
     ensures first { IfErr result (λ f.
         IsFirstFault V.source values.old (map (after p.now) (legal_list p.now)) f values.new) }
     ensures no_damage { V.source.is_honest values.old → IfErr result IsNotDamage }
@@ -128,9 +128,9 @@ pub fn play_on<V: Values>(
     requires { array_vec_len list.old + plies ≤ 20 }
     ensures game { V.source.is_honest values.old → OnOk result ((play : List AContinuation)
         × IsBestPlay plies p.now play × (list.new.items ≡ list.old.items ++ play)) }
-    ensures untold { (c : AClass) → IsErrOf result (ProbeFault.NoTable c)
+    ensures no_value { (c : AClass) → IsErrOf result (ProbeFault.NoTable c)
         → V.source.held values.old c ≡ false }
-    ensures told { HasProbed (within p.now V.source) values.old result values.new }
+    ensures evaluated { HasProbed (within p.now V.source) values.old result values.new }
     ensures no_damage { V.source.is_honest values.old → IfErr result IsNotDamage }
     ensures failures { V.source.failed_of values.new
         ≡ failures_of result (V.source.failed_of values.old) }
@@ -161,9 +161,9 @@ pub fn best_play<V: Values>(
 ) -> Result<ArrayVec<EvaluatedMove, 20>, ProbeFault>
     ensures game { V.source.is_honest values.old
         → IfOk result (λ list. IsBestPlay 20 p.now list.items) }
-    ensures untold { (c : AClass) → IsErrOf result (ProbeFault.NoTable c)
+    ensures no_value { (c : AClass) → IsErrOf result (ProbeFault.NoTable c)
         → V.source.held values.old c ≡ false }
-    ensures told { HasProbed (within p.now V.source) values.old result values.new }
+    ensures evaluated { HasProbed (within p.now V.source) values.old result values.new }
     ensures no_damage { V.source.is_honest values.old → IfErr result IsNotDamage }
     ensures failures { V.source.failed_of values.new
         ≡ failures_of result (V.source.failed_of values.old) }

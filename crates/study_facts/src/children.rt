@@ -1,4 +1,4 @@
-//! The moves of a node's children.
+//! The moves of a study: the one to a node, and those of its children.
 ghost use Rattle.std.specs.Prelude.{◌≡◌, ◌≤◌, ◌++◌, ◌∷◌, [], None, length, OnOk, IfOk, MatchOption};
 ghost use Rattle.study_tree.specs.Edits.{children_at, width};
 ghost use Rattle.study_tree.specs.Tree.{spot_at};
@@ -7,11 +7,20 @@ ghost use Rattle.study_marks.specs.FaultSums.{below_at, skipped};
 ghost use Rattle.study_marks.specs.BenchState.{marked};
 ghost use Rattle.study_facts.specs.Line.{moves_of};
 
-use crate::line::move_to;
 use arrayvec::ArrayVec;
 use std::alloc::{AllocError, Allocator};
 use study_marks::Bench;
 use study_moves::Move;
+
+/// The move that led to the node, `None` if there is no such node, or it is the root.
+pub fn move_to<'b, B: Allocator>(bench: &Bench<'b, B>, steps: &[u16]) -> Option<Move>
+    ensures { result ≡ played_by (spot_at (marked bench.now).tree steps.now) }
+{
+    match bench.shown(steps) {
+        None => None,
+        Some(node) => node.played,
+    }
+}
 
 /// The move of the node's child at this place, if there is one.
 fn child_move<'b, B: Allocator>(bench: &Bench<'b, B>, steps: &[u16], place: u16) -> Option<Move>

@@ -12,7 +12,7 @@ pub enum ReviewFault {
     OutOfMemory,
     #[error("the device failed")]
     Device,
-    #[error("a value is not told: {0}")]
+    #[error("a value could not be read: {0}")]
     Values(ProbeFault),
 }
 
@@ -29,7 +29,7 @@ pub enum WriteFault {
 #[derive(Clone, Copy, Debug, PartialEq, Eq)]
 pub enum TextFault {
     OutOfMemory,
-    Untold(ProbeFault),
+    NoValue(ProbeFault),
 }
 
 impl From<DeviceFailed> for ReviewFault {
@@ -74,7 +74,7 @@ impl From<TextFault> for ReviewFault {
     fn from(reason: TextFault) -> ReviewFault {
         match reason {
             TextFault::OutOfMemory => ReviewFault::OutOfMemory,
-            TextFault::Untold(untold) => ReviewFault::Values(untold),
+            TextFault::NoValue(no_value) => ReviewFault::Values(no_value),
         }
     }
 }
@@ -103,11 +103,11 @@ impl<T: Drop> From<AllocFailed<T>> for TextFault {
 
 impl From<ProbeFault> for TextFault {
     ghost use Rattle.std.specs.Prelude.{◌≡◌};
-    ghost use Rattle.study_facts.specs.declared.fault.TextFault.TheVariants.{Untold};
+    ghost use Rattle.study_facts.specs.declared.fault.TextFault.TheVariants.{NoValue};
 
-    ghost from_gives = { λ untold reason. reason ≡ Untold untold };
+    ghost from_gives = { λ no_value reason. reason ≡ NoValue no_value };
 
-    fn from(untold: ProbeFault) -> TextFault {
-        TextFault::Untold(untold)
+    fn from(no_value: ProbeFault) -> TextFault {
+        TextFault::NoValue(no_value)
     }
 }

@@ -1,11 +1,9 @@
 //! Facts of the nodes of a study, by the game's values.
 //!
-//! `node_position_at` finds a node of a study, with its line, `move_context_at` a move and the node before it, `children_in` the moves that the tree has there.
-//! `fill_place` writes one where the caller keeps it, and `position_in` finds a position alone: they take less of the stack.
 //! `holding_moves`, `alternatives`, `refutations` and `missing_moves` list legal moves of a position with the values after them, `timed_alternatives` also
 //! with the time that they lose: `waste_of_time` returns whether a move only loses time. `best_move` and `best_play` return the best play from a position.
-//! `walk_study` walks a study once, in written order, and hands each node to a `Findings`.
-//! `is_in_solution` is true of the nodes of the solution, and `is_empty` of a study without a move of the hero.
+//! `walk_study` walks a study once, in written order, and hands each node to a `Findings`: `node_after` and `move_of` make a `StudyNode` and a
+//! `StudyMove` of it. `move_to` and `children_in` find the moves of the tree at a node; `is_empty` is true of a study without a move of the hero.
 #![tactic(auto)]
 
 mod best;
@@ -14,36 +12,32 @@ mod continuation;
 mod empty;
 mod entry;
 mod fault;
-mod line;
+mod laws;
 mod mark_tests;
 mod missing_defences;
 mod move_filters;
 mod move_lists;
 mod repetition;
-mod solution;
+mod study_node;
 mod time_loss;
 mod walk;
-mod walk_place;
 mod walk_state;
 mod words;
 mod zugzwang;
 
 pub use best::{best_move, best_play, better_of, play_on};
-pub use children::{child_count, children_in};
+pub use children::{child_count, children_in, move_to};
 pub use continuation::{EvaluatedMove, NodeContext, is_draw};
 pub use empty::is_empty;
 pub use entry::EntryInfo;
 pub use fault::{ReviewFault, TextFault, WriteFault};
-pub use line::{
-    MoveContext, NodePosition, PositionHistory, fill_place, move_context_at, move_to,
-    node_position_at, position_in,
-};
-pub use mark_tests::{aim_in, is_idle, is_mistake, is_solution_move, is_try, value_at};
+pub use laws::faults_are_of_the_solution;
+pub use mark_tests::{aim_in, value_at};
 pub use missing_defences::{Defence, defences};
 pub use move_filters::{alternatives, drawing_moves, holding_moves, missing_moves, refutations};
 pub use move_lists::contains_move;
 pub use repetition::{is_repeatable_within, waste_of_time};
-pub use solution::{faults_are_of_the_solution, is_in_solution};
+pub use study_node::{StudyMove, StudyNode, move_of, node_after, root_node};
 pub use time_loss::{
     Alternative, all_lose_time, count_where, timed_alternatives, waste_of_time_for_goal,
 };

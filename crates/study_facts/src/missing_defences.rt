@@ -104,9 +104,10 @@ fn push_defences<V: Values>(
     ensures game { V.source.is_honest values.old → OnOk result ((answered : List ADefence)
         × AreAnswered node.now.aim.now node.now.depth node.now.position.now moves.now answered
         × (list.new.items ≡ list.old.items ++ answered)) }
-    ensures untold { (c : AClass) → IsErrOf result (ProbeFault.NoTable c)
+    ensures no_value { (c : AClass) → IsErrOf result (ProbeFault.NoTable c)
         → V.source.held values.old c ≡ false }
-    ensures told { HasProbed (within node.now.position.now V.source) values.old result values.new }
+    ensures evaluated { HasProbed (within node.now.position.now V.source) values.old result
+        values.new }
     ensures no_damage { V.source.is_honest values.old → IfErr result IsNotDamage }
     ensures failures { V.source.failed_of values.new
         ≡ failures_of result (V.source.failed_of values.old) }
@@ -143,9 +144,10 @@ pub fn defences<V: Values>(
     requires depth { node.now.depth + 2 < 2 ^ 64 }
     ensures game { V.source.is_honest values.old → IfOk result (λ list. AreDefences
         node.now.aim.now node.now.depth node.now.position.now there.now list.items) }
-    ensures untold { (c : AClass) → IsErrOf result (ProbeFault.NoTable c)
+    ensures no_value { (c : AClass) → IsErrOf result (ProbeFault.NoTable c)
         → V.source.held values.old c ≡ false }
-    ensures told { HasProbed (within node.now.position.now V.source) values.old result values.new }
+    ensures evaluated { HasProbed (within node.now.position.now V.source) values.old result
+        values.new }
     ensures no_damage { V.source.is_honest values.old → IfErr result IsNotDamage }
     ensures failures { V.source.failed_of values.new
         ≡ failures_of result (V.source.failed_of values.old) }

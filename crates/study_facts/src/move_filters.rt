@@ -3,7 +3,7 @@ ghost use Rattle.std.specs.Prelude.{◌≡◌, ◌+◌, ◌++◌, ◌∷◌, [],
 ghost use Rattle.std.specs.List.{All};
 ghost use Rattle.arrayvec.specs.ArrayVec.{array_vec_len};
 ghost use Rattle.study_values.specs.Values.{IsNotDamage};
-ghost use Rattle.study_marks.specs.Answers.{WereTold, IsFirstFault};
+ghost use Rattle.study_marks.specs.Answers.{WereEvaluated, IsFirstFault};
 ghost use Rattle.study_material.specs.declared.class.Class.{Class as AClass};
 ghost use Rattle.study_moves.specs.Rules.{is_legal};
 ghost use Rattle.study_moves.specs.LegalList.{legal_list};
@@ -59,11 +59,11 @@ fn push_wanted<V: Values>(
         → OnOk result ((all : List AValue) × AreValuesAfter node.now.position.now moves.now all
         × (list.new.items ≡ list.old.items
         ++ wanted_moves (is_wanted wanted node.now.aim.now node.now.depth) moves.now all)) }
-    ensures untold { IfErr result
+    ensures no_value { IfErr result
         (IsProbeFaultOf (V.source.held values.old)
         (positions_after node.now.position.now moves.now)) }
-    ensures told { OnOk result
-        (WereTold V.source values.old
+    ensures evaluated { OnOk result
+        (WereEvaluated V.source values.old
         (positions_after node.now.position.now moves.now) values.new) }
     ensures first { IfErr result (λ f.
         IsFirstFault V.source values.old
@@ -105,11 +105,11 @@ fn wanted_moves<V: Values>(
     ensures game { V.source.is_honest values.old → IfOk result (λ list. AreChosen
         (is_wanted wanted node.now.aim.now node.now.depth)
         node.now.position.now moves.now list.items) }
-    ensures untold { IfErr result
+    ensures no_value { IfErr result
         (IsProbeFaultOf (V.source.held values.old)
         (positions_after node.now.position.now moves.now)) }
-    ensures told { OnOk result
-        (WereTold V.source values.old
+    ensures evaluated { OnOk result
+        (WereEvaluated V.source values.old
         (positions_after node.now.position.now moves.now) values.new) }
     ensures first { IfErr result (λ f.
         IsFirstFault V.source values.old
@@ -141,10 +141,10 @@ pub fn holding_moves<V: Values>(
     ensures game { V.source.is_honest values.old
         → IfOk result (λ list.
         AreHoldingMoves node.now.aim.now node.now.depth node.now.position.now list.items) }
-    ensures untold { IfErr result
+    ensures no_value { IfErr result
         (IsProbeFaultOf (V.source.held values.old)
         (positions_after node.now.position.now (legal_list node.now.position.now))) }
-    ensures told { OnOk result (WereTold V.source values.old
+    ensures evaluated { OnOk result (WereEvaluated V.source values.old
         (positions_after node.now.position.now (legal_list node.now.position.now)) values.new) }
     ensures first { IfErr result (λ f. IsFirstFault V.source values.old
         (positions_after node.now.position.now (legal_list node.now.position.now)) f values.new) }
@@ -173,10 +173,10 @@ pub fn refutations<V: Values>(
     ensures game { V.source.is_honest values.old
         → IfOk result (λ list.
         AreRefutations node.now.aim.now node.now.depth node.now.position.now list.items) }
-    ensures untold { IfErr result
+    ensures no_value { IfErr result
         (IsProbeFaultOf (V.source.held values.old)
         (positions_after node.now.position.now (legal_list node.now.position.now))) }
-    ensures told { OnOk result (WereTold V.source values.old
+    ensures evaluated { OnOk result (WereEvaluated V.source values.old
         (positions_after node.now.position.now (legal_list node.now.position.now)) values.new) }
     ensures first { IfErr result (λ f. IsFirstFault V.source values.old
         (positions_after node.now.position.now (legal_list node.now.position.now)) f values.new) }
@@ -204,10 +204,10 @@ pub fn drawing_moves<V: Values>(
     requires depth { node.now.depth + 1 < 2 ^ 64 }
     ensures game { V.source.is_honest values.old
         → IfOk result (λ list. AreDrawingMoves node.now.position.now list.items) }
-    ensures untold { IfErr result
+    ensures no_value { IfErr result
         (IsProbeFaultOf (V.source.held values.old)
         (positions_after node.now.position.now (legal_list node.now.position.now))) }
-    ensures told { OnOk result (WereTold V.source values.old
+    ensures evaluated { OnOk result (WereEvaluated V.source values.old
         (positions_after node.now.position.now (legal_list node.now.position.now)) values.new) }
     ensures first { IfErr result (λ f. IsFirstFault V.source values.old
         (positions_after node.now.position.now (legal_list node.now.position.now)) f values.new) }
@@ -236,9 +236,9 @@ pub fn alternatives<V: Values>(
     ensures game { V.source.is_honest values.old
         → IfOk result (λ list.
         AreAlternatives node.now.aim.now node.now.depth node.now.position.now m list.items) }
-    ensures untold { IfErr result (IsProbeFaultOf (V.source.held values.old)
+    ensures no_value { IfErr result (IsProbeFaultOf (V.source.held values.old)
         (positions_after node.now.position.now (moves_except (m ∷ []) node.now.position.now))) }
-    ensures told { OnOk result (WereTold V.source values.old
+    ensures evaluated { OnOk result (WereEvaluated V.source values.old
         (positions_after node.now.position.now
         (moves_except (m ∷ []) node.now.position.now)) values.new) }
     ensures first { IfErr result (λ f. IsFirstFault V.source values.old
@@ -269,9 +269,9 @@ pub fn missing_moves<V: Values>(
     requires depth { node.now.depth + 1 < 2 ^ 64 }
     ensures game { V.source.is_honest values.old
         → IfOk result (λ list. AreMissing node.now.position.now there.now list.items) }
-    ensures untold { IfErr result (IsProbeFaultOf (V.source.held values.old)
+    ensures no_value { IfErr result (IsProbeFaultOf (V.source.held values.old)
         (positions_after node.now.position.now (moves_except there.now node.now.position.now))) }
-    ensures told { OnOk result (WereTold V.source values.old
+    ensures evaluated { OnOk result (WereEvaluated V.source values.old
         (positions_after node.now.position.now
         (moves_except there.now node.now.position.now)) values.new) }
     ensures first { IfErr result (λ f. IsFirstFault V.source values.old

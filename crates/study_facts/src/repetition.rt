@@ -52,9 +52,9 @@ fn is_near_history(line: &[Position], q: &Position) -> bool
 /// Whether the side to move is mated.
 fn is_lost<V: Values>(q: &Position, values: &mut V) -> Result<bool, ProbeFault>
     ensures game { V.source.is_honest values.old → IfOk result (λ b. (b ≡ true) ↔ HasLost q.now) }
-    ensures untold { (c : AClass) → IsErrOf result (ProbeFault.NoTable c)
+    ensures no_value { (c : AClass) → IsErrOf result (ProbeFault.NoTable c)
         → V.source.held values.old c ≡ false }
-    ensures told { HasProbed (within q.now V.source) values.old result values.new }
+    ensures evaluated { HasProbed (within q.now V.source) values.old result values.new }
     ensures no_damage { V.source.is_honest values.old → IfErr result IsNotDamage }
     ensures failures { V.source.failed_of values.new
         ≡ failures_of result (V.source.failed_of values.old) }
@@ -84,9 +84,9 @@ fn all_wins_repeat<V: Values>(
     requires few { length moves.now ≤ MAX_MOVES }
     ensures game { V.source.is_honest values.old
         → IfOk result (λ b. (b ≡ true) ↔ AllWinsRepeat line.now m r.now won moves.now) }
-    ensures untold { (c : AClass) → IsErrOf result (ProbeFault.NoTable c)
+    ensures no_value { (c : AClass) → IsErrOf result (ProbeFault.NoTable c)
         → V.source.held values.old c ≡ false }
-    ensures told { HasProbed (within r.now V.source) values.old result values.new }
+    ensures evaluated { HasProbed (within r.now V.source) values.old result values.new }
     ensures no_damage { V.source.is_honest values.old → IfErr result IsNotDamage }
     ensures failures { V.source.failed_of values.new
         ≡ failures_of result (V.source.failed_of values.old) }
@@ -120,9 +120,9 @@ fn must_repeat<V: Values>(
 ) -> Result<bool, ProbeFault>
     ensures game { V.source.is_honest values.old
         → IfOk result (λ b. (b ≡ true) ↔ MustRepeat line.now m r.now) }
-    ensures untold { (c : AClass) → IsErrOf result (ProbeFault.NoTable c)
+    ensures no_value { (c : AClass) → IsErrOf result (ProbeFault.NoTable c)
         → V.source.held values.old c ≡ false }
-    ensures told { HasProbed (within r.now V.source) values.old result values.new }
+    ensures evaluated { HasProbed (within r.now V.source) values.old result values.new }
     ensures no_damage { V.source.is_honest values.old → IfErr result IsNotDamage }
     ensures failures { V.source.failed_of values.new
         ≡ failures_of result (V.source.failed_of values.old) }
@@ -146,9 +146,9 @@ fn can_force_repetition<V: Values>(
     requires few { length moves.now ≤ MAX_MOVES }
     ensures game { V.source.is_honest values.old → IfOk result (λ b. (b ≡ true)
         ↔ SomeLeads (MustRepeat line.now m) q.now moves.now) }
-    ensures untold { (c : AClass) → IsErrOf result (ProbeFault.NoTable c)
+    ensures no_value { (c : AClass) → IsErrOf result (ProbeFault.NoTable c)
         → V.source.held values.old c ≡ false }
-    ensures told { HasProbed (within q.now V.source) values.old result values.new }
+    ensures evaluated { HasProbed (within q.now V.source) values.old result values.new }
     ensures no_damage { V.source.is_honest values.old → IfErr result IsNotDamage }
     ensures failures { V.source.failed_of values.new
         ≡ failures_of result (V.source.failed_of values.old) }
@@ -179,9 +179,9 @@ pub fn is_repeatable_within<V: Values>(
     ensures game { V.source.is_honest values.old
         → IfOk result (λ b. (b ≡ true) ↔ IsRepeatableWithin line.now m q.now) }
     ensures none_asked { m ≡ 0 → V.source.asked_of values.new ≡ V.source.asked_of values.old }
-    ensures untold { (c : AClass) → IsErrOf result (ProbeFault.NoTable c)
+    ensures no_value { (c : AClass) → IsErrOf result (ProbeFault.NoTable c)
         → V.source.held values.old c ≡ false }
-    ensures told { HasProbed (within q.now V.source) values.old result values.new }
+    ensures evaluated { HasProbed (within q.now V.source) values.old result values.new }
     ensures no_damage { V.source.is_honest values.old → IfErr result IsNotDamage }
     ensures failures { V.source.failed_of values.new
         ≡ failures_of result (V.source.failed_of values.old) }
@@ -205,9 +205,9 @@ pub fn waste_of_time<V: Values>(
     values: &mut V,
 ) -> Result<Option<u8>, ProbeFault>
     ensures game { V.source.is_honest values.old → IfOk result (IsWasteOfTime line.now q.now) }
-    ensures untold { (c : AClass) → IsErrOf result (ProbeFault.NoTable c)
+    ensures no_value { (c : AClass) → IsErrOf result (ProbeFault.NoTable c)
         → V.source.held values.old c ≡ false }
-    ensures told { HasProbed (within q.now V.source) values.old result values.new }
+    ensures evaluated { HasProbed (within q.now V.source) values.old result values.new }
     ensures no_damage { V.source.is_honest values.old → IfErr result IsNotDamage }
     ensures failures { V.source.failed_of values.new
         ≡ failures_of result (V.source.failed_of values.old) }

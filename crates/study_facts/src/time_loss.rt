@@ -8,11 +8,10 @@ ghost use Rattle.study_moves.specs.Rules.{is_legal};
 ghost use Rattle.study_marks.specs.Evaluated.{failures_of};
 ghost use Rattle.study_facts.specs.Asked.{HasProbed, within};
 ghost use Rattle.study_facts.specs.TimeFaults.{all_lose_time};
-ghost use Rattle.study_facts.specs.Time.{IsTimeTold, AreTimed, AreTimedAlternatives};
+ghost use Rattle.study_facts.specs.Time.{IsTimeGiven, AreTimed, AreTimedAlternatives};
 ghost use Rattle.study_facts.specs.declared.time_loss.Alternative.{Alternative as AnAlternative};
 
 use crate::continuation::{EvaluatedMove, NodeContext};
-use crate::line::NodePosition;
 use crate::move_filters::alternatives;
 use crate::repetition::waste_of_time;
 use arrayvec::ArrayVec;
@@ -58,10 +57,10 @@ pub fn waste_of_time_for_goal<V: Values>(
     q: &Position,
     values: &mut V,
 ) -> Result<Option<u8>, ProbeFault>
-    ensures game { V.source.is_honest values.old → IfOk result (IsTimeTold goal line.now q.now) }
-    ensures untold { (c : AClass) → IsErrOf result (ProbeFault.NoTable c)
+    ensures game { V.source.is_honest values.old → IfOk result (IsTimeGiven goal line.now q.now) }
+    ensures no_value { (c : AClass) → IsErrOf result (ProbeFault.NoTable c)
         → V.source.held values.old c ≡ false }
-    ensures told { HasProbed (within q.now V.source) values.old result values.new }
+    ensures evaluated { HasProbed (within q.now V.source) values.old result values.new }
     ensures no_damage { V.source.is_honest values.old → IfErr result IsNotDamage }
     ensures failures { V.source.failed_of values.new
         ≡ failures_of result (V.source.failed_of values.old) }
@@ -77,7 +76,7 @@ pub fn waste_of_time_for_goal<V: Values>(
 
 /// Adds a move with the time that it loses.
 fn push_timed(
-    place: &NodePosition,
+    p: &Position,
     x: &EvaluatedMove,
     time: Option<u8>,
     list: &mut ArrayVec<Alternative, MAX_MOVES>,
@@ -86,9 +85,9 @@ fn push_timed(
     ensures items { list.new.items ≡ list.old.items
         ++ (record { played = x.now.played; value = x.now.value; time = time }) ∷ [] }
     ensures len { array_vec_len list.new ≡ array_vec_len list.old + 1 }
-    ensures legal { is_legal place.now.position x.now.played ≡ true
-        → All (λ y. is_legal place.now.position y.played ≡ true) list.old.items
-        → All (λ y. is_legal place.now.position y.played ≡ true) list.new.items }
+    ensures legal { is_legal p.now x.now.played ≡ true
+        → All (λ y. is_legal p.now y.played ≡ true) list.old.items
+        → All (λ y. is_legal p.now y.played ≡ true) list.new.items }
 {
     list.push(Alternative {
         played: x.played,
@@ -97,24 +96,26 @@ fn push_timed(
     });
 }
 
-/// Adds these moves with the time that each loses.
+/// Adds these moves with the time that each loses, from a node whose line this is.
 fn time_each<V: Values>(
-    place: &NodePosition,
+    before: &NodeContext<'_>,
+    line: &[Position],
     moves: &[EvaluatedMove],
     values: &mut V,
     list: &mut ArrayVec<Alternative, MAX_MOVES>,
 ) -> Result<(), ProbeFault>
     // Many clauses: callers use each fact of the probes by itself.
-    requires legal { All (λ x. is_legal place.now.position x.played ≡ true) moves.now }
+    requires legal { All (λ x. is_legal before.now.position.now x.played ≡ true) moves.now }
     requires room { array_vec_len list.old + length moves.now ≤ MAX_MOVES }
-    requires listed { All (λ y. is_legal place.now.position y.played ≡ true) list.old.items }
-    ensures listed { All (λ y. is_legal place.now.position y.played ≡ true) list.new.items }
+    requires listed { All (λ y. is_legal before.now.position.now y.played ≡ true) list.old.items }
+    ensures listed { All (λ y. is_legal before.now.position.now y.played ≡ true) list.new.items }
     ensures game { V.source.is_honest values.old → OnOk result ((timed : List AnAlternative)
-        × AreTimed place.now.aim.goal place.now.line.items place.now.position moves.now timed
+        × AreTimed before.now.aim.now.goal line.now before.now.position.now moves.now timed
         × (list.new.items ≡ list.old.items ++ timed)) }
-    ensures untold { (c : AClass) → IsErrOf result (ProbeFault.NoTable c)
+    ensures no_value { (c : AClass) → IsErrOf result (ProbeFault.NoTable c)
         → V.source.held values.old c ≡ false }
-    ensures told { HasProbed (within place.now.position V.source) values.old result values.new }
+    ensures evaluated { HasProbed (within before.now.position.now V.source)
+        values.old result values.new }
     ensures no_damage { V.source.is_honest values.old → IfErr result IsNotDamage }
     ensures failures { V.source.failed_of values.new
         ≡ failures_of result (V.source.failed_of values.old) }
@@ -124,49 +125,47 @@ fn time_each<V: Values>(
     match moves.split_first() {
         None => Ok(()),
         Some((x, rest)) => {
-            let next = played(&place.position, x.played);
-            match waste_of_time_for_goal(place.aim.goal, place.line.as_slice(), &next, values) {
+            let next = played(before.position, x.played);
+            match waste_of_time_for_goal(before.aim.goal, line, &next, values) {
                 Err(fault) => Err(fault),
                 Ok(time) => {
-                    push_timed(place, x, time, list);
-                    time_each(place, rest, values, list)
+                    push_timed(before.position, x, time, list);
+                    time_each(before, line, rest, values, list)
                 }
             }
         }
     }
 }
 
-/// The other legal moves than this one after which the position holds, each with the time that it loses.
+/// The other legal moves than this one after which the position of a node holds, each with the time that it loses; the line has the positions from the
+/// root to that node, both included.
 #[inline(never)]
 pub fn timed_alternatives<V: Values>(
-    place: &NodePosition,
+    before: &NodeContext<'_>,
+    line: &[Position],
     m: Move,
     values: &mut V,
 ) -> Result<ArrayVec<Alternative, MAX_MOVES>, ProbeFault>
-    requires depth { place.now.depth + 1 < 2 ^ 64 }
+    requires depth { before.now.depth + 1 < 2 ^ 64 }
     ensures game { V.source.is_honest values.old → IfOk result (λ list. AreTimedAlternatives
-        place.now.aim place.now.depth place.now.line.items place.now.position m list.items) }
-    ensures untold { (c : AClass) → IsErrOf result (ProbeFault.NoTable c)
+        before.now.aim.now before.now.depth line.now before.now.position.now m list.items) }
+    ensures no_value { (c : AClass) → IsErrOf result (ProbeFault.NoTable c)
         → V.source.held values.old c ≡ false }
-    ensures told { HasProbed (within place.now.position V.source) values.old result values.new }
+    ensures evaluated { HasProbed (within before.now.position.now V.source)
+        values.old result values.new }
     ensures no_damage { V.source.is_honest values.old → IfErr result IsNotDamage }
     ensures failures { V.source.failed_of values.new
         ≡ failures_of result (V.source.failed_of values.old) }
     ensures honest { V.source.is_honest values.old → V.source.is_honest values.new }
     ensures tables { (c : AClass) → V.source.held values.new c ≡ V.source.held values.old c }
     ensures legal { IfOk result (λ list.
-        All (λ y. is_legal place.now.position y.played ≡ true) list.items) }
+        All (λ y. is_legal before.now.position.now y.played ≡ true) list.items) }
 {
-    let node = NodeContext {
-        aim: &place.aim,
-        depth: place.depth,
-        position: &place.position,
-    };
-    match alternatives(&node, m, values) {
+    match alternatives(before, m, values) {
         Err(fault) => Err(fault),
         Ok(others) => {
             let mut list = ArrayVec::new();
-            match time_each(place, others.as_slice(), values, &mut list) {
+            match time_each(before, line, others.as_slice(), values, &mut list) {
                 Err(fault) => Err(fault),
                 Ok(_) => Ok(list),
             }

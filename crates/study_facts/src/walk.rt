@@ -14,7 +14,7 @@ ghost use Rattle.study_facts.specs.Made.{HasAsked};
 ghost use Rattle.study_facts.specs.Nodes.{parent_path};
 ghost use Rattle.study_facts.specs.Order.{paths_from, written_order};
 ghost use Rattle.study_facts.specs.Walk.{AddsEach, IsAt, IsBefore, IsWalkStep, WentTo};
-ghost use Rattle.study_facts.specs.WalkState.{arrival_of, IsStand};
+ghost use Rattle.study_facts.specs.WalkState.{arrival_of, IsStateAt};
 ghost use Rattle.study_facts.specs.declared.walk_state.WalkState.{WalkState as AWalkState};
 
 use crate::children::child_count;
@@ -52,7 +52,7 @@ pub trait Findings {
         values: &mut V,
     ) -> Result<(), TextFault>
         requires aim { aim.now ≡ aim_of (marked bench.now) }
-        requires root { IsStand (marked bench.now) [] root.now }
+        requires root { IsStateAt (marked bench.now) [] root.now }
         ensures adds { V.source.is_honest values.old
             → OnOk result (adds (marked bench.now) [] self.old self.new) }
         ensures asked { HasAsked (within (marked bench.now).start.position V.source)
@@ -107,7 +107,7 @@ fn reached_by<'a, 'b, A: Allocator, B: Allocator>(
 ) -> Reached
     requires aim { aim.now ≡ aim_of (marked bench.now) }
     requires states { IsBefore (marked bench.now) trail.now.steps.items trail.now.states.items }
-    ensures here { IsStand (marked bench.now) trail.now.steps.items result.here }
+    ensures here { IsStateAt (marked bench.now) trail.now.steps.items result.here }
     ensures by { arrival_of (spot_at (marked bench.now).tree trail.now.steps.items)
         ≡ Some result.by }
 {
@@ -134,7 +134,7 @@ fn add_reached<'a, 'b, A: Allocator, B: Allocator, V: Values, F: Findings>(
     requires line { trail.now.line.items
         ≡ line_to (marked bench.now) (parent_path trail.now.steps.items) }
     requires states { IsBefore (marked bench.now) trail.now.steps.items trail.now.states.items }
-    requires here { IsStand (marked bench.now) trail.now.steps.items reached.now.here }
+    requires here { IsStateAt (marked bench.now) trail.now.steps.items reached.now.here }
     requires by { arrival_of (spot_at (marked bench.now).tree trail.now.steps.items)
         ≡ Some reached.now.by }
     ensures adds { V.source.is_honest values.old

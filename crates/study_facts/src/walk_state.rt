@@ -6,7 +6,7 @@ ghost use Rattle.study_marks.specs.Bench.{node_seen};
 ghost use Rattle.study_marks.specs.Goals.{aim_of, hero_moves};
 ghost use Rattle.study_marks.specs.BenchState.{marked};
 ghost use Rattle.study_facts.specs.Nodes.{parent_path, is_idle};
-ghost use Rattle.study_facts.specs.WalkState.{arrival_of, IsStand};
+ghost use Rattle.study_facts.specs.WalkState.{arrival_of, IsStateAt};
 
 use crate::mark_tests::is_idle;
 use std::alloc::Allocator;
@@ -78,9 +78,9 @@ pub fn walk_state_after<'b, B: Allocator>(
 ) -> WalkState
     requires aim { aim.now ≡ aim_of (marked bench.now) }
     requires some { 0 < length steps.now }
-    requires before { IsStand (marked bench.now) (parent_path steps.now) before.now }
+    requires before { IsStateAt (marked bench.now) (parent_path steps.now) before.now }
     requires by { arrival_of (spot_at (marked bench.now).tree steps.now) ≡ Some by.now }
-    ensures { IsStand (marked bench.now) steps.now result }
+    ensures { IsStateAt (marked bench.now) steps.now result }
 {
     let first = bench.start();
     match steps.split_last() {
@@ -97,7 +97,7 @@ pub fn walk_state_after<'b, B: Allocator>(
 /// The walk state at the root.
 pub fn root_walk_state<'b, B: Allocator>(bench: &Bench<'b, B>, children: u16) -> WalkState
     requires { children ≡ width (marked bench.now).tree.below }
-    ensures { IsStand (marked bench.now) [] result }
+    ensures { IsStateAt (marked bench.now) [] result }
 {
     WalkState {
         position: bench.start().position.copied(),

@@ -28,9 +28,9 @@ pub enum Zugzwang {
 fn score<V: Values>(q: &Position, values: &mut V) -> Result<u8, ProbeFault>
     ensures game { V.source.is_honest values.old → IfOk result (Scores q.now) }
     ensures few { IfOk result (λ k. k < 3) }
-    ensures untold { (c : AClass) → IsErrOf result (ProbeFault.NoTable c)
+    ensures no_value { (c : AClass) → IsErrOf result (ProbeFault.NoTable c)
         → V.source.held values.old c ≡ false }
-    ensures told { HasProbed (within q.now V.source) values.old result values.new }
+    ensures evaluated { HasProbed (within q.now V.source) values.old result values.new }
     ensures no_damage { V.source.is_honest values.old → IfErr result IsNotDamage }
     ensures failures { V.source.failed_of values.new
         ≡ failures_of result (V.source.failed_of values.old) }
@@ -73,9 +73,9 @@ fn kind_beside<V: Values>(
     requires few { here < 3 }
     ensures game { Scores p.now here → V.source.is_honest values.old
         → IfOk result (IsZugzwangOf p.now) }
-    ensures untold { (c : AClass) → IsErrOf result (ProbeFault.NoTable c)
+    ensures no_value { (c : AClass) → IsErrOf result (ProbeFault.NoTable c)
         → V.source.held values.old c ≡ false }
-    ensures told { HasProbed (within p.now V.source) values.old result values.new }
+    ensures evaluated { HasProbed (within p.now V.source) values.old result values.new }
     ensures no_damage { V.source.is_honest values.old → IfErr result IsNotDamage }
     ensures failures { V.source.failed_of values.new
         ≡ failures_of result (V.source.failed_of values.old) }
@@ -100,9 +100,9 @@ fn zugzwang_of<V: Values>(
     requires passed { has_legal_en_passant p.now ≡ false }
     requires other { q.now ≡ handed_on p.now }
     ensures game { V.source.is_honest values.old → IfOk result (IsZugzwangOf p.now) }
-    ensures untold { (c : AClass) → IsErrOf result (ProbeFault.NoTable c)
+    ensures no_value { (c : AClass) → IsErrOf result (ProbeFault.NoTable c)
         → V.source.held values.old c ≡ false }
-    ensures told { HasProbed (within p.now V.source) values.old result values.new }
+    ensures evaluated { HasProbed (within p.now V.source) values.old result values.new }
     ensures no_damage { V.source.is_honest values.old → IfErr result IsNotDamage }
     ensures failures { V.source.failed_of values.new
         ≡ failures_of result (V.source.failed_of values.old) }
@@ -118,9 +118,9 @@ fn zugzwang_of<V: Values>(
 /// The kind of mutual zugzwang that the position is, whoever is to move; `None` if it is not one.
 pub fn zugzwang_at<V: Values>(p: &Position, values: &mut V) -> Result<Option<Zugzwang>, ProbeFault>
     ensures game { V.source.is_honest values.old → IfOk result (IsZugzwangOf p.now) }
-    ensures untold { (c : AClass) → IsErrOf result (ProbeFault.NoTable c)
+    ensures no_value { (c : AClass) → IsErrOf result (ProbeFault.NoTable c)
         → V.source.held values.old c ≡ false }
-    ensures told { HasProbed (within p.now V.source) values.old result values.new }
+    ensures evaluated { HasProbed (within p.now V.source) values.old result values.new }
     ensures no_damage { V.source.is_honest values.old → IfErr result IsNotDamage }
     ensures failures { V.source.failed_of values.new
         ≡ failures_of result (V.source.failed_of values.old) }

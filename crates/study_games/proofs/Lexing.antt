@@ -117,7 +117,8 @@ module _ (b : ℕ) (f : IsFirst b) where
   no_sign : is_sign b ≡ false
   no_sign =
       or_from _ (b == 58) (or_from _ (b == 95) (or_from _ (b == 94) (or_from _ (b == 126) (or_from _ (b == 35) (or_from _ (b == 47)
-      (or_from _ (b == 61) (or_from (b == 43) (b == 45) (low 43 (omega arith)) (low 45 (omega arith))) (middle 61 (omega arith) (omega arith))) (low 47 (omega arith))) (low 35 (omega arith)))
+      (or_from _ (b == 61) (or_from (b == 43) (b == 45) (low 43 (omega arith)) (low 45 (omega arith))) (middle 61 (omega arith) (omega arith)))
+      (low 47 (omega arith))) (low 35 (omega arith)))
       (top 126 (omega arith) (omega arith))) (upper 94 (omega arith) (omega arith))) (upper 95 (omega arith) (omega arith)))
       (middle 58 (omega arith) (omega arith))
 
@@ -174,7 +175,8 @@ unfolding lexed
 symbol_token fresh b bs f begins ellipsis number =
     rw (and_right fresh (b == 37) (low b f 37 (omega arith))) (rw (no_blank b f) (rw (top b f 123 (omega arith) (omega arith))
     (rw (middle b f 59 (omega arith) (omega arith)) (rw (upper b f 91 (omega arith) (omega arith)) (rw (low b f 40 (omega arith))
-    (rw (low b f 41 (omega arith)) (rw (low b f 42 (omega arith)) (rw (low b f 36 (omega arith)) (rw (no_glyph b f) (rw (no_sign b f) (rw ellipsis (rw begins (rw number refl)))))))))))))
+    (rw (low b f 41 (omega arith)) (rw (low b f 42 (omega arith))
+    (rw (low b f 36 (omega arith)) (rw (no_glyph b f) (rw (no_sign b f) (rw ellipsis (rw begins (rw number refl)))))))))))))
 
 -- a symbol in ASCII before anything that ends it
 pub symbol_read : (fresh : Bool) (b : ℕ) (w rest : List ℕ) → begins_symbol b ≡ true → list_all is_plain_symbol (b ∷ w) ≡ true

@@ -1,6 +1,7 @@
 //! Kinds of bytes in a PGN text.
 ghost use Rattle.std.specs.Prelude.{◌≡◌};
-ghost use Rattle.study_games.specs.Bytes.{is_blank, is_gap, is_letter, is_digit, is_name_byte, is_sign, is_high, is_tail, begins_symbol, is_symbol_byte, is_glyph};
+ghost use Rattle.study_games.specs.Bytes.{is_blank, is_gap, is_letter, is_digit, is_name_byte, is_sign};
+ghost use Rattle.study_games.specs.Bytes.{is_high, is_tail, begins_symbol, is_symbol_byte, is_glyph};
 
 /// A space, or one of the five ASCII codes that move on: tab, line feed, vertical tab, form feed, carriage return.
 pub fn is_blank(b: u8) -> bool

@@ -5,8 +5,9 @@ ghost use Rattle.study_marks.specs.Verdict.{verdict};
 ghost use Rattle.study_marks.specs.Study.{Study};
 ghost use Rattle.study_marks.specs.declared.mark.Mark.{Mark as AMark};
 ghost use Rattle.study_facts.specs.Order.{is_empty};
-ghost use Rattle.study_head.specs.Verdict.{stamp_of, not_read, unread_words, stamp_words, no_solution_words, number_words, which_words, lost_words, faults_words};
-ghost use Rattle.study_head.specs.Verdict.{holds_words, count_words, sentence, at_start, start_words, verdict_words, judgement_of, entry_judgement};
+ghost use Rattle.study_head.specs.Verdict.{stamp_of, not_read, unread_words, stamp_words, no_solution_words, number_words, which_words};
+ghost use Rattle.study_head.specs.Verdict.{lost_words, faults_words, holds_words, count_words, sentence};
+ghost use Rattle.study_head.specs.Verdict.{at_start, start_words, verdict_words, judgement_of, entry_judgement};
 
 use std::alloc::{AllocError, Allocator};
 use study_board::Side;

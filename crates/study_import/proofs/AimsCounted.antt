@@ -7,7 +7,7 @@ use Rattle.study_board.specs.declared.men.Side.{Side}
 use Rattle.study_marks.specs.declared.stipulation.Goal.{Goal}
 use Rattle.study_marks.specs.declared.stipulation.Goal.TheVariants.{Win, Draw}
 use Rattle.study_marks.specs.declared.stipulation.Stipulation.{Stipulation}
-use Rattle.study_command.specs.Paths.{place_told}
+use Rattle.study_command.specs.Paths.{place_parsed}
 use Rattle.study_command.specs.Parser.{few_moves, mate_moves_of}
 use Rattle.study_games.specs.Words.{first_word, trimmed}
 use Rattle.study_games.specs.Header.{Pair, value_of, unescaped}
@@ -21,7 +21,10 @@ use Rattle.study_import.specs.declared.aims.Aim.{Aim}
 use Rattle.study_import.specs.declared.aims.AimSource.{AimSource}
 use Rattle.study_import.specs.declared.aims.AimSource.TheVariants.{Comment, StipulationTag, ResultTag, Result as EndResult, Given}
 use Rattle.study_import.specs.declared.notes.Notes.{Notes}
-use Rattle.study_import.specs.Aims.{Found, last_of_phrase, hero_of, goal_named, moves_named, moves_in, moves_behind_in, mate_goal, goal_or_mate, goal_in, goal_behind_and, goal_behind_play, or_goal, goal_after_to, goal_behind_to, goal_of_verb, verb_or_mate, goal_by_verb, goal_behind_hero, aimed, aim_by, aim_in, mate_by, mate_tag, or_words, says_win, says_draw, aim_of_text, aim_of_tag, aim_of_outcome, from_source, or_aim, aim_of_result}
+use Rattle.study_import.specs.Aims.{Found, last_of_phrase, hero_of, goal_named, moves_named, moves_in, moves_behind_in, mate_goal, goal_or_mate}
+use Rattle.study_import.specs.Aims.{goal_in, goal_behind_and, goal_behind_play, or_goal, goal_after_to, goal_behind_to, goal_of_verb, verb_or_mate}
+use Rattle.study_import.specs.Aims.{goal_by_verb, goal_behind_hero, aimed, aim_by, aim_in, mate_by, mate_tag, or_words, says_win, says_draw}
+use Rattle.study_import.specs.Aims.{aim_of_text, aim_of_tag, aim_of_outcome, from_source, or_aim, aim_of_result}
 use Rattle.study_import.specs.Notes.{with_said, with_sign, noted}
 use Rattle.study_import.specs.Blocks.{tag_aim, result_of, aim_of_game}
 use Rattle.study_import.specs.Laws.{IsCounted, IsGiven}
@@ -41,7 +44,7 @@ few None = tt
 few (Some n) = few_by n (nat_le 1 n && nat_le n 127) refl
 
 few_in : (word : List ℕ) → Few (mate_moves_of word)
-few_in word = few (place_told word)
+few_in word = few (place_parsed word)
 
 few_named : (o : Option (List ℕ)) → Few (moves_named o)
 few_named None = tt
@@ -83,7 +86,8 @@ counted_named (Some word) = named_by (bytes_eq word (codes "win")) (bytes_eq wor
 counted_or : (o : Option Goal) (word behind : List ℕ) → Counted o → Counted (goal_or_mate o word behind)
 counted_or (Some goal) word behind h = h
 counted_or None word behind h =
-    counted_if (bytes_eq word (codes "mate")) (mate_goal (moves_behind_in (first_word behind))) None (counted_mate (moves_behind_in (first_word behind)) (few_mate (first_word behind))) tt
+    counted_if (bytes_eq word (codes "mate")) (mate_goal (moves_behind_in (first_word behind))) None
+    (counted_mate (moves_behind_in (first_word behind)) (few_mate (first_word behind))) tt
 
 counted_in : (x : Found) → Counted (goal_in x)
 counted_in None = tt
@@ -108,18 +112,19 @@ counted_to (Some x) =
     counted_if (bytes_eq x.0 (codes "to")) (goal_after_to (first_word x.1)) None
     (counted_either (goal_in (first_word x.1)) (goal_behind_play (first_word x.1)) (counted_in (first_word x.1)) (counted_play (first_word x.1))) tt
 
-counted_told : (o : Option (List ℕ)) → Counted (goal_of_verb o)
-counted_told None = tt
-counted_told (Some word) = named_by (bytes_eq word (codes "wins")) (bytes_eq word (codes "draws"))
+counted_reported : (o : Option (List ℕ)) → Counted (goal_of_verb o)
+counted_reported None = tt
+counted_reported (Some word) = named_by (bytes_eq word (codes "wins")) (bytes_eq word (codes "draws"))
 
 counted_mates : (o : Option Goal) (word behind : List ℕ) → Counted o → Counted (verb_or_mate o word behind)
 counted_mates (Some goal) word behind h = h
 counted_mates None word behind h =
-    counted_if (bytes_eq word (codes "mates")) (mate_goal (moves_behind_in (first_word behind))) None (counted_mate (moves_behind_in (first_word behind)) (few_mate (first_word behind))) tt
+    counted_if (bytes_eq word (codes "mates")) (mate_goal (moves_behind_in (first_word behind))) None
+    (counted_mate (moves_behind_in (first_word behind)) (few_mate (first_word behind))) tt
 
 counted_verb : (x : Found) → Counted (goal_by_verb x)
 counted_verb None = tt
-counted_verb (Some x) = counted_mates (goal_of_verb (last_of_phrase x.0 x.1)) x.0 x.1 (counted_told (last_of_phrase x.0 x.1))
+counted_verb (Some x) = counted_mates (goal_of_verb (last_of_phrase x.0 x.1)) x.0 x.1 (counted_reported (last_of_phrase x.0 x.1))
 
 counted_hero : (x : Found) → Counted (goal_behind_hero x)
 counted_hero x = counted_either (goal_behind_to x) (goal_by_verb x) (counted_to x) (counted_verb x)

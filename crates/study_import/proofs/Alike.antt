@@ -10,16 +10,17 @@ use Rattle.study_games.specs.declared.header.HeaderFault.{HeaderFault}
 use Rattle.study_import.specs.declared.aims.Aim.{Aim}
 use Rattle.study_import.specs.declared.movetext.MovesFault.{MovesFault}
 use Rattle.study_import.specs.Movetext.{Ended}
-use Rattle.study_import.specs.Blocks.{Block, Told, told_of, block_lines, no_study, left_out, aim_of_game, aimed_block, read_block, game_read, fen_in, start_block, fen_block, header_block, block_of, tail_of, tail_line, under_remark, block_or_tail}
+use Rattle.study_import.specs.Blocks.{Block, Reported, reported_of, block_lines, no_study, left_out, aim_of_game, aimed_block, read_block, game_read}
+use Rattle.study_import.specs.Blocks.{fen_in, start_block, fen_block, header_block, block_of, tail_of, tail_line, under_remark, block_or_tail}
 use Rattle.study_import.specs.Tails.{Tail, position_text}
 use Rattle.study_import.specs.Laws.{entry_of, remark_above, text_read, AreAlike}
 
 module _ (given : Option Stipulation) (text : List ℕ) where
   abbrev Alike : (ℕ → ℕ → Block) → Type 0
-  Alike make = (start : Start) × (aim : Aim) × (told : Told)
-      × ((number line : ℕ) → make number line ≡ record { text = block_lines (entry_of number line text) start aim told; is_study = true })
+  Alike make = (start : Start) × (aim : Aim) × (reported : Reported)
+      × ((number line : ℕ) → make number line ≡ record { text = block_lines (entry_of number line text) start aim reported; is_study = true })
 
-  aimed_alike : (start : Start) (t : Told) (aim : Option Aim) (m k : ℕ) → (aimed_block (entry_of m k text) start t aim).is_study ≡ true
+  aimed_alike : (start : Start) (t : Reported) (aim : Option Aim) (m k : ℕ) → (aimed_block (entry_of m k text) start t aim).is_study ≡ true
       → Alike (λ number line. aimed_block (entry_of number line text) start t aim)
   aimed_alike start t None m k e = absurd cc
   aimed_alike start t (Some aim) m k e = (start, aim, t, λ number line. refl)
@@ -27,7 +28,7 @@ module _ (given : Option Stipulation) (text : List ℕ) where
   read_alike : (start : Start) (x : Result Ended MovesFault) (m k : ℕ) → (read_block given (entry_of m k text) start x).is_study ≡ true
       → Alike (λ number line. read_block given (entry_of number line text) start x)
   read_alike start (Err fault) m k e = absurd cc
-  read_alike start (Ok x) m k e = aimed_alike start (told_of x) (aim_of_game given (tags_of text) start.position.to_move x.game.notes) m k e
+  read_alike start (Ok x) m k e = aimed_alike start (reported_of x) (aim_of_game given (tags_of text) start.position.to_move x.game.notes) m k e
 
   start_alike : (fen : List ℕ) (x : Result Start FenFault) (m k : ℕ) → (start_block given (entry_of m k text) fen x).is_study ≡ true
       → Alike (λ number line. start_block given (entry_of number line text) fen x)
@@ -40,7 +41,8 @@ module _ (given : Option Stipulation) (text : List ℕ) where
   fen_alike (Some value) m k e = start_alike (fen_in value) (start_of (fen_in value)) m k e
 
   tagged_alike : (none : Bool) (m k : ℕ)
-      → (if none then no_study (left_out (entry_of m k text) (codes "left out: no tags")) else fen_block given (entry_of m k text) (value_of (codes "FEN") (tags_of text))).is_study ≡ true
+      → (if none then no_study (left_out (entry_of m k text) (codes "left out: no tags")) else fen_block given (entry_of m k text)
+      (value_of (codes "FEN") (tags_of text))).is_study ≡ true
       → Alike (λ number line. if none then no_study (left_out (entry_of number line text) (codes "left out: no tags"))
       else fen_block given (entry_of number line text) (value_of (codes "FEN") (tags_of text)))
   tagged_alike true m k e = absurd cc
@@ -58,13 +60,13 @@ own_alike given text m k e = header_alike given text (header_fault text) m k e
 
 by_alike : (given : Option Stipulation) (text : List ℕ) (tail : Option Tail) (m k : ℕ)
     → (block_or_tail given m (record { line = k; text = Some text }) tail).is_study ≡ true
-    → (start : Start) × (aim : Aim) × (told : Told)
+    → (start : Start) × (aim : Aim) × (reported : Reported)
     × ((number line : ℕ) → block_or_tail given number (record { line = line; text = Some text }) tail
-    ≡ under_remark (remark_above tail) (record { text = block_lines (entry_of number line (text_read text tail)) start aim told; is_study = true }))
+    ≡ under_remark (remark_above tail) (record { text = block_lines (entry_of number line (text_read text tail)) start aim reported; is_study = true }))
 by_alike given text None m k e = own_alike given text m k e
 by_alike given text (Some t) m k e =
-    let (start, aim, told, same) = start_alike given t.text (position_text t.position) (start_of (position_text t.position)) m k e in
-    (start, aim, told, λ number line. ap (under_remark (tail_line t.skipped)) (same number line))
+    let (start, aim, reported, same) = start_alike given t.text (position_text t.position) (start_of (position_text t.position)) m k e in
+    (start, aim, reported, λ number line. ap (under_remark (tail_line t.skipped)) (same number line))
 
 pub alike : AreAlike
 alike c text m k e = by_alike c.given text (tail_of c.tails (Some text)) m k e

@@ -17,12 +17,14 @@ use Rattle.study_marks.specs.Study.{tag_name}
 use Rattle.study_command.specs.declared.command.Keyword.{Keyword}
 use Rattle.study_command.specs.declared.command.Keyword.TheVariants.{FromFen, Stipulate, Insert, Tag}
 use Rattle.study_command.specs.declared.command.FenCommand.TheVariants.{Position}
-use Rattle.study_command.specs.Paths.{place_told}
-use Rattle.study_command.specs.Parser.{Asks, fen_command, stipulate, insert, tag, pgn, ended, trimmed, text_told, path_of, side_told, tag_told, begins_comment, line_asked, word_asked, word_of, command_of}
+use Rattle.study_command.specs.Paths.{place_parsed}
+use Rattle.study_command.specs.Parser.{Asks, fen_command, stipulate, insert, tag, pgn, ended, trimmed, text_parsed, path_of, side_parsed, tag_parsed}
+use Rattle.study_command.specs.Parser.{begins_comment, line_asked, word_asked, word_of, command_of}
 use Rattle.study_import.specs.Laws.{IsCounted}
-use Rattle.study_import.proofs.Ink.{Ink, Print, ink_of, ink_prints, print_append, all_print, decimal_ink, words_more, words_last, words_spaced, behind_more, behind_spaced}
+use Rattle.study_import.proofs.Ink.{Ink, Print, ink_of, ink_prints, print_append, all_print, decimal_ink, words_more, words_last, words_spaced}
+use Rattle.study_import.proofs.Ink.{behind_more, behind_spaced}
 use Rattle.study_import.proofs.Spelling.{IsFen}
-use Rattle.study_import.proofs.PathAgain.{number_told}
+use Rattle.study_import.proofs.PathAgain.{number_parsed}
 use Rattle.std.proofs.lemmas.Fmt.{decimal_nonempty}
 
 -- ---- a text without spaces at its ends
@@ -63,8 +65,8 @@ trimmed_again t h =
 some_of : (t : List ℕ) → IsTrimmed t → (length t == 0) ≡ false
 some_of t h = ap (λ (x : List ℕ). length x == 0) h.begins ∙ ne_eqb (length (h.first ∷ h.rest)) 0 (λ e. omega arith)
 
-pub told_again : (t : List ℕ) → IsTrimmed t → text_told (32 ∷ t) ≡ Some t
-told_again t h = rw (trimmed_again t h, some_of t h) refl
+pub reported_again : (t : List ℕ) → IsTrimmed t → text_parsed (32 ∷ t) ≡ Some t
+reported_again t h = rw (trimmed_again t h, some_of t h) refl
 
 fen_trimmed : (t : List ℕ) → IsFen t → IsTrimmed t
 fen_trimmed t h = record {
@@ -100,7 +102,7 @@ unfolding word_asked
 position_asked t h =
     keyword_asked (codes "position") t (FromFen Position) position_ink (omega arith) refl position_word
     (position_prints t h)
-    ∙ rw (told_again t (fen_trimmed t h)) refl
+    ∙ rw (reported_again t (fen_trimmed t h)) refl
 
 -- ---- stipulate
 
@@ -120,7 +122,7 @@ stipulate_word : word_of (codes "stipulate") ≡ Some Stipulate
 unfolding word_of
 stipulate_word = refl
 
-side_ink : (s : Side) → Ink (side_words s) × (0 < length (side_words s)) × (side_told (side_words s) ≡ Some s)
+side_ink : (s : Side) → Ink (side_words s) × (0 < length (side_words s)) × (side_parsed (side_words s) ≡ Some s)
 side_ink White = (ink_of (codes "white") refl, omega arith, refl)
 side_ink Black = (ink_of (codes "black") refl, omega arith, refl)
 
@@ -159,11 +161,12 @@ by_keyword s =
     stipulate_word (stipulate_prints s)
 
 mated : (side : Side) (count : ℕ) → IsCounted (MateIn count)
-    → ◌≡◌ {A = Asks} (word_asked Stipulate (32 ∷ (side_words side ++ (32 ∷ goal_words (MateIn count))))) (Ok (Some (stipulate (record { hero = side; goal = MateIn count }))))
+    → ◌≡◌ {A = Asks} (word_asked Stipulate (32 ∷ (side_words side ++ (32 ∷ goal_words (MateIn count)))))
+    (Ok (Some (stipulate (record { hero = side; goal = MateIn count }))))
 unfolding word_asked
 mated side count h =
     let high = h.1 in
-    let known : place_told (decimal count) ≡ Some count = number_told count (omega arith) in
+    let known : place_parsed (decimal count) ≡ Some count = number_parsed count (omega arith) in
     rw (mate_words side count h, (side_ink side).2, known, le-leb 1 count h.0, le-leb count 127 h.1) refl
 
 goal_asked : (side : Side) (g : Goal) → IsCounted g
@@ -212,7 +215,7 @@ tag_word : word_of (codes "tag") ≡ Some Tag
 unfolding word_of
 tag_word = refl
 
-name_ink : (name : TagName) → Ink (tag_name name) × (0 < length (tag_name name)) × (tag_told (tag_name name) ≡ Some name)
+name_ink : (name : TagName) → Ink (tag_name name) × (0 < length (tag_name name)) × (tag_parsed (tag_name name) ≡ Some name)
 name_ink named.Event = (ink_of (codes "Event") refl, omega arith, refl)
 name_ink named.Site = (ink_of (codes "Site") refl, omega arith, refl)
 name_ink named.Date = (ink_of (codes "Date") refl, omega arith, refl)
@@ -232,7 +235,7 @@ pub tag_asked : (name : TagName) (text : List ℕ) → IsTrimmed text → Print 
 unfolding word_asked
 tag_asked name text h p =
     keyword_asked (codes "tag") (tag_name name ++ (32 ∷ text)) Tag (ink_of (codes "tag") refl) (omega arith) refl tag_word (tag_prints name text p)
-    ∙ rw (tag_first name text, (name_ink name).2, behind_spaced (tag_name name) text (name_ink name).0 (name_ink name).1, told_again text h) refl
+    ∙ rw (tag_first name text, (name_ink name).2, behind_spaced (tag_name name) text (name_ink name).0 (name_ink name).1, reported_again text h) refl
 
 -- ---- pgn, and lines without a command
 
@@ -244,7 +247,8 @@ pub empty_asked : ◌≡◌ {A = Asks} (command_of []) (Ok None)
 unfolding command_of words
 empty_asked = refl
 
-remark_parts : (line : List ℕ) (parts : List (List ℕ)) → ◌≡◌ {A = Asks} (line_asked line (filter (λ word. not (length word == 0)) (onto_first 35 parts))) (Ok None)
+remark_parts : (line : List ℕ) (parts : List (List ℕ)) → ◌≡◌ {A = Asks} (line_asked line (filter (λ word. not (length word == 0)) (onto_first 35 parts)))
+    (Ok None)
 remark_parts line [] = refl
 remark_parts line (p ∷ ps) = ap (line_asked line) (words_cons (35 ∷ p) ps (omega arith))
 

@@ -1,5 +1,6 @@
 -- Studies that are written into one file are cut apart again as they were written.
-use Rattle.std.proofs.Common.{◌≡◌, ℕ, zero, suc, ◌+◌, ◌<◌, ◌≤◌, Bool, true, false, not, List, [], ◌∷◌, ◌++◌, length, drop, map, Option, Some, None, refl, sym, ap, subst, ◌∙◌, ◌⊎◌, inl, inr, arith, length-append, append_assoc}
+use Rattle.std.proofs.Common.{◌≡◌, ℕ, zero, suc, ◌+◌, ◌<◌, ◌≤◌, Bool, true, false, not, List, [], ◌∷◌, ◌++◌, length, drop, map, Option, Some, None}
+use Rattle.std.proofs.Common.{refl, sym, ap, subst, ◌∙◌, ◌⊎◌, inl, inr, arith, length-append, append_assoc}
 use Rattle.std.specs.Prelude.{◌*◌, ◌==◌, ◌&&◌, ◌||◌, min, nat_le, codes, if◌then◌else◌}
 use Rattle.std.specs.List.{list_all, flat_map, prefix_len, AllByRecursion}
 use Rattle.std.proofs.lemmas.Bool.{cases_Bool, ne_eqb, le-leb, lt-leb, leb-true, and_from, and_parts}
@@ -25,7 +26,9 @@ use Rattle.study_games.specs.Tokens.{front, behind}
 use Rattle.study_games.specs.declared.games.LineKind.{LineKind}
 use Rattle.study_games.specs.declared.games.LineKind.TheVariants.{Silent, Tag, EventTag, Moves}
 use Rattle.study_games.specs.declared.games.Seen.{Seen}
-use Rattle.study_games.specs.Games.{Game, Begun, longer, lines_behind, begins_value, name_of as name_in, bracketed, tag_name, is_remark, kind_named, kind_of, begins_game, seen_then, with_bytes, with_line, begun_by, first_line, one_more, without_mark, unmarked, taken_to, game_at_hand, games_from, games_of}
+use Rattle.study_games.specs.Games.{Game, Begun, longer, lines_behind, begins_value, name_of as name_in, bracketed, tag_name, is_remark, kind_named}
+use Rattle.study_games.specs.Games.{kind_of, begins_game, seen_then, with_bytes, with_line, begun_by, first_line, one_more, without_mark, unmarked}
+use Rattle.study_games.specs.Games.{taken_to, game_at_hand, games_from, games_of}
 use Rattle.study_import.specs.Meant.{study_of_game}
 use Rattle.study_import.specs.Written.{CanBeMade, unmarked_study, AreFilesReadBack}
 use Rattle.study_import.proofs.Ink.{all_print}
@@ -89,7 +92,8 @@ no_name (b ∷ bs) h =
 
 no_bracket : (xs : List ℕ) → list_all is_plain xs ≡ true → bracketed xs ≡ None
 no_bracket [] h = refl
-no_bracket (b ∷ bs) h = by (b == 91) (name_in (behind is_gap bs)) (no_name (behind is_gap bs) (plain_drop (prefix_len is_gap bs) bs (and_parts (is_plain b) (list_all is_plain bs) h).1))
+no_bracket (b ∷ bs) h = by (b == 91) (name_in (behind is_gap bs))
+    (no_name (behind is_gap bs) (plain_drop (prefix_len is_gap bs) bs (and_parts (is_plain b) (list_all is_plain bs) h).1))
   where
     by : (x : Bool) (o : Option (List ℕ)) → o ≡ None → (if x then o else None) ≡ None
     by true o e = e
@@ -102,7 +106,8 @@ no_tag line h = no_bracket (behind is_gap line) (plain_drop (prefix_len is_gap l
 quiet : (s : Seen) (line : List ℕ) → list_all is_plain line ≡ true → begins_game s (kind_of line) ≡ false
 unfolding kind_of
 quiet s line h =
-    ap (λ (o : Option (List ℕ)). begins_game s (if is_remark line then Silent else kind_named line o)) (no_tag line h) ∙ by (is_remark line) (list_all is_blank line)
+    ap (λ (o : Option (List ℕ)). begins_game s (if is_remark line then Silent else kind_named line o)) (no_tag line h)
+    ∙ by (is_remark line) (list_all is_blank line)
   where
     by : (x y : Bool) → begins_game s (if x then Silent else (if y then Silent else Moves)) ≡ false
     by true y = refl
@@ -128,24 +133,28 @@ line_added : (n : ℕ) (g : Begun) (line : List ℕ) (lines : List (List ℕ)) �
     → games_from n (Some g) (line ∷ lines) ≡ games_from (one_more n) (Some (with_line g line (kind_of line))) lines
 line_added n g line lines le e =
     let next = λ (l : List ℕ). λ (begins : Bool).
-    if begins then game_at_hand (Some g) ++ games_from (one_more n) (first_line n l (kind_of l)) lines else games_from (one_more n) (taken_to n (Some g) l (kind_of l)) lines in
+    if begins then game_at_hand (Some g) ++ games_from (one_more n) (first_line n l (kind_of l)) lines else games_from (one_more n)
+    (taken_to n (Some g) l (kind_of l)) lines in
     ap (λ (l : List ℕ). next l (begins_game g.seen (kind_of l))) (no_mark n line le) ∙ ap (next line) e
 
 -- a line of a tag Event begins the first game
 game_begun : (n : ℕ) (line : List ℕ) (lines : List (List ℕ)) → unmarked n line ≡ line → kind_of line ≡ EventTag
     → games_from n None (line ∷ lines) ≡ games_from (one_more n) (Some (begun_by n line EventTag)) lines
 game_begun n line lines e k =
-    ap (λ (l : List ℕ). games_from (one_more n) (first_line n l (kind_of l)) lines) e ∙ ap (λ (x : LineKind). games_from (one_more n) (first_line n line x) lines) k
+    ap (λ (l : List ℕ). games_from (one_more n) (first_line n l (kind_of l)) lines) e
+    ∙ ap (λ (x : LineKind). games_from (one_more n) (first_line n line x) lines) k
 
 -- and it ends a game that has moves
 game_ended : (n : ℕ) (g : Begun) (line : List ℕ) (lines : List (List ℕ)) → 2 ≤ n → kind_of line ≡ EventTag → g.seen.moves ≡ true
     → games_from n (Some g) (line ∷ lines) ≡ g.game ∷ games_from n None (line ∷ lines)
 game_ended n g line lines le k moves =
     let next = λ (l : List ℕ). λ (x : LineKind).
-    if begins_game g.seen x then game_at_hand (Some g) ++ games_from (one_more n) (first_line n l x) lines else games_from (one_more n) (taken_to n (Some g) l x) lines in
+    if begins_game g.seen x then game_at_hand (Some g) ++ games_from (one_more n) (first_line n l x) lines else games_from (one_more n)
+    (taken_to n (Some g) l x) lines in
     let yes : begins_game g.seen EventTag ≡ true = rw moves refl in
     ap (λ (l : List ℕ). next l (kind_of l)) (no_mark n line le) ∙ ap (next line) k
-    ∙ ap (λ (b : Bool). if b then g.game ∷ games_from (one_more n) (first_line n line EventTag) lines else games_from (one_more n) (taken_to n (Some g) line EventTag) lines) yes
+    ∙ ap (λ (b : Bool). if b then g.game ∷ games_from (one_more n) (first_line n line EventTag) lines else games_from (one_more n)
+    (taken_to n (Some g) line EventTag) lines) yes
     ∙ ap (λ (gs : List Game). g.game ∷ gs) (sym (game_begun n line lines (no_mark n line le) k))
 
 -- ---- lines of moves
@@ -194,7 +203,15 @@ behind_line : (n : ℕ) (g : Begun) (t line : List ℕ) (lines : List (List ℕ)
 behind_line n g t line lines u rest late text plain few moves later =
     let h = with_line g line (kind_of line) in
     let r = later (one_more n) h (behind_one n (omega (arith, late))) (bytes_kept g.game.text t line text few) (then_moves g line moves) in
-    record { next = r.next; late = r.late; at_hand = r.at_hand; text = r.text; seen = r.seen; is = line_added n g line lines late (quiet g.seen line plain) ∙ r.is }
+    record {
+      next = r.next;
+      late = r.late;
+      at_hand = r.at_hand;
+      text = r.text;
+      seen = r.seen;
+      is = line_added n g line lines late (quiet g.seen line plain)
+          ∙ r.is;
+    }
 
 moves_behind : (text : List ℕ) (n : ℕ) (g : Begun) (t line rest : List ℕ) → 2 ≤ n → g.game.text ≡ Some t → list_all is_plain (line ++ text) ≡ true
     → length t + (length line + length text) < 1048576 → HasMoves g (line ++ (text ++ 10 ∷ []))
@@ -271,7 +288,14 @@ tag_line_is name t feeds six prints few =
       feeds = feeds_append (codes "[") (name ++ (codes " \"" ++ (v ++ codes "\"]"))) refl
           (feeds_append name (codes " \"" ++ (v ++ codes "\"]")) feeds
           (feeds_append (codes " \"") (v ++ codes "\"]") refl (feeds_append v (codes "\"]") (escaped_feeds t prints) refl)));
-      few = omega (arith, leb-true (length name) 6 six, few, escaped_few t, length-append name (codes " \"" ++ (v ++ codes "\"]")), length-append v (codes "\"]"));
+      few = omega (
+        arith,
+        leb-true (length name) 6 six,
+        few,
+        escaped_few t,
+        length-append name (codes " \"" ++ (v ++ codes "\"]")),
+        length-append v (codes "\"]"),
+      );
     }
   where
     regroup : (a b : List ℕ) → codes "[" ++ (a ++ (codes " \"" ++ (b ++ codes "\"]\n"))) ≡ (codes "[" ++ (a ++ (codes " \"" ++ (b ++ codes "\"]")))) ++ 10 ∷ []
@@ -299,7 +323,8 @@ tags_behind (p ∷ ps) n g t rest h late is seen few =
     let kept : begins_game g.seen (kind_of line) ≡ false = ap (begins_game g.seen) h.0.1 ∙ seen in
     let next = with_line g line (kind_of line) in
     let same : next.seen.moves ≡ false = ap (λ (k : LineKind). (seen_then g.seen k).moves) h.0.1 ∙ seen in
-    let r = tags_behind ps (one_more n) next (t ++ line) rest h.1 (behind_one n (omega (arith, late))) (bytes_kept g.game.text t line is (omega (arith, few, long))) same
+    let r = tags_behind ps (one_more n) next (t ++ line) rest h.1 (behind_one n (omega (arith, late)))
+    (bytes_kept g.game.text t line is (omega (arith, few, long))) same
     (omega (arith, few, long, length-append t line)) in
     record {
       next = r.next;
@@ -364,7 +389,8 @@ event_of s = text_or_unknown name_of.Event (tag_of s.tags name_of.Event)
 abbrev others : Study Mark → List Named
 others s =
     (codes "Site", text_or_unknown name_of.Site (tag_of s.tags name_of.Site)) ∷ (codes "Date", text_or_unknown name_of.Date (tag_of s.tags name_of.Date))
-    ∷ (codes "Round", text_or_unknown name_of.Round (tag_of s.tags name_of.Round)) ∷ (codes "White", text_or_unknown name_of.White (tag_of s.tags name_of.White))
+    ∷ (codes "Round", text_or_unknown name_of.Round (tag_of s.tags name_of.Round))
+    ∷ (codes "White", text_or_unknown name_of.White (tag_of s.tags name_of.White))
     ∷ (codes "Black", text_or_unknown name_of.Black (tag_of s.tags name_of.Black)) ∷ (codes "Result", result_text s.start.position.to_move s.tree.label.value)
     ∷ (codes "FEN", fen_text s.start) ∷ (codes "SetUp", codes "1") ∷ []
 
@@ -420,7 +446,8 @@ text_is : (s : Study Mark) → pgn_text s ≡ tag_line (codes "Event") (event_of
 unfolding text_behind
 text_is s = header_is s
 
-followed_is : (s : Study Mark) (rest : List ℕ) → pgn_text s ++ rest ≡ tag_line (codes "Event") (event_of s) ++ written (others s) (10 ∷ (moves_of s ++ 10 ∷ rest))
+followed_is : (s : Study Mark) (rest : List ℕ) → pgn_text s ++ rest ≡ tag_line (codes "Event") (event_of s)
+    ++ written (others s) (10 ∷ (moves_of s ++ 10 ∷ rest))
 followed_is s rest =
     let behind = 10 ∷ (moves_of s ++ 10 ∷ []) in
     ap (λ (x : List ℕ). x ++ rest) (text_is s) ∙ append_assoc (tag_line (codes "Event") (event_of s)) (written (others s) behind) rest
@@ -443,7 +470,15 @@ unfolding kind_of tag_name
 empty_behind n g t more u rest late text seen few later =
     let h = with_line g (10 ∷ []) (kind_of (10 ∷ [])) in
     let r = later (one_more n) h (behind_one n (omega (arith, late))) (bytes_kept g.game.text t (10 ∷ []) text (omega (arith, few))) seen in
-    record { next = r.next; late = r.late; at_hand = r.at_hand; text = r.text; seen = r.seen; is = line_added n g (10 ∷ []) (lines_behind [] more) late refl ∙ r.is }
+    record {
+      next = r.next;
+      late = r.late;
+      at_hand = r.at_hand;
+      text = r.text;
+      seen = r.seen;
+      is = line_added n g (10 ∷ []) (lines_behind [] more) late refl
+          ∙ r.is;
+    }
 
 -- the first line, and the game after all lines
 record CutOff (s : Study Mark) (n : ℕ) (rest : List ℕ) : Type 0 where
@@ -471,7 +506,8 @@ cut_off s c n rest one =
     let whole : (head ++ 10 ∷ []) ++ (moves_of s ++ 10 ∷ []) ≡ pgn_text s =
     append_assoc head (10 ∷ []) (moves_of s ++ 10 ∷ []) ∙ append_assoc event (written (others s) []) (10 ∷ (moves_of s ++ 10 ∷ []))
     ∙ ap (λ (x : List ℕ). event ++ x) (sym (written_append (others s) [] (10 ∷ (moves_of s ++ 10 ∷ [])))) ∙ sym (text_is s) in
-    let moves = empty_behind header.next header.at_hand head more ((head ++ 10 ∷ []) ++ (moves_of s ++ 10 ∷ [])) rest header.late header.text header.seen (omega (arith, few))
+    let moves = empty_behind header.next header.at_hand head more ((head ++ 10 ∷ []) ++ (moves_of s ++ 10 ∷ [])) rest header.late header.text header.seen
+    (omega (arith, few))
     (λ next h late text seen. moves_behind (moves_of s) next h (head ++ 10 ∷ []) [] rest late text piece.plain
     (omega (arith, few, piece.few, length-append head (10 ∷ []))) (inr (subst Brace (sym o.text) refl))) in
     record {
@@ -525,7 +561,8 @@ unfolding games_of
 texts_cut ss h = all_cut ss 1 h (omega arith)
 
 -- the study of each text
-studies_of : (ss : List (Study Mark)) → AllByRecursion CanBeMade ss → map (study_of_game None) (map (λ s. Some (pgn_text s)) ss) ≡ map (λ s. Some (unmarked_study s)) ss
+studies_of : (ss : List (Study Mark)) → AllByRecursion CanBeMade ss
+    → map (study_of_game None) (map (λ s. Some (pgn_text s)) ss) ≡ map (λ s. Some (unmarked_study s)) ss
 studies_of [] h = refl
 studies_of (s ∷ ss) h =
     ap (λ (o : Option PlainStudy). o ∷ map (study_of_game None) (map (λ t. Some (pgn_text t)) ss)) (read_back s h.0)

@@ -7,7 +7,7 @@ use Rattle.study_import.specs.Blocks.{blocks, last_line}
 use Rattle.study_import.specs.Imported.{Held, nothing_held, script_of, tally_of, still_written, still_tallied, tally_behind, tally_then, text_at_hand}
 
 pub written_at_end : (h : Held) (begun : Option Begun)
-    → blocks h.choice h.tally (game_at_hand begun) ≡ text_at_hand h begun ++ last_line (tally_then h begun).told (tally_then h begun).studies
+    → blocks h.choice h.tally (game_at_hand begun) ≡ text_at_hand h begun ++ last_line (tally_then h begun).reported (tally_then h begun).studies
 written_at_end h None = refl
 written_at_end h (Some g) = refl
 

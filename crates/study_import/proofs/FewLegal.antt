@@ -1,5 +1,6 @@
 -- A position has at most 62 legal moves.
-use Rattle.std.proofs.Common.{◌≡◌, ℕ, zero, suc, ◌+◌, ◌<◌, ◌≤◌, Bool, true, false, cond, eqb, List, [], ◌∷◌, ◌++◌, length, get_or, drop, Option, Some, None, refl, sym, ap, ◌∙◌, subst, inl, inr, arith, add-zero}
+use Rattle.std.proofs.Common.{◌≡◌, ℕ, zero, suc, ◌+◌, ◌<◌, ◌≤◌, Bool, true, false, cond, eqb, List, [], ◌∷◌, ◌++◌, length, get_or, drop, Option, Some}
+use Rattle.std.proofs.Common.{None, refl, sym, ap, ◌∙◌, subst, inl, inr, arith, add-zero}
 use Rattle.std.specs.Prelude.{filter}
 use Rattle.std.specs.List.{flat_map, range_with_len}
 use Rattle.std.specs.Option.{option_map_or}
@@ -109,7 +110,8 @@ module _ (p : Position) (man : Man) (here : man_at p.men man.at ≡ Some man) wh
 
   square_few : (x : ℕ) → passing (is_legal p) (moves_between man.at x) ≤ cond (reaches_last_rank man x) 4 1
   square_few x =
-      between_le (is_legal p) man.at x _ _ _ _ _ _ (chosen x None) (chosen x (Some Queen)) (chosen x (Some Rook)) (chosen x (Some Bishop)) (chosen x (Some Knight))
+      between_le (is_legal p) man.at x _ _ _ _ _ _ (chosen x None) (chosen x (Some Queen)) (chosen x (Some Rook)) (chosen x (Some Bishop))
+      (chosen x (Some Knight))
       (by_choice (reaches_last_rank man x))
 
   square_more : (x : ℕ) → passing (is_legal p) (moves_between man.at x) + moves_below man.side man.kind man.at x ≤ moves_below man.side man.kind man.at (x + 1)
@@ -231,5 +233,7 @@ module _ (p : Position) (valid : IsValid p) where
   pub few_legal : length (legal_list p) ≤ 62
   unfolding legal_list
   few_legal =
-      five (length (filter (is_legal p) all_moves)) (passing (is_legal p) all_moves) (weights p.to_move p.men 0 64) (masses p.to_move p.men) (most_of p.to_move p.men)
-      (length-filter (is_legal p) all_moves) all_few (weights-le p.to_move p.men 0 64) (masses-le p.to_move p.men (length p.men) 0 (omega arith)) (most_of-valid p valid)
+      five (length (filter (is_legal p) all_moves)) (passing (is_legal p) all_moves) (weights p.to_move p.men 0 64) (masses p.to_move p.men)
+      (most_of p.to_move p.men)
+      (length-filter (is_legal p) all_moves) all_few (weights-le p.to_move p.men 0 64) (masses-le p.to_move p.men (length p.men) 0 (omega arith))
+      (most_of-valid p valid)

@@ -1,5 +1,6 @@
 -- The header of a study is read back.
-use Rattle.std.proofs.Common.{◌≡◌, ℕ, suc, ◌+◌, ◌≤◌, Bool, true, false, List, [], ◌∷◌, ◌++◌, length, drop, map, Option, Some, None, Ok, Err, refl, sym, ap, subst, ◌∙◌, inl, inr, arith, append_assoc, add-zero}
+use Rattle.std.proofs.Common.{◌≡◌, ℕ, suc, ◌+◌, ◌≤◌, Bool, true, false, List, [], ◌∷◌, ◌++◌, length, drop, map, Option, Some, None, Ok, Err, refl}
+use Rattle.std.proofs.Common.{sym, ap, subst, ◌∙◌, inl, inr, arith, append_assoc, add-zero}
 use Rattle.std.specs.Prelude.{◌==◌, ◌||◌, nat_le, codes, if◌then◌else◌}
 use Rattle.std.specs.List.{list_all, flat_map}
 use Rattle.std.proofs.lemmas.Bool.{cases_Bool, ne_eqb, and_parts, or_parts, leb-true}
@@ -83,23 +84,29 @@ value_behind : (rest : List ℕ) → behind_value (34 ∷ 93 ∷ rest) ≡ rest
 unfolding behind_value
 value_behind rest = refl
 
-valued_is : (name text rest : List ℕ) → Prints text → valued name (flat_map escaped text ++ (34 ∷ 93 ∷ rest)) (value_end 0 false (flat_map escaped text ++ (34 ∷ 93 ∷ rest)))
+valued_is : (name text rest : List ℕ) → Prints text
+    → valued name (flat_map escaped text ++ (34 ∷ 93 ∷ rest)) (value_end 0 false (flat_map escaped text ++ (34 ∷ 93 ∷ rest)))
     ≡ Ok (tag name (flat_map escaped text), rest)
 valued_is name text rest h =
     let v = flat_map escaped text in
     let n : 0 + length v ≡ length v = omega arith in
     ap (valued name (v ++ (34 ∷ 93 ∷ rest))) (end_is text rest 0 h ∙ ap (λ (k : ℕ). Some k) n)
     ∙ ap (λ (t : List ℕ). Ok (tag name t, behind_value (drop (length v) (v ++ (34 ∷ 93 ∷ rest))))) (take_at v (34 ∷ 93 ∷ rest) (length v) refl)
-    ∙ ap (λ (t : List ℕ). Ok (tag name v, behind_value t)) (drop_at v (34 ∷ 93 ∷ rest) (length v) refl) ∙ ap (λ (t : List ℕ). Ok (tag name v, t)) (value_behind rest)
+    ∙ ap (λ (t : List ℕ). Ok (tag name v, behind_value t)) (drop_at v (34 ∷ 93 ∷ rest) (length v) refl)
+    ∙ ap (λ (t : List ℕ). Ok (tag name v, t)) (value_behind rest)
 
-quoted_is : (name text rest : List ℕ) → Prints text → quoted name (34 ∷ (flat_map escaped text ++ (34 ∷ 93 ∷ rest))) ≡ Ok (tag name (flat_map escaped text), rest)
+quoted_is : (name text rest : List ℕ) → Prints text → quoted name (34 ∷ (flat_map escaped text ++ (34 ∷ 93 ∷ rest))) ≡ Ok (
+  tag name (flat_map escaped text),
+  rest,
+)
 quoted_is name text rest h = valued_is name text rest h
 
 named_by : (b : ℕ) (bs : List ℕ) → is_letter b ≡ true → named (b ∷ bs) ≡ quoted (front is_name_byte (b ∷ bs)) (behind is_gap (behind is_name_byte (b ∷ bs)))
 named_by b bs h =
     ap (λ (c : Bool). if c then quoted (front is_name_byte (b ∷ bs)) (behind is_gap (behind is_name_byte (b ∷ bs))) else Err TagForm) h
 
-named_is : (name text rest : List ℕ) (is : IsName name) → Prints text → named (is.first ∷ (is.more ++ (32 ∷ 34 ∷ (flat_map escaped text ++ (34 ∷ 93 ∷ rest))))) ≡ Ok (tag name (flat_map escaped text), rest)
+named_is : (name text rest : List ℕ) (is : IsName name) → Prints text
+    → named (is.first ∷ (is.more ++ (32 ∷ 34 ∷ (flat_map escaped text ++ (34 ∷ 93 ∷ rest))))) ≡ Ok (tag name (flat_map escaped text), rest)
 named_is name text rest is h =
     let after_name = 32 ∷ 34 ∷ (flat_map escaped text ++ (34 ∷ 93 ∷ rest)) in
     let all : list_all is_name_byte (is.first ∷ is.more) ≡ true = subst (λ (t : List ℕ). list_all is_name_byte t ≡ true) is.text is.all in
@@ -110,11 +117,13 @@ named_is name text rest is h =
     ∙ ap (λ (t : List ℕ). quoted (is.first ∷ is.more) (behind is_gap t)) cut.1 ∙ ap (quoted (is.first ∷ is.more)) gap.1
     ∙ quoted_is (is.first ∷ is.more) text rest h ∙ ap (λ (t : List ℕ). Ok (tag t (flat_map escaped text), rest)) (sym is.text)
 
-tag_is : (name text rest : List ℕ) → IsName name → Prints text → tag_at (name ++ (32 ∷ 34 ∷ (flat_map escaped text ++ (34 ∷ 93 ∷ rest)))) ≡ Ok (tag name (flat_map escaped text), rest)
+tag_is : (name text rest : List ℕ) → IsName name → Prints text → tag_at (name ++ (32 ∷ 34 ∷ (flat_map escaped text ++ (34 ∷ 93 ∷ rest)))) ≡ Ok
+    (tag name (flat_map escaped text), rest)
 unfolding tag_at
 tag_is name text rest is h =
     let after_name = 32 ∷ 34 ∷ (flat_map escaped text ++ (34 ∷ 93 ∷ rest)) in
-    ap (λ (t : List ℕ). named (behind is_gap (t ++ after_name))) is.text ∙ ap named (name_stop is.first (is.more ++ after_name) is.gap) ∙ named_is name text rest is h
+    ap (λ (t : List ℕ). named (behind is_gap (t ++ after_name))) is.text ∙ ap named (name_stop is.first (is.more ++ after_name) is.gap)
+    ∙ named_is name text rest is h
 
 lexed_bracket : (bs : List ℕ) (fresh : Bool) → lexed fresh 91 bs ≡ tag_at bs
 unfolding lexed
@@ -140,17 +149,21 @@ fault_from fresh text = fault_in (length text) fresh text
 
 on_tags : (fresh : Bool) (b : ℕ) (bs : List ℕ) → tags_from fresh (b ∷ bs) ≡ with_tags (λ rest. tags_from (b == 10) rest) (step_of (lexed fresh b bs))
 on_tags fresh b bs =
-    same_tags (tags_in (length bs) (b == 10)) (λ rest. tags_from (b == 10) rest) (length bs) (step_of (lexed fresh b bs)) (within_step (length bs) (lexed fresh b bs) (within_lexed fresh b bs))
+    same_tags (tags_in (length bs) (b == 10)) (λ rest. tags_from (b == 10) rest) (length bs) (step_of (lexed fresh b bs))
+    (within_step (length bs) (lexed fresh b bs) (within_lexed fresh b bs))
     (λ rest le. tags_same (length bs) (length rest) (b == 10) rest le (omega arith))
 
-on_fault : (fresh : Bool) (b : ℕ) (bs : List ℕ) → fault_from fresh (b ∷ bs) ≡ with_fault (λ rest. fault_from (b == 10) rest) (length (b ∷ bs)) (step_of (lexed fresh b bs))
+on_fault : (fresh : Bool) (b : ℕ) (bs : List ℕ) → fault_from fresh (b ∷ bs) ≡ with_fault (λ rest. fault_from (b == 10) rest) (length (b ∷ bs))
+    (step_of (lexed fresh b bs))
 on_fault fresh b bs =
     same_fault (fault_in (length bs) (b == 10)) (λ rest. fault_from (b == 10) rest) (length (b ∷ bs)) (length bs) (step_of (lexed fresh b bs))
     (within_step (length bs) (lexed fresh b bs) (within_lexed fresh b bs)) (λ rest le. fault_same (length bs) (length rest) (b == 10) rest le (omega arith))
 
-pub tags_step : (fresh : Bool) (b : ℕ) (bs rest : List ℕ) (t : Token) (pair : Option Pair) → lexed fresh b bs ≡ Ok (t, rest) → step_of (Ok (t, rest)) ≡ on pair rest
+pub tags_step : (fresh : Bool) (b : ℕ) (bs rest : List ℕ) (t : Token) (pair : Option Pair) → lexed fresh b bs ≡ Ok (t, rest)
+    → step_of (Ok (t, rest)) ≡ on pair rest
     → tags_from fresh (b ∷ bs) ≡ with_tags (λ r. tags_from (b == 10) r) (on pair rest)
-tags_step fresh b bs rest t pair e k = on_tags fresh b bs ∙ ap (λ (x : Lexed). with_tags (λ r. tags_from (b == 10) r) (step_of x)) e ∙ ap (with_tags (λ r. tags_from (b == 10) r)) k
+tags_step fresh b bs rest t pair e k = on_tags fresh b bs ∙ ap (λ (x : Lexed). with_tags (λ r. tags_from (b == 10) r) (step_of x)) e
+    ∙ ap (with_tags (λ r. tags_from (b == 10) r)) k
 
 pub fault_step : (fresh : Bool) (b : ℕ) (bs rest : List ℕ) (t : Token) (s : Step) → lexed fresh b bs ≡ Ok (t, rest) → step_of (Ok (t, rest)) ≡ s
     → fault_from fresh (b ∷ bs) ≡ with_fault (λ r. fault_from (b == 10) r) (length (b ∷ bs)) s

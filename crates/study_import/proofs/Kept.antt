@@ -13,7 +13,8 @@ use Rattle.study_import.specs.Movetext.{Ended, goes_on, game_numbered, with_numb
 
 module _ (P : GameRead → Type 0) (numbers : (g : GameRead) (s : Numbering) → P g → P (with_numbering g s))
     (step : (g : GameRead) (token : Token) (t : GameTaken) → P g → game_taken g token ≡ Ok t → P t.game) where
-  kept_end : (g : GameRead) (x : Ended) (none : Bool) → P g → (if none then Ok (record { game = g; behind = [] }) else fault_at stop.OpenVariation 0) ≡ Ok x → P x.game
+  kept_end : (g : GameRead) (x : Ended) (none : Bool) → P g → (if none then Ok (record { game = g; behind = [] }) else fault_at stop.OpenVariation 0) ≡ Ok x
+      → P x.game
   kept_end g x true h e = let is : record { game = g; behind = [] } ≡ x = cc in subst (λ (z : Ended). P z.game) is h
   kept_end g x false h e = absurd cc
 
@@ -27,7 +28,8 @@ module _ (P : GameRead → Type 0) (numbers : (g : GameRead) (s : Numbering) →
   kept_on next g left behind x (Err why) f k e = absurd cc
   kept_on next g left behind x (Ok t) f k e = kept_or next t behind x t.ended (f t refl) k e
 
-  kept_numbered : (next : GameRead → Result Ended MovesFault) (g : GameRead) (left : ℕ) (token : Token) (behind : List ℕ) (x : Ended) (s : Option Numbering) → P g
+  kept_numbered : (next : GameRead → Result Ended MovesFault) (g : GameRead) (left : ℕ) (token : Token) (behind : List ℕ) (x : Ended) (s : Option Numbering)
+      → P g
       → ((h : GameRead) → P h → next h ≡ Ok x → P x.game) → on_numbered next left g token behind s ≡ Ok x → P x.game
   kept_numbered next g left token behind x None h k e = absurd cc
   kept_numbered next g left token behind x (Some s) h k e =
@@ -49,17 +51,20 @@ module _ (P : GameRead → Type 0) (numbers : (g : GameRead) (s : Numbering) →
   module _ (Q : Stop → Type 0) (open_line : Q stop.OpenVariation) (no_token : (fault : TokenFault) → Q (stop.Token fault)) (no_number : Q stop.Numbering)
       (taking : (g : GameRead) (token : Token) (why : Reason) → P g → game_taken g token ≡ Err why → Q (stop.Taking why)) where
     stops_at : (why : Stop) (left : ℕ) (fault : MovesFault) → Q why → fault_at why left ≡ Err fault → Q fault.why
-    stops_at why left fault h e = let is : record { why = why; left = left } ≡ fault = err_is (record { why = why; left = left }) fault e in subst (λ (z : MovesFault). Q z.why) is h
+    stops_at why left fault h e = let is : record { why = why; left = left } ≡ fault = err_is (record { why = why; left = left }) fault e in
+        subst (λ (z : MovesFault). Q z.why) is h
       where
         err_is : (x y : MovesFault) → ◌≡◌ {A = Result Ended MovesFault} (Err x) (Err y) → x ≡ y
         err_is x y e = cc
 
-    stops_end : (g : GameRead) (fault : MovesFault) (none : Bool) → (if none then Ok (record { game = g; behind = [] }) else fault_at stop.OpenVariation 0) ≡ Err fault → Q fault.why
+    stops_end : (g : GameRead) (fault : MovesFault) (none : Bool)
+        → (if none then Ok (record { game = g; behind = [] }) else fault_at stop.OpenVariation 0) ≡ Err fault → Q fault.why
     stops_end g fault true e = absurd cc
     stops_end g fault false e = stops_at stop.OpenVariation 0 fault open_line e
 
     stops_or : (next : GameRead → Result Ended MovesFault) (t : GameTaken) (behind : List ℕ) (fault : MovesFault) (ended : Bool) → P t.game
-        → ((h : GameRead) → P h → next h ≡ Err fault → Q fault.why) → (if ended then Ok (record { game = t.game; behind = behind }) else next t.game) ≡ Err fault → Q fault.why
+        → ((h : GameRead) → P h → next h ≡ Err fault → Q fault.why) → (if ended then Ok (record { game = t.game; behind = behind }) else next t.game) ≡ Err
+        fault → Q fault.why
     stops_or next t behind fault true h f e = absurd cc
     stops_or next t behind fault false h f e = f t.game h e
 
@@ -69,7 +74,8 @@ module _ (P : GameRead → Type 0) (numbers : (g : GameRead) (s : Numbering) →
     stops_on next g left behind fault (Err why) f r k e = stops_at (stop.Taking why) left fault (r why refl) e
     stops_on next g left behind fault (Ok t) f r k e = stops_or next t behind fault t.ended (f t refl) k e
 
-    stops_numbered : (next : GameRead → Result Ended MovesFault) (g : GameRead) (left : ℕ) (token : Token) (behind : List ℕ) (fault : MovesFault) (s : Option Numbering) → P g
+    stops_numbered : (next : GameRead → Result Ended MovesFault) (g : GameRead) (left : ℕ) (token : Token) (behind : List ℕ) (fault : MovesFault)
+        (s : Option Numbering) → P g
         → ((h : GameRead) → P h → next h ≡ Err fault → Q fault.why) → on_numbered next left g token behind s ≡ Err fault → Q fault.why
     stops_numbered next g left token behind fault None h k e = stops_at stop.Numbering left fault no_number e
     stops_numbered next g left token behind fault (Some s) h k e =

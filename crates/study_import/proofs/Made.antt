@@ -1,5 +1,6 @@
 -- The tree read from a game's moves is made by insertions.
-use Rattle.std.proofs.Common.{◌≡◌, ℕ, zero, suc, Bool, true, false, List, [], ◌∷◌, ◌++◌, length, Option, Some, None, Result, Ok, Err, refl, sym, ap, subst, ◌∙◌, append_assoc}
+use Rattle.std.proofs.Common.{◌≡◌, ℕ, zero, suc, Bool, true, false, List, [], ◌∷◌, ◌++◌, length, Option, Some, None, Result, Ok, Err, refl, sym, ap}
+use Rattle.std.proofs.Common.{subst, ◌∙◌, append_assoc}
 use Rattle.std.specs.Prelude.{◌==◌, IfOk, nat_le, nat_lt, codes, if◌then◌else◌}
 use Rattle.std.specs.List.{list_all}
 use Rattle.std.specs.Str.{bytes_eq}
@@ -50,7 +51,8 @@ lines-append : (s : PlainStudy) (xs ys : List Insertion) → lines_for s (xs ++ 
 lines-append s [] ys = refl
 lines-append s (i ∷ xs) ys =
     ap (λ (t : List ℕ). insert_line (position_at s i.0) i.0 (Some i.1) ++ t) (lines-append (with_insertion s i.0 i.1) xs ys)
-    ∙ sym (append_assoc (insert_line (position_at s i.0) i.0 (Some i.1)) (lines_for (with_insertion s i.0 i.1) xs) (lines_for (made_by (with_insertion s i.0 i.1) xs) ys))
+    ∙ sym (append_assoc (insert_line (position_at s i.0) i.0 (Some i.1)) (lines_for (with_insertion s i.0 i.1) xs)
+    (lines_for (made_by (with_insertion s i.0 i.1) xs) ys))
 
 accepted-append : (A : Type 0) (s : PlainStudy) (xs ys : List Insertion) → AllAccepted A s xs → AllAccepted A (made_by s xs) ys → AllAccepted A s (xs ++ ys)
 accepted-append A s [] ys h k = k
@@ -103,7 +105,10 @@ module _ (A : Type 0) where
   stepped_leads r m None true full a here legal ep ed ef e = absurd cc
   stepped_leads r m None false true a here legal ep ed ef e = absurd cc
   stepped_leads r m None false false a here legal ep ed ef e =
-      let is : record { study = with_insertion r.study r.lines.path m; step = record { place = children_at r.study.tree.below r.lines.path; added = Some m } } ≡ a = cc in
+      let is : record {
+        study = with_insertion r.study r.lines.path m;
+        step = record { place = children_at r.study.tree.below r.lines.path; added = Some m };
+      } ≡ a = cc in
       record {
         insertions = (r.lines.path, m) ∷ [];
         accepted = (refused_none r.study r.lines.path m here legal ep ed ef, tt);
@@ -182,7 +187,8 @@ module _ (A : Type 0) where
   sign_leads r t true e = null_leads r t e
   sign_leads r t false e = going r t e
 
-  move_leads : (r : Reading) (t : Taken) (x : Result Reading MoveFault) → ((now : Reading) → x ≡ Ok now → Leads A r now) → on_move x ≡ Ok t → Leads A r t.reading
+  move_leads : (r : Reading) (t : Taken) (x : Result Reading MoveFault) → ((now : Reading) → x ≡ Ok now → Leads A r now) → on_move x ≡ Ok t
+      → Leads A r t.reading
   move_leads r t (Err fault) f e = absurd cc
   move_leads r t (Ok now) f e =
       let is : record { reading = now; ended = false } ≡ t = cc in subst (λ (z : Taken). Leads A r z.reading) is (f now refl)

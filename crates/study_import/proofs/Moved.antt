@@ -81,40 +81,41 @@ module _ {A : Type 0} where
   ok_not_err r v e is was = let both : ◌≡◌ {A = Result ℕ (Refusal A)} (Ok v) (Err e) = sym is ∙ was in absurd cc
 
   module _ (s : PlainStudy) (at : List ℕ) (m : Move) (held : Class → Bool) (asked : List Position) (r : Result ℕ (Refusal A)) where
-    abbrev Told : Option ℕ → Bool → Bool → Type 0
-    Told place deep full = MatchOption (limits place deep full) (IfErr r (IsOutside held asked)) (λ f. r ≡ Err f)
+    abbrev Reported : Option ℕ → Bool → Bool → Type 0
+    Reported place deep full = MatchOption (limits place deep full) (IfErr r (IsOutside held asked)) (λ f. r ≡ Err f)
 
-    ok_steps : (place : Option ℕ) (deep full : Bool) (v : ℕ) → Told place deep full → r ≡ Ok v → v ≡ children_at s.tree.below at
+    ok_steps : (place : Option ℕ) (deep full : Bool) (v : ℕ) → Reported place deep full → r ≡ Ok v → v ≡ children_at s.tree.below at
         → stepped s at m place deep full ≡ Ok (record { study = with_insertion s at m; step = record { place = v; added = Some m } })
-    ok_steps (Some k) deep full v told is e = absurd (ok_not_err r v _ is told)
-    ok_steps None true full v told is e = absurd (ok_not_err r v _ is told)
-    ok_steps None false true v told is e = absurd (ok_not_err r v _ is told)
-    ok_steps None false false v told is e = rw e refl
+    ok_steps (Some k) deep full v reported is e = absurd (ok_not_err r v _ is reported)
+    ok_steps None true full v reported is e = absurd (ok_not_err r v _ is reported)
+    ok_steps None false true v reported is e = absurd (ok_not_err r v _ is reported)
+    ok_steps None false false v reported is e = rw e refl
 
-    there_steps : (place : Option ℕ) (deep full : Bool) (k : ℕ) → Told place deep full → r ≡ Err (refusal.AlreadyThere k)
+    there_steps : (place : Option ℕ) (deep full : Bool) (k : ℕ) → Reported place deep full → r ≡ Err (refusal.AlreadyThere k)
         → stepped s at m place deep full ≡ Ok (record { study = s; step = record { place = k; added = None } })
-    there_steps (Some j) deep full k told is = let same = err_is r _ _ told is in let e : j ≡ k = cc in rw e refl
-    there_steps None true full k told is = let same = err_is r _ _ told is in absurd cc
-    there_steps None false true k told is = let same = err_is r _ _ told is in absurd cc
-    there_steps None false false k told is = absurd (subst (λ (z : Result ℕ (Refusal A)). IfErr z (IsOutside held asked)) is told)
+    there_steps (Some j) deep full k reported is = let same = err_is r _ _ reported is in let e : j ≡ k = cc in rw e refl
+    there_steps None true full k reported is = let same = err_is r _ _ reported is in absurd cc
+    there_steps None false true k reported is = let same = err_is r _ _ reported is in absurd cc
+    there_steps None false false k reported is = absurd (subst (λ (z : Result ℕ (Refusal A)). IfErr z (IsOutside held asked)) is reported)
 
-    deep_steps : (place : Option ℕ) (deep full : Bool) → Told place deep full → r ≡ Err refusal.TooDeep → stepped s at m place deep full ≡ Err TooDeep
-    deep_steps (Some j) deep full told is = let same = err_is r _ _ told is in absurd cc
-    deep_steps None true full told is = refl
-    deep_steps None false true told is = let same = err_is r _ _ told is in absurd cc
-    deep_steps None false false told is = absurd (subst (λ (z : Result ℕ (Refusal A)). IfErr z (IsOutside held asked)) is told)
+    deep_steps : (place : Option ℕ) (deep full : Bool) → Reported place deep full → r ≡ Err refusal.TooDeep → stepped s at m place deep full ≡ Err TooDeep
+    deep_steps (Some j) deep full reported is = let same = err_is r _ _ reported is in absurd cc
+    deep_steps None true full reported is = refl
+    deep_steps None false true reported is = let same = err_is r _ _ reported is in absurd cc
+    deep_steps None false false reported is = absurd (subst (λ (z : Result ℕ (Refusal A)). IfErr z (IsOutside held asked)) is reported)
 
-    full_steps : (place : Option ℕ) (deep full : Bool) → Told place deep full → r ≡ Err refusal.TreeFull → stepped s at m place deep full ≡ Err TreeFull
-    full_steps (Some j) deep full told is = let same = err_is r _ _ told is in absurd cc
-    full_steps None true full told is = let same = err_is r _ _ told is in absurd cc
-    full_steps None false true told is = refl
-    full_steps None false false told is = absurd (subst (λ (z : Result ℕ (Refusal A)). IfErr z (IsOutside held asked)) is told)
+    full_steps : (place : Option ℕ) (deep full : Bool) → Reported place deep full → r ≡ Err refusal.TreeFull → stepped s at m place deep full ≡ Err TreeFull
+    full_steps (Some j) deep full reported is = let same = err_is r _ _ reported is in absurd cc
+    full_steps None true full reported is = let same = err_is r _ _ reported is in absurd cc
+    full_steps None false true reported is = refl
+    full_steps None false false reported is = absurd (subst (λ (z : Result ℕ (Refusal A)). IfErr z (IsOutside held asked)) is reported)
 
 module _ {L A : Type 0} where
   module _ (s : Study L) (at : List ℕ) (m : Move) (held : Class → Bool) (asked : List Position) (r : Result ℕ (Refusal A)) (here : has_spot s.tree at ≡ true)
       (legal : is_legal (position_at s at) m ≡ true)
       (answered : MatchOption (insert_refusal {A = A} (plain_study s) at m) (IfErr r (IsOutside held asked)) (λ f. r ≡ Err f)) where
-    plainly : Told (plain_study s) at m held asked r (place_at (plain_study s).tree.below at m) (nat_le 256 (length at)) (nat_le 4096 (size_of (plain_study s).tree))
+    plainly : Reported (plain_study s) at m held asked r (place_at (plain_study s).tree.below at m) (nat_le 256 (length at))
+        (nat_le 4096 (size_of (plain_study s).tree))
     plainly =
         subst (λ (x : Option (Refusal A)). MatchOption x (IfErr r (IsOutside held asked)) (λ f. r ≡ Err f))
         (refusal_is (plain_study s) at m (has_spot-plain s at ∙ here) (ap (λ (p : Position). is_legal p m) (position_at-plain s at) ∙ legal)) answered
@@ -171,16 +172,21 @@ module _ {L : Type 0} where
   unfolding moved
   nowhere s ks san e = rw (has_spot-plain s ks ∙ gone_at s ks (has_spot s.tree ks) e) refl
 
-  moved_is : (s : Study L) (ks san : List ℕ) (st : Start) (x : Result Move SanFault) → has_spot s.tree ks ≡ true → st.position ≡ position_at s ks → x ≡ move_of st.position san
+  moved_is : (s : Study L) (ks san : List ℕ) (st : Start) (x : Result Move SanFault) → has_spot s.tree ks ≡ true → st.position ≡ position_at s ks
+      → x ≡ move_of st.position san
       → moved (plain_study s) ks san ≡ met (plain_study s) ks x
   unfolding moved
-  moved_is s ks san st x is at e = rw (has_spot-plain s ks ∙ is) (ap (λ (p : Position). met (plain_study s) ks (move_of p san)) (position_at-plain s ks ∙ sym at) ∙ ap (met (plain_study s) ks) (sym e))
+  moved_is s ks san st x is at e = rw (has_spot-plain s ks ∙ is) (ap (λ (p : Position). met (plain_study s) ks (move_of p san)) (position_at-plain s ks
+      ∙ sym at) ∙ ap (met (plain_study s) ks) (sym e))
 
-  pub read_at : (s : Study L) (ks san : List ℕ) (m : Move) (st : Start) → has_spot s.tree ks ≡ true → st.position ≡ position_at s ks → Ok m ≡ move_of st.position san
-      → (r : Result Step MoveFault) (new : PlainStudy) → Comes r (plain_study s) new (moved_by (plain_study s) ks m) → Comes r (plain_study s) new (moved (plain_study s) ks san)
+  pub read_at : (s : Study L) (ks san : List ℕ) (m : Move) (st : Start) → has_spot s.tree ks ≡ true → st.position ≡ position_at s ks
+      → Ok m ≡ move_of st.position san
+      → (r : Result Step MoveFault) (new : PlainStudy) → Comes r (plain_study s) new (moved_by (plain_study s) ks m)
+      → Comes r (plain_study s) new (moved (plain_study s) ks san)
   read_at s ks san m st is at e r new h = subst (λ (x : Result After MoveFault). Comes r (plain_study s) new x) (sym (moved_is s ks san st (Ok m) is at e)) h
 
-  pub unread_at : (s : Study L) (ks san : List ℕ) (fault : SanFault) (st : Start) → has_spot s.tree ks ≡ true → st.position ≡ position_at s ks → Err fault ≡ move_of st.position san
+  pub unread_at : (s : Study L) (ks san : List ℕ) (fault : SanFault) (st : Start) → has_spot s.tree ks ≡ true → st.position ≡ position_at s ks
+      → Err fault ≡ move_of st.position san
       → moved (plain_study s) ks san ≡ Err (San fault)
   unread_at s ks san fault st is at e = moved_is s ks san st (Err fault) is at e
 

@@ -1,5 +1,6 @@
 -- A node of a study has at most 62 children.
-use Rattle.std.proofs.Common.{◌≡◌, ℕ, zero, suc, ◌<◌, ◌≤◌, Bool, true, false, List, [], ◌∷◌, length, Option, Some, None, refl, sym, ap, subst, ◌∙◌, inl, inr, arith}
+use Rattle.std.proofs.Common.{◌≡◌, ℕ, zero, suc, ◌<◌, ◌≤◌, Bool, true, false, List, [], ◌∷◌, length, Option, Some, None, refl, sym, ap, subst, ◌∙◌}
+use Rattle.std.proofs.Common.{inl, inr, arith}
 use Rattle.std.specs.Prelude.{not, nat_le, if◌then◌else◌}
 use Rattle.std.specs.Cmp.{IsEquivalence}
 use Rattle.std.specs.List.{AllByRecursion, IsDistinct}
@@ -120,7 +121,8 @@ module _ (A : Type 0) where
 
   pub is_open : (s : PlainStudy) (at : List ℕ) (m : Move) → insert_refusal {A = A} s at m ≡ None → IsOpen s at m
   is_open s at m e =
-      let o = open_by (has_spot s.tree at) (is_legal (position_at s at) m) (place_at s.tree.below at m) (nat_le 256 (length at)) (nat_le 4096 (size_of s.tree)) e in
+      let o = open_by (has_spot s.tree at) (is_legal (position_at s at) m) (place_at s.tree.below at m) (nat_le 256 (length at))
+      (nat_le 4096 (size_of s.tree)) e in
       record { found = o.0; legal = o.1; place = o.2; depth = leb-false 256 (length at) o.3 }
 
 -- a study whose nodes have few children

@@ -11,7 +11,7 @@ use Rattle.study_import.specs.declared.movetext.MovesFault.{MovesFault}
 use Rattle.study_import.specs.declared.movetext.Stop.{Stop}
 use Rattle.study_import.specs.declared.movetext.Stop.TheVariants as stop
 use Rattle.study_import.specs.Movetext.{Ended}
-use Rattle.study_import.specs.MovesRead.{IsTold}
+use Rattle.study_import.specs.MovesRead.{IsReported}
 use Rattle.study_import.specs.Behind.{is_of_moves, behind_fault, moves_or, moves_left, moves_in, ended_unless, to_the_end}
 use Rattle.study_import.proofs.Whole.{Within, behind_le, within_lexed}
 
@@ -77,7 +77,7 @@ none_behind (Err fault) x e = absurd cc
 none_behind (Ok y) x e = let is = unless_is y x (moves_in y.behind) e in sym (ap (λ (z : Ended). moves_in z.behind) is.1) ∙ is.0
 
 -- a fault before the end
-pub still_reported : (why : Stop) (expected : Result Ended MovesFault) (left : ℕ) → IsTold why expected left → IsTold why (to_the_end expected) left
+pub still_reported : (why : Stop) (expected : Result Ended MovesFault) (left : ℕ) → IsReported why expected left → IsReported why (to_the_end expected) left
 still_reported (stop.Taking (reason.Move move_fault.NoSuchNode)) expected left h = ap to_the_end h
 still_reported (stop.Taking (reason.Move (move_fault.San fault))) expected left h = ap to_the_end h
 still_reported (stop.Taking (reason.Move move_fault.TooDeep)) expected left h = ap to_the_end h
@@ -98,7 +98,8 @@ still_reported stop.BehindResult expected left h = ap to_the_end h
 module _ (Q : Stop → Type 0) (behind_result : Q stop.BehindResult) where
   stops_unless : (x : Ended) (o : Option ℕ) (fault : MovesFault) → ended_unless x o ≡ Err fault → Q fault.why
   stops_unless x None fault e = absurd cc
-  stops_unless x (Some left) fault e = let is : record { why = stop.BehindResult; left = left } ≡ fault = cc in subst (λ (z : MovesFault). Q z.why) is behind_result
+  stops_unless x (Some left) fault e = let is : record { why = stop.BehindResult; left = left } ≡ fault = cc in
+      subst (λ (z : MovesFault). Q z.why) is behind_result
 
   pub stops_at_end : (r : Result Ended MovesFault) (fault : MovesFault) → ((f : MovesFault) → r ≡ Err f → Q f.why) → to_the_end r ≡ Err fault → Q fault.why
   stops_at_end (Err f) fault h e = let is : f ≡ fault = cc in subst (λ (z : MovesFault). Q z.why) is (h f refl)

@@ -1,5 +1,6 @@
 -- The numbers of moves.
-use Rattle.std.proofs.Common.{◌≡◌, ℕ, zero, suc, ◌+◌, ◌%◌, ◌^◌, ◌<◌, ◌≤◌, Bool, true, false, not, List, [], ◌∷◌, ◌++◌, length, Option, Some, None, refl, sym, ap, subst, ◌∙◌, ◌⊎◌, inl, inr, arith}
+use Rattle.std.proofs.Common.{◌≡◌, ℕ, zero, suc, ◌+◌, ◌%◌, ◌^◌, ◌<◌, ◌≤◌, Bool, true, false, not, List, [], ◌∷◌, ◌++◌, length, Option, Some, None}
+use Rattle.std.proofs.Common.{refl, sym, ap, subst, ◌∙◌, ◌⊎◌, inl, inr, arith}
 use Rattle.std.specs.Prelude.{◌||◌, nat_le, decimal}
 use Rattle.std.specs.List.{list_all}
 use Rattle.std.specs.Char.{digit_value}
@@ -16,7 +17,7 @@ use Rattle.study_moves.specs.declared.moves.Move.{Move}
 use Rattle.study_moves.specs.Rules.{is_legal, after}
 use Rattle.study_moves.proofs.NoMoveBetween.{HasMover-from_is_legal}
 use Rattle.study_notation.specs.declared.start.Start.{Start}
-use Rattle.study_notation.specs.Fen.{is_digit, digits_told}
+use Rattle.study_notation.specs.Fen.{is_digit, digits_parsed}
 use Rattle.study_notation.specs.StartAfter.{number_after, start_after}
 use Rattle.study_pgn.specs.Moves.{move_dots}
 use Rattle.study_games.specs.Bytes.{is_blank, begins_symbol}
@@ -49,8 +50,8 @@ digits_from : (ds : List ℕ) → AllDigits 10 ds → list_all is_digit ds ≡ t
 digits_from [] h = refl
 digits_from (c ∷ ds) h = and_from (is_digit c) (list_all is_digit ds) (digit_from c h.0) (digits_from ds h.1)
 
-told_again : (n : ℕ) → n ≤ 99999 → digits_told 9 (decimal n) ≡ Some n
-told_again n le =
+reported_again : (n : ℕ) → n ≤ 99999 → digits_parsed 9 (decimal n) ≡ Some n
+reported_again n le =
     let is = decimal_is_IsNumeral n (omega arith) in
     let long : nat_le 1 (length (decimal n)) ≡ true = le-leb 1 (length (decimal n)) (decimal_nonempty n (omega arith)) in
     let few = length-decimal-le 5 n (omega arith) (omega arith) (omega arith) in
@@ -112,7 +113,8 @@ other_after : (p : Position) (m : Move) → is_legal p m ≡ true → (after p m
 unfolding after
 other_after p m legal = let h = HasMover-from_is_legal p m legal in rw h.here refl
 
-pub counted_on : (start : Start) (d : ℕ) (st : Start) (m : Move) → Counted start d st → is_legal st.position m ≡ true → d < 256 → Counted start (d + 1) (start_after st m)
+pub counted_on : (start : Start) (d : ℕ) (st : Start) (m : Move) → Counted start d st → is_legal st.position m ≡ true → d < 256
+    → Counted start (d + 1) (start_after st m)
 unfolding start_after
 counted_on start d st m c legal lt =
     let side = start.position.to_move in
@@ -186,7 +188,8 @@ numbered_again : (start : Start) (o : Option MoveNumber) (dots : Bool) (n : Move
 numbered_again start None dots n h k marked = (record { first = Some n }, rw marked refl, k)
 numbered_again start (Some first) dots n h k marked = (record { first = Some first }, rw (marked, fit_again start first n h k) refl, h)
 
-pub number_fits : (start : Start) (d : ℕ) (st : Start) (s : Numbering) (rest : List ℕ) → Counted start d st → d < 256 → IsFirst start s.first → has_dot rest ≡ false
+pub number_fits : (start : Start) (d : ℕ) (st : Start) (s : Numbering) (rest : List ℕ) → Counted start d st → d < 256 → IsFirst start s.first
+    → has_dot rest ≡ false
     → Fits start d s (decimal st.number) (move_dots st.position.to_move ++ rest)
 unfolding digits_numbered
 number_fits start d st s rest c lt first dotless =
@@ -195,5 +198,6 @@ number_fits start d st s rest c lt first dotless =
     let is = c.number in
     let few = c.few in
     let le = black_le side d in
-    let a = numbered_again start s.first (has_dots (move_dots turn ++ rest)) (record { number = st.number; depth = d }) first is (dots_mark side turn d rest c.turn dotless) in
-    (a.0, rw (has_move_dots turn rest, told_again st.number (omega (arith, is, few, le, lt))) a.1, a.2)
+    let a = numbered_again start s.first (has_dots (move_dots turn ++ rest)) (record { number = st.number; depth = d }) first is
+    (dots_mark side turn d rest c.turn dotless) in
+    (a.0, rw (has_move_dots turn rest, reported_again st.number (omega (arith, is, few, le, lt))) a.1, a.2)

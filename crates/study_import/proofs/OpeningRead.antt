@@ -1,5 +1,6 @@
 -- The opening comment states the stipulation, however it is cut into lines.
-use Rattle.std.proofs.Common.{◌≡◌, ℕ, ◌-◌, ◌<◌, true, false, List, [], ◌∷◌, ◌++◌, length, take, Some, None, refl, sym, ap, subst, ◌∙◌, inl, inr, arith, length-append, append_assoc}
+use Rattle.std.proofs.Common.{◌≡◌, ℕ, ◌-◌, ◌<◌, true, false, List, [], ◌∷◌, ◌++◌, length, take, Some, None, refl, sym, ap, subst, ◌∙◌, inl, inr}
+use Rattle.std.proofs.Common.{arith, length-append, append_assoc}
 use Rattle.std.specs.Prelude.{◌==◌, ◌&&◌, ◌||◌, nat_le, slice_index, codes, decimal}
 use Rattle.std.specs.List.{list_all}
 use Rattle.std.specs.Str.{bytes_eq}
@@ -10,7 +11,7 @@ use Rattle.study_board.specs.declared.men.Side.TheVariants.{White, Black}
 use Rattle.study_marks.specs.declared.stipulation.Goal.{Goal}
 use Rattle.study_marks.specs.declared.stipulation.Goal.TheVariants.{Win, Draw, MateIn}
 use Rattle.study_marks.specs.declared.stipulation.Stipulation.{Stipulation}
-use Rattle.study_command.specs.Paths.{place_told}
+use Rattle.study_command.specs.Paths.{place_parsed}
 use Rattle.study_pgn.specs.Values.{side_name}
 use Rattle.study_pgn.specs.Pgn.{goal_text, stipulation_text}
 use Rattle.study_games.specs.Bytes.{is_blank}
@@ -20,13 +21,14 @@ use Rattle.study_games.proofs.Lexing.{run_cut}
 use Rattle.study_import.specs.Aims.{ends_phrase, last_of_phrase, hero_of, goal_named, goal_or_mate, goal_in, aim_in}
 use Rattle.study_import.specs.Laws.{IsCounted}
 use Rattle.study_import.proofs.Ink.{Ink, ink_of, ink_append, decimal_ink}
-use Rattle.study_import.proofs.PathAgain.{number_told}
+use Rattle.study_import.proofs.PathAgain.{number_parsed}
 use Rattle.study_import.proofs.Blanks.{Same, word_cut, IsGap, space_cut}
 
 -- ---- words
 
 no_blank : (b : ℕ) → 32 < b → is_blank b ≡ false
-no_blank b lt = or_from (b == 32) (nat_le 9 b && nat_le b 13) (ne_eqb b 32 (λ e. omega arith)) (and_right (nat_le 9 b) (nat_le b 13) (lt-leb b 13 (omega arith)))
+no_blank b lt = or_from (b == 32) (nat_le 9 b && nat_le b 13) (ne_eqb b 32 (λ e. omega arith))
+    (and_right (nat_le 9 b) (nat_le b 13) (lt-leb b 13 (omega arith)))
 
 all_inked : (w : List ℕ) → Ink w → list_all is_inked w ≡ true
 all_inked [] h = refl
@@ -51,7 +53,8 @@ word_first (x ∷ w) b rest h some gap =
     let cut = run_cut is_blank [] ((x ∷ w) ++ (b ∷ rest)) refl (no_blank x h.0) in
     ap begun_word cut.1 ∙ begun (x ∷ w) b rest h some gap
 
-pub word_next : (a : ℕ) (w : List ℕ) (b : ℕ) (rest : List ℕ) → IsGap a → Ink w → 0 < length w → IsGap b → first_word (a ∷ (w ++ (b ∷ rest))) ≡ Some (w, b ∷ rest)
+pub word_next : (a : ℕ) (w : List ℕ) (b : ℕ) (rest : List ℕ) → IsGap a → Ink w → 0 < length w → IsGap b
+    → first_word (a ∷ (w ++ (b ∷ rest))) ≡ Some (w, b ∷ rest)
 unfolding first_word
 word_next a [] b rest first h some gap = absurd (omega arith)
 word_next a (x ∷ w) b rest first h some gap =
@@ -65,7 +68,8 @@ colon_at w =
     let n = length-append w (58 ∷ []) in
     let at : length (w ++ 58 ∷ []) - 1 ≡ length w = omega arith in
     let last : slice_index (w ++ 58 ∷ []) (length (w ++ 58 ∷ []) - 1) ≡ 58 = ap (slice_index (w ++ 58 ∷ [])) at ∙ get_or_at w 58 [] 0 (length w) refl in
-    and_from (nat_le 1 (length (w ++ 58 ∷ []))) (slice_index (w ++ 58 ∷ []) (length (w ++ 58 ∷ []) - 1) == 58 || slice_index (w ++ 58 ∷ []) (length (w ++ 58 ∷ []) - 1) == 46)
+    and_from (nat_le 1 (length (w ++ 58 ∷ []))) (slice_index (w ++ 58 ∷ []) (length (w ++ 58 ∷ []) - 1) == 58 || slice_index (w ++ 58 ∷ [])
+    (length (w ++ 58 ∷ []) - 1) == 46)
     (le-leb 1 (length (w ++ 58 ∷ [])) (omega arith)) (ap (λ n. n == 58 || n == 46) last)
 
 colon_off : (w behind : List ℕ) → last_of_phrase (w ++ 58 ∷ []) behind ≡ Some w
@@ -75,7 +79,8 @@ colon_off w behind =
     let at : length (w ++ 58 ∷ []) - 1 ≡ length w = omega arith in
     rw (colon_at w) (ap (λ (t : List ℕ). Some t) (ap (λ k. take k (w ++ 58 ∷ [])) at ∙ take_at w (58 ∷ []) (length w) refl))
 
-named_plain : (word : List ℕ) (g : Goal) (behind : List ℕ) → goal_named (Some word) ≡ Some g → goal_or_mate (goal_named (last_of_phrase (word ++ 58 ∷ []) behind)) (word ++ 58 ∷ []) behind ≡ Some g
+named_plain : (word : List ℕ) (g : Goal) (behind : List ℕ) → goal_named (Some word) ≡ Some g
+    → goal_or_mate (goal_named (last_of_phrase (word ++ 58 ∷ []) behind)) (word ++ 58 ∷ []) behind ≡ Some g
 named_plain word g behind h = rw (colon_off word behind, h) refl
 
 mate_later : (behind : List ℕ) (x : List ℕ × List ℕ) → first_word behind ≡ Some x → last_of_phrase (codes "mate") behind ≡ None
@@ -87,18 +92,22 @@ mate_later behind x e = rw e refl
 abbrev Reads_goal : Goal → List ℕ → Type 0
 Reads_goal g t = goal_in (first_word t) ≡ Some g
 
-plain_goal : (word : List ℕ) (g : Goal) (rest t : List ℕ) → Ink word → 0 < length word → goal_named (Some word) ≡ Some g → Same (32 ∷ (word ++ (58 ∷ 32 ∷ rest))) t → Reads_goal g t
+plain_goal : (word : List ℕ) (g : Goal) (rest t : List ℕ) → Ink word → 0 < length word → goal_named (Some word) ≡ Some g
+    → Same (32 ∷ (word ++ (58 ∷ 32 ∷ rest))) t → Reads_goal g t
 plain_goal word g rest t ink some named h =
     let a = space_cut (word ++ (58 ∷ 32 ∷ rest)) t h in
-    let c = word_cut (word ++ 58 ∷ []) (32 ∷ rest) a.back (ink_append word (58 ∷ []) ink (omega arith, omega arith, tt)) (subst (λ (x : List ℕ). Same x a.back) (sym (append_assoc word (58 ∷ []) (32 ∷ rest))) a.rest) in
+    let c = word_cut (word ++ 58 ∷ []) (32 ∷ rest) a.back (ink_append word (58 ∷ []) ink (omega arith, omega arith, tt))
+    (subst (λ (x : List ℕ). Same x a.back) (sym (append_assoc word (58 ∷ []) (32 ∷ rest))) a.rest) in
     let e = space_cut rest c.back c.rest in
     let text : t ≡ a.byte ∷ ((word ++ 58 ∷ []) ++ (e.byte ∷ e.back)) =
     a.text ∙ ap (λ (x : List ℕ). a.byte ∷ x) (c.text ∙ ap (λ (x : List ℕ). (word ++ 58 ∷ []) ++ x) e.text) in
     ap (λ (x : List ℕ). goal_in (first_word x)) text
-    ∙ ap goal_in (word_next a.byte (word ++ 58 ∷ []) e.byte e.back a.gap (ink_append word (58 ∷ []) ink (omega arith, omega arith, tt)) (omega (arith, length-append word (58 ∷ []))) e.gap)
+    ∙ ap goal_in (word_next a.byte (word ++ 58 ∷ []) e.byte e.back a.gap (ink_append word (58 ∷ []) ink (omega arith, omega arith, tt))
+    (omega (arith, length-append word (58 ∷ []))) e.gap)
     ∙ named_plain word g (e.byte ∷ e.back) named
 
-mate_read : (k : ℕ) (rest t : List ℕ) → IsCounted (MateIn k) → Same (32 ∷ (codes "mate" ++ (32 ∷ (codes "in" ++ (32 ∷ (decimal k ++ (58 ∷ 32 ∷ rest))))))) t → Reads_goal (MateIn k) t
+mate_read : (k : ℕ) (rest t : List ℕ) → IsCounted (MateIn k) → Same (32 ∷ (codes "mate" ++ (32 ∷ (codes "in" ++ (32 ∷ (decimal k ++ (58 ∷ 32 ∷ rest))))))) t
+    → Reads_goal (MateIn k) t
 mate_read k rest t counted h =
     let high = counted.1 in
     let a = space_cut (codes "mate" ++ (32 ∷ (codes "in" ++ (32 ∷ (decimal k ++ (58 ∷ 32 ∷ rest)))))) t h in
@@ -116,11 +125,15 @@ mate_read k rest t counted h =
     let d_is : d.back ≡ t3 = e.text ∙ ap (λ (x : List ℕ). e.byte ∷ x) tail in
     let b_is : b.back ≡ t2 = c.text ∙ ap (λ (x : List ℕ). c.byte ∷ x) (d.text ∙ ap (λ (x : List ℕ). codes "in" ++ x) d_is) in
     let text : t ≡ a.byte ∷ (codes "mate" ++ t2) = a.text ∙ ap (λ (x : List ℕ). a.byte ∷ x) (b.text ∙ ap (λ (x : List ℕ). codes "mate" ++ x) b_is) in
-    let third : first_word t3 ≡ Some (number, g.byte ∷ g.back) = word_next e.byte number g.byte g.back e.gap ink (omega (arith, length-append (decimal k) (58 ∷ []))) g.gap in
-    let second : first_word t2 ≡ Some (codes "in", t3) = word_next c.byte (codes "in") e.byte (number ++ (g.byte ∷ g.back)) c.gap (ink_of (codes "in") refl) (omega arith) e.gap in
-    let first : first_word t ≡ Some (codes "mate", t2) = ap first_word text ∙ word_next a.byte (codes "mate") c.byte (codes "in" ++ t3) a.gap (ink_of (codes "mate") refl) (omega arith) c.gap in
-    let known : place_told (decimal k) ≡ Some k = number_told k (omega arith) in
-    rw (first, mate_later t2 (codes "in", t3) second, second, third, colon_off (decimal k) (g.byte ∷ g.back), known, le-leb 1 k counted.0, le-leb k 127 high) refl
+    let third : first_word t3 ≡ Some (number, g.byte ∷ g.back) = word_next e.byte number g.byte g.back e.gap ink
+    (omega (arith, length-append (decimal k) (58 ∷ []))) g.gap in
+    let second : first_word t2 ≡ Some (codes "in", t3) = word_next c.byte (codes "in") e.byte (number ++ (g.byte ∷ g.back)) c.gap (ink_of (codes "in") refl)
+    (omega arith) e.gap in
+    let first : first_word t ≡ Some (codes "mate", t2) = ap first_word text
+    ∙ word_next a.byte (codes "mate") c.byte (codes "in" ++ t3) a.gap (ink_of (codes "mate") refl) (omega arith) c.gap in
+    let known : place_parsed (decimal k) ≡ Some k = number_parsed k (omega arith) in
+    rw (first, mate_later t2 (codes "in", t3) second, second, third, colon_off (decimal k) (g.byte ∷ g.back), known, le-leb 1 k counted.0, le-leb k 127 high)
+    refl
 
 goal_read : (g : Goal) (rest t : List ℕ) → IsCounted g → Same (goal_text g ++ (58 ∷ 32 ∷ rest)) t
     → (x : List ℕ × List ℕ) × (first_word t ≡ Some x) × (bytes_eq x.0 (codes "to") ≡ true) × (goal_in (first_word x.1) ≡ Some g)
@@ -132,7 +145,8 @@ goal_read g rest t counted h = go g counted h
         let a = space_cut (codes "to" ++ (32 ∷ tail)) t h in
         let b = word_cut (codes "to") (32 ∷ tail) a.back (ink_of (codes "to") refl) a.rest in
         let c = space_cut tail b.back b.rest in
-        let text : t ≡ a.byte ∷ (codes "to" ++ (c.byte ∷ c.back)) = a.text ∙ ap (λ (x : List ℕ). a.byte ∷ x) (b.text ∙ ap (λ (x : List ℕ). codes "to" ++ x) c.text) in (
+        let text : t ≡ a.byte ∷ (codes "to" ++ (c.byte ∷ c.back)) = a.text
+        ∙ ap (λ (x : List ℕ). a.byte ∷ x) (b.text ∙ ap (λ (x : List ℕ). codes "to" ++ x) c.text) in (
           (codes "to", c.byte ∷ c.back),
           ap first_word text ∙ word_next a.byte (codes "to") c.byte c.back a.gap (ink_of (codes "to") refl) (omega arith) c.gap,
           refl,
@@ -141,8 +155,10 @@ goal_read g rest t counted h = go g counted h
 
     go : (g : Goal) → IsCounted g → Same (goal_text g ++ (58 ∷ 32 ∷ rest)) t
         → (x : List ℕ × List ℕ) × (first_word t ≡ Some x) × (bytes_eq x.0 (codes "to") ≡ true) × (goal_in (first_word x.1) ≡ Some g)
-    go Win c h = behind_to Win (codes "win" ++ (58 ∷ 32 ∷ rest)) t h (λ u k. plain_goal (codes "win") Win rest u (ink_of (codes "win") refl) (omega arith) refl k)
-    go Draw c h = behind_to Draw (codes "draw" ++ (58 ∷ 32 ∷ rest)) t h (λ u k. plain_goal (codes "draw") Draw rest u (ink_of (codes "draw") refl) (omega arith) refl k)
+    go Win c h = behind_to Win (codes "win" ++ (58 ∷ 32 ∷ rest)) t h (λ u k. plain_goal (codes "win") Win rest u (ink_of (codes "win") refl) (omega arith)
+        refl k)
+    go Draw c h = behind_to Draw (codes "draw" ++ (58 ∷ 32 ∷ rest)) t h (λ u k. plain_goal (codes "draw") Draw rest u (ink_of (codes "draw") refl)
+        (omega arith) refl k)
     go (MateIn k) c h = behind_to (MateIn k) (codes "mate" ++ (32 ∷ (codes "in" ++ (32 ∷ (decimal k ++ (58 ∷ 32 ∷ rest)))))) t h (λ u i. mate_read k rest u c i)
 
 hero_read : (side : Side) → Ink (side_name side) × (0 < length (side_name side)) × (hero_of (side_name side) ≡ Some side)

@@ -26,8 +26,10 @@ opening_or g n x t false h k e = noted_opening n x t k e
 
 opening_taken : (g : GameRead) (token : Token) (t : GameTaken) → HasOpening g → game_taken g token ≡ Ok t → HasOpening t.game
 opening_taken g token t h e =
-    opening_or g (noted g.notes (nat_le 1 g.reading.lines.cut) (not (length g.reading.lines.waiting == 0)) token) (taken g.reading token) t (is_header_tag g.notes token) h
+    opening_or g (noted g.notes (nat_le 1 g.reading.lines.cut) (not (length g.reading.lines.waiting == 0)) token) (taken g.reading token) t
+    (is_header_tag g.notes token) h
     (opening_noted g.notes (nat_le 1 g.reading.lines.cut) (not (length g.reading.lines.waiting == 0)) token h) e
 
-pub opening_given : (n : ℕ) (fresh : Bool) (text : List ℕ) (g : GameRead) (x : Ended) → IsGiven g.notes.opening → read_moves n fresh text g ≡ Ok x → IsGiven x.game.notes.opening
+pub opening_given : (n : ℕ) (fresh : Bool) (text : List ℕ) (g : GameRead) (x : Ended) → IsGiven g.notes.opening → read_moves n fresh text g ≡ Ok x
+    → IsGiven x.game.notes.opening
 opening_given n fresh text g x h e = kept HasOpening (λ g s h. h) opening_taken n fresh text g x h e

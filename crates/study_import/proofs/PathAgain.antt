@@ -11,7 +11,7 @@ use Rattle.std.proofs.lemmas.List.{append-nil}
 use Rattle.std.proofs.lemmas.Fmt.{decimal_is_IsNumeral, decimal_nonempty, length-decimal-le}
 use Rattle.study_notation.specs.Fen.{is_digit}
 use Rattle.study_tree.specs.Paths.{path_text, more_places}
-use Rattle.study_command.specs.Paths.{is_place, place_told, is_path, is_path_word, steps_of}
+use Rattle.study_command.specs.Paths.{is_place, place_parsed, is_path, is_path_word, steps_of}
 use Rattle.study_command.specs.Parser.{path_of}
 use Rattle.study_import.proofs.Spelling.{AllBelow}
 
@@ -53,9 +53,9 @@ place_is n h =
     let some = h.some in
     rw (le-leb 1 (length (decimal n)) (omega arith), le-leb (length (decimal n)) 3 h.few) (all_digits (decimal n) h.digits)
 
-pub number_told : (n : ℕ) → n < 1000 → place_told (decimal n) ≡ Some n
-unfolding place_told
-number_told n lt = let h = number n lt in rw (place_is n h, h.value) refl
+pub number_parsed : (n : ℕ) → n < 1000 → place_parsed (decimal n) ≡ Some n
+unfolding place_parsed
+number_parsed n lt = let h = number n lt in rw (place_is n h, h.value) refl
 
 abbrev is_point : ℕ → Bool
 is_point b = b == 46

@@ -1,5 +1,6 @@
 -- The current place is a node of the tree, and so is each waiting one.
-use Rattle.std.proofs.Common.{◌≡◌, ℕ, zero, suc, ◌+◌, ◌-◌, ◌<◌, ◌≤◌, Bool, true, false, List, [], ◌∷◌, ◌++◌, length, take, Option, Some, None, Result, Ok, Err, refl, sym, ap, subst, ◌∙◌, arith, length-append, length-take}
+use Rattle.std.proofs.Common.{◌≡◌, ℕ, zero, suc, ◌+◌, ◌-◌, ◌<◌, ◌≤◌, Bool, true, false, List, [], ◌∷◌, ◌++◌, length, take, Option, Some, None, Result}
+use Rattle.std.proofs.Common.{Ok, Err, refl, sym, ap, subst, ◌∙◌, arith, length-append, length-take}
 use Rattle.std.specs.Prelude.{◌==◌, not, nat_le, nat_lt, slice_index, codes, if◌then◌else◌}
 use Rattle.std.specs.List.{list_all}
 use Rattle.std.specs.Str.{bytes_eq}
@@ -313,8 +314,10 @@ game_by g x false h k = k
 
 game_ok : (g : GameRead) (token : Token) → IsPlaced g.reading → GameOk (game_taken g token)
 game_ok g token h =
-    game_by g (noted_on (noted g.notes (nat_le 1 g.reading.lines.cut) (not (length g.reading.lines.waiting == 0)) token) (taken g.reading token)) (is_header_tag g.notes token) h
-    (noted_ok (noted g.notes (nat_le 1 g.reading.lines.cut) (not (length g.reading.lines.waiting == 0)) token) (taken g.reading token) (token_taken g.reading token h))
+    game_by g (noted_on (noted g.notes (nat_le 1 g.reading.lines.cut) (not (length g.reading.lines.waiting == 0)) token) (taken g.reading token))
+    (is_header_tag g.notes token) h
+    (noted_ok (noted g.notes (nat_le 1 g.reading.lines.cut) (not (length g.reading.lines.waiting == 0)) token) (taken g.reading token)
+    (token_taken g.reading token h))
 
 -- ---- a game
 

@@ -1,5 +1,6 @@
 -- The movetext of a study has no quotation mark, and is shorter than the limit of a game.
-use Rattle.std.proofs.Common.{◌≡◌, ℕ, suc, ◌+◌, ◌/◌, ◌≤◌, Bool, true, false, not, List, [], ◌∷◌, ◌++◌, length, Option, Some, None, refl, sym, ap, subst, ◌∙◌, inl, inr, arith, length-append}
+use Rattle.std.proofs.Common.{◌≡◌, ℕ, suc, ◌+◌, ◌/◌, ◌≤◌, Bool, true, false, not, List, [], ◌∷◌, ◌++◌, length, Option, Some, None, refl, sym, ap}
+use Rattle.std.proofs.Common.{subst, ◌∙◌, inl, inr, arith, length-append}
 use Rattle.std.specs.Prelude.{◌*◌, ◌==◌, nat_le, codes, decimal, if◌then◌else◌}
 use Rattle.std.specs.List.{list_all}
 use Rattle.std.proofs.lemmas.Bool.{and_from, and_parts, leb-true, eqb-true, false≢true, cases_Bool}
@@ -135,7 +136,8 @@ move_piece st m mark valid legal =
     let comment = comment_text (other_side st.position.to_move) mark in
     joined (64 + 3) (1 + (9 + (3 + (1 + 152)))) (number_text st) (codes " " ++ (move_text st.position m ++ (glyph_text mark.on_move ++ (codes " " ++ comment))))
     (joined 64 3 (decimal st.number) (move_dots st.position.to_move) (number_piece st.number) (dots_piece st.position.to_move))
-    (joined 1 (9 + (3 + (1 + 152))) (codes " ") (move_text st.position m ++ (glyph_text mark.on_move ++ (codes " " ++ comment))) (spelled 1 (codes " ") refl refl)
+    (joined 1 (9 + (3 + (1 + 152))) (codes " ") (move_text st.position m ++ (glyph_text mark.on_move ++ (codes " " ++ comment)))
+    (spelled 1 (codes " ") refl refl)
     (joined 9 (3 + (1 + 152)) (move_text st.position m) (glyph_text mark.on_move ++ (codes " " ++ comment)) (san_piece st m valid legal)
     (joined 3 (1 + 152) (glyph_text mark.on_move) (codes " " ++ comment) (glyph_piece mark.on_move)
     (joined 1 152 (codes " ") comment (spelled 1 (codes " ") refl refl) (comment_piece (other_side st.position.to_move) mark)))))
@@ -145,7 +147,8 @@ move_piece st m mark valid legal =
 abbrev nodes : Forest Mark → ℕ
 nodes f = nodes_in (plainly f)
 
-forest_pieces : (f : Forest Mark) (st : Start) → IsValid st.position → IsPlayable st.position (plainly f) → Piece (240 * nodes f) (following st f) × Piece (240 * nodes f) (variations st f)
+forest_pieces : (f : Forest Mark) (st : Start) → IsValid st.position → IsPlayable st.position (plainly f) → Piece (240 * nodes f) (following st f)
+    × Piece (240 * nodes f) (variations st f)
 forest_pieces none st valid h = (spelled 0 [] refl refl, spelled 0 [] refl refl)
 forest_pieces (more m mark b r) st valid h =
     let next = start_after st m in
@@ -160,7 +163,8 @@ forest_pieces (more m mark b r) st valid h =
           (joined 233 (240 * y + 240 * x) w (variations st r ++ following next b) first
           (joined (240 * y) (240 * x) (variations st r) (following next b) others.1 below.0))),
       wider (2 + (233 + (240 * x + (1 + 240 * y)))) (240 * (1 + x + y)) _ (omega arith)
-          (joined 2 (233 + (240 * x + (1 + 240 * y))) (codes " (") (w ++ (following next b ++ (codes ")" ++ variations st r))) (spelled 2 (codes " (") refl refl)
+          (joined 2 (233 + (240 * x + (1 + 240 * y))) (codes " (") (w ++ (following next b ++ (codes ")" ++ variations st r)))
+          (spelled 2 (codes " (") refl refl)
           (joined 233 (240 * x + (1 + 240 * y)) w (following next b ++ (codes ")" ++ variations st r)) first
           (joined (240 * x) (1 + 240 * y) (following next b) (codes ")" ++ variations st r) below.0
           (joined 1 (240 * y) (codes ")") (variations st r) (spelled 1 (codes ")") refl refl) others.1)))),

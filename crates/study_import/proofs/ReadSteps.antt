@@ -1,5 +1,6 @@
 -- Token by token through the movetext of a study.
-use Rattle.std.proofs.Common.{◌≡◌, ℕ, zero, suc, ◌+◌, ◌-◌, ◌/◌, ◌%◌, ◌<◌, ◌≤◌, Bool, true, false, List, [], ◌∷◌, ◌++◌, length, take, Option, Some, None, Result, Ok, refl, sym, ap, subst, ◌∙◌, inl, inr, arith, length-append}
+use Rattle.std.proofs.Common.{◌≡◌, ℕ, zero, suc, ◌+◌, ◌-◌, ◌/◌, ◌%◌, ◌<◌, ◌≤◌, Bool, true, false, List, [], ◌∷◌, ◌++◌, length, take, Option, Some}
+use Rattle.std.proofs.Common.{None, Result, Ok, refl, sym, ap, subst, ◌∙◌, inl, inr, arith, length-append}
 use Rattle.std.specs.Prelude.{◌==◌, ◌&&◌, not, nat_le, slice_index, decimal, if◌then◌else◌}
 use Rattle.std.specs.List.{list_all}
 use Rattle.std.specs.Fmt.{digits, digits_onto, digit_glyph}
@@ -49,11 +50,13 @@ reads fresh text g = read_moves (length text) fresh text g
 pub on_reads : (fresh : Bool) (b : ℕ) (bs : List ℕ) (g : GameRead)
     → reads fresh (b ∷ bs) g ≡ on_token (λ rest h. reads (b == 10) rest h) (length (b ∷ bs)) g (lexed fresh b bs)
 on_reads fresh b bs g =
-    same_token (read_moves (length bs) (b == 10)) (λ rest h. reads (b == 10) rest h) (length (b ∷ bs)) (length bs) g (lexed fresh b bs) (within_lexed fresh b bs)
+    same_token (read_moves (length bs) (b == 10)) (λ rest h. reads (b == 10) rest h) (length (b ∷ bs)) (length bs) g (lexed fresh b bs)
+    (within_lexed fresh b bs)
     (λ rest h le. moves_same (length bs) (length rest) (b == 10) rest h le (omega arith))
 
 pub on_number : (fresh : Bool) (b : ℕ) (bs : List ℕ) (g : GameRead) (t : Token) (rest : List ℕ) (s : Numbering) (h : GameRead) → lexed fresh b bs ≡ Ok (t, rest)
-    → game_numbered g t rest ≡ Some s → game_taken (with_numbering g s) t ≡ Ok (record { game = h; ended = false }) → reads fresh (b ∷ bs) g ≡ reads (b == 10) rest h
+    → game_numbered g t rest ≡ Some s → game_taken (with_numbering g s) t ≡ Ok (record { game = h; ended = false })
+    → reads fresh (b ∷ bs) g ≡ reads (b == 10) rest h
 on_number fresh b bs g t rest s h l i k =
     on_reads fresh b bs g ∙ ap (λ (x : Lexed). on_token (λ r j. reads (b == 10) r j) (length (b ∷ bs)) g x) l
     ∙ ap (λ (x : Option Numbering). on_numbered (λ j. reads (b == 10) rest j) (length (b ∷ bs)) g t rest x) i
@@ -119,7 +122,14 @@ module _ (s : PlainStudy) (path : List ℕ) (from : ℕ) (ws : List Waiting) (o 
   noted_step b bs rest t n l q k e h i = record {
     next = record { reading = g.reading; notes = n };
     goes = λ fresh. (b == 10, on_step fresh b bs g t rest (record { reading = g.reading; notes = n }) (l fresh) q k);
-    at = record { study = at.study; lines = at.lines; opening = e ∙ at.opening; had = h; numbers = subst (λ (x : Numbering). IsFirst s.start x.first) (sym i) at.numbers };
+    at = record {
+      study = at.study;
+      lines = at.lines;
+      opening = e ∙ at.opening;
+      had = h;
+      numbers = subst (λ (x : Numbering). IsFirst s.start x.first) (sym i)
+          at.numbers;
+    };
   }
 
   lexed_space : (bs : List ℕ) (fresh : Bool) → lexed fresh 32 bs ≡ Ok (blank, bs)
@@ -160,7 +170,8 @@ module _ (s : PlainStudy) (path : List ℕ) (from : ℕ) (ws : List Waiting) (o 
       ∙ ap (λ (x : Lines). record { study = s; lines = x; inserts = g.reading.inserts }) at.lines
 
   -- a number that fits
-  pub number_step : (b : ℕ) (bs rest : List ℕ) → begins_symbol b ≡ true → list_all is_plain_symbol (b ∷ bs) ≡ true → said_of (b ∷ bs) ≡ say.Number → Stops is_symbol_byte rest
+  pub number_step : (b : ℕ) (bs rest : List ℕ) → begins_symbol b ≡ true → list_all is_plain_symbol (b ∷ bs) ≡ true → said_of (b ∷ bs) ≡ say.Number
+      → Stops is_symbol_byte rest
       → (next : Numbering) → digits_numbered s.start.position.to_move (length path) g.notes.numbering (b ∷ bs) rest ≡ Some next → IsFirst s.start next.first
       → Reached ((b ∷ bs) ++ rest) rest s path from ws o g
   number_step b bs rest begins all said stops next is first =
@@ -168,10 +179,12 @@ module _ (s : PlainStudy) (path : List ℕ) (from : ℕ) (ws : List Waiting) (o 
       let notes : Notes = record g.notes { numbering = next } in
       let h : GameRead = record { reading = g.reading; notes = begun notes } in
       let fits : game_numbered g t rest ≡ Some next =
-      ap (λ (r : Reading). if nat_le 1 r.lines.cut then Some g.notes.numbering else token_numbered r.study.start.position.to_move (length r.lines.path) g.notes.numbering t rest) same_reading
+      ap (λ (r : Reading). if nat_le 1 r.lines.cut then Some g.notes.numbering else token_numbered r.study.start.position.to_move (length r.lines.path)
+      g.notes.numbering t rest) same_reading
       ∙ ap (said_numbered s.start.position.to_move (length path) g.notes.numbering (b ∷ bs) rest) said ∙ is in
       let takes : game_taken (with_numbering g next) t ≡ Ok (record { game = h; ended = false }) =
-      ap (λ (x : Said). noted_on (with_said notes (nat_le 1 g.reading.lines.cut) (not (length g.reading.lines.waiting == 0)) x) (taken_symbol g.reading (b ∷ bs) x)) said in
+      ap (λ (x : Said). noted_on (with_said notes (nat_le 1 g.reading.lines.cut) (not (length g.reading.lines.waiting == 0)) x)
+      (taken_symbol g.reading (b ∷ bs) x)) said in
       record {
         next = h;
         goes = λ fresh. (b == 10, on_number fresh b (bs ++ rest) g t rest next h (symbol_lexed [] b bs rest begins all stops fresh) fits takes);
@@ -231,7 +244,8 @@ module _ (s : PlainStudy) (path : List ℕ) (from : ℕ) (ws : List Waiting) (o 
       rw (le-ltb 32 (length text) h.few, h.prints, h.found, h.means, h.place, lt-leb 256 (length path) h.depth, lt-leb 4096 (size_of s.tree) h.room)
       (record { reading = _; is = refl; study = refl; lines = refl })
 
-  pub move_step : (b : ℕ) (bs rest : List ℕ) (m : Move) → begins_symbol b ≡ true → list_all is_plain_symbol (b ∷ bs) ≡ true → Stops is_symbol_byte rest → IsNew (b ∷ bs) m
+  pub move_step : (b : ℕ) (bs rest : List ℕ) (m : Move) → begins_symbol b ≡ true → list_all is_plain_symbol (b ∷ bs) ≡ true → Stops is_symbol_byte rest
+      → IsNew (b ∷ bs) m
       → Reached ((b ∷ bs) ++ rest) rest (with_insertion s path m) (path ++ children_at s.tree.below path ∷ []) from ws o g
   move_step b bs rest m begins all stops h =
       let p = plays g.reading.inserts (b ∷ bs) m h in
@@ -239,7 +253,8 @@ module _ (s : PlainStudy) (path : List ℕ) (from : ℕ) (ws : List Waiting) (o 
       let notes = with_move g.notes (nat_le 1 g.reading.lines.cut) in
       let next : GameRead = record { reading = p.reading; notes = notes } in
       let takes : game_taken g (symbol (b ∷ bs)) ≡ Ok (record { game = next; ended = false }) =
-      ap (λ (x : Said). noted_on (with_said g.notes (nat_le 1 g.reading.lines.cut) (not (length g.reading.lines.waiting == 0)) x) (taken_symbol g.reading (b ∷ bs) x)) h.said
+      ap (λ (x : Said). noted_on (with_said g.notes (nat_le 1 g.reading.lines.cut) (not (length g.reading.lines.waiting == 0)) x)
+      (taken_symbol g.reading (b ∷ bs) x)) h.said
       ∙ ap (λ (x : Result Reading MoveFault). noted_on notes (on_move x)) played in
       record {
         next = next;
@@ -267,7 +282,8 @@ module _ (s : PlainStudy) (path : List ℕ) (from : ℕ) (ws : List Waiting) (o 
       → game_taken g t ≡ noted_on (begun g.notes) (on_line g.reading x) → x ≡ Ok l → l.cut ≡ 0 → Reached (b ∷ bs) bs s l.path l.begun l.waiting o g
   line_step b bs t x l lex q k e cut =
       let next : GameRead = record { reading = record { study = g.reading.study; lines = l; inserts = g.reading.inserts }; notes = begun g.notes } in
-      let takes : game_taken g t ≡ Ok (record { game = next; ended = false }) = k ∙ ap (λ (y : Result Lines LineFault). noted_on (begun g.notes) (on_line g.reading y)) e in
+      let takes : game_taken g t ≡ Ok (record { game = next; ended = false }) = k
+      ∙ ap (λ (y : Result Lines LineFault). noted_on (begun g.notes) (on_line g.reading y)) e in
       record {
         next = next;
         goes = λ fresh. (b == 10, on_step fresh b bs g t bs next (lex fresh) q takes);
@@ -288,8 +304,10 @@ unfolding begin_line
 open_step s path k from ws o g at bs le few =
     let long : length (path ++ k ∷ []) ≡ length path + 1 = length-append path (k ∷ []) in
     let one : length (path ++ k ∷ []) - 1 ≡ length path = omega arith in
-    let shorter : take (length (path ++ k ∷ []) - 1) (path ++ k ∷ []) ≡ path = ap (λ n. take n (path ++ k ∷ [])) one ∙ take_at path (k ∷ []) (length path) refl in
-    let last : slice_index (path ++ k ∷ []) (length (path ++ k ∷ []) - 1) ≡ k = ap (λ n. slice_index (path ++ k ∷ []) n) one ∙ get_or_at path k [] 0 (length path) refl in
+    let shorter : take (length (path ++ k ∷ []) - 1) (path ++ k ∷ []) ≡ path = ap (λ n. take n (path ++ k ∷ [])) one
+    ∙ take_at path (k ∷ []) (length path) refl in
+    let last : slice_index (path ++ k ∷ []) (length (path ++ k ∷ []) - 1) ≡ k = ap (λ n. slice_index (path ++ k ∷ []) n) one
+    ∙ get_or_at path k [] 0 (length path) refl in
     let l : Lines = record { path = path; begun = length path; waiting = record { replaced = k; begun = from } ∷ ws; cut = 0 } in
     let begins : begin_line (record { path = path ++ k ∷ []; begun = from; waiting = ws; cut = 0 }) ≡ Ok l =
     rw (lt-leb (length (path ++ k ∷ [])) from (omega arith), lt-leb 256 (length ws) few)
@@ -298,17 +316,25 @@ open_step s path k from ws o g at bs le few =
       begun = length (path ++ k ∷ []) - 1;
       waiting = record { replaced = slice_index (path ++ k ∷ []) (length (path ++ k ∷ []) - 1); begun = from } ∷ ws;
       cut = 0;
-    })) shorter ∙ ap (λ (n : ℕ). Ok (record { path = path; begun = n; waiting = record { replaced = slice_index (path ++ k ∷ []) (length (path ++ k ∷ []) - 1); begun = from } ∷ ws; cut = 0 })) one
+    })) shorter ∙ ap (λ (n : ℕ). Ok (record {
+      path = path;
+      begun = n;
+      waiting = record { replaced = slice_index (path ++ k ∷ []) (length (path ++ k ∷ []) - 1); begun = from } ∷ ws;
+      cut = 0;
+    })) one
     ∙ ap (λ (n : ℕ). Ok (record { path = path; begun = length path; waiting = record { replaced = n; begun = from } ∷ ws; cut = 0 })) last) in
-    line_step s (path ++ k ∷ []) from ws o g at 40 bs opening (begin_line g.reading.lines) l (lexed_open s (path ++ k ∷ []) from ws o g at bs) (λ _ _ _. refl) refl
+    line_step s (path ++ k ∷ []) from ws o g at 40 bs opening (begin_line g.reading.lines) l (lexed_open s (path ++ k ∷ []) from ws o g at bs) (λ _ _ _. refl)
+    refl
     (ap begin_line at.lines ∙ begins) refl
 
 -- a variation ends, and the waiting line continues
-pub close_step : (s : PlainStudy) (path : List ℕ) (from : ℕ) (w : Waiting) (ws : List Waiting) (o : Option Stipulation) (g : GameRead) → At s path from (w ∷ ws) o g
+pub close_step : (s : PlainStudy) (path : List ℕ) (from : ℕ) (w : Waiting) (ws : List Waiting) (o : Option Stipulation) (g : GameRead)
+    → At s path from (w ∷ ws) o g
     → (bs : List ℕ) → Reached (41 ∷ bs) bs s (take from path ++ w.replaced ∷ []) w.begun ws o g
 unfolding end_line
 close_step s path from w ws o g at bs =
-    line_step s path from (w ∷ ws) o g at 41 bs closing (end_line g.reading.lines) (record { path = take from path ++ w.replaced ∷ []; begun = w.begun; waiting = ws; cut = 0 })
+    line_step s path from (w ∷ ws) o g at 41 bs closing (end_line g.reading.lines)
+    (record { path = take from path ++ w.replaced ∷ []; begun = w.begun; waiting = ws; cut = 0 })
     (lexed_close s path from (w ∷ ws) o g at bs) (λ _ _ _. refl) refl (ap end_line at.lines) refl
 
 -- ---- numbers in their written form
@@ -318,7 +344,8 @@ onto_digits zero n acc h = h
 onto_digits (suc k) n acc h =
     let glyph : digit_glyph false (n % 10) ≡ 48 + n % 10 = rw (lt-ltb (n % 10) 10 (omega arith)) refl in
     let more : list_all is_digit (digit_glyph false (n % 10) ∷ acc) ≡ true =
-    rw glyph (and_from (is_digit (48 + n % 10)) (list_all is_digit acc) (rw (le-leb 48 (48 + n % 10) (omega arith), le-leb (48 + n % 10) 57 (omega arith)) refl) h) in
+    rw glyph (and_from (is_digit (48 + n % 10)) (list_all is_digit acc) (rw (le-leb 48 (48 + n % 10) (omega arith), le-leb (48 + n % 10) 57 (omega arith))
+    refl) h) in
     elim (cases_Bool (n / 10 == 0)) [ inl last ↦ rw last more | inr later ↦ rw later (onto_digits k (n / 10) (digit_glyph false (n % 10) ∷ acc) more) ]
 
 onto_some : (k n : ℕ) (acc : List ℕ) → length acc ≤ length (digits_onto k 10 false n acc)

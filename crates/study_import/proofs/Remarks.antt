@@ -1,5 +1,6 @@
 -- Lines of remarks have no command.
-use Rattle.std.proofs.Common.{◌≡◌, ℕ, zero, suc, ◌+◌, ◌≤◌, Bool, true, false, List, [], ◌∷◌, ◌++◌, length, take, map, Option, Some, None, Ok, refl, sym, ap, ◌∙◌, inl, inr, arith, length-append, append_assoc}
+use Rattle.std.proofs.Common.{◌≡◌, ℕ, zero, suc, ◌+◌, ◌≤◌, Bool, true, false, List, [], ◌∷◌, ◌++◌, length, take, map, Option, Some, None, Ok, refl}
+use Rattle.std.proofs.Common.{sym, ap, ◌∙◌, inl, inr, arith, length-append, append_assoc}
 use Rattle.std.specs.Prelude.{◌==◌, ◌&&◌, ◌||◌, ◌*◌, nat_le, codes, decimal, if◌then◌else◌}
 use Rattle.std.specs.List.{list_all, flat_map, prefix_len, AllByRecursion}
 use Rattle.std.specs.Str.{bytes_eq}
@@ -38,7 +39,10 @@ use Rattle.study_import.specs.declared.aims.AimSource.TheVariants.{Comment, Stip
 use Rattle.study_import.specs.declared.notes.Notes.{Notes}
 use Rattle.study_import.specs.declared.places.Place.{Place}
 use Rattle.study_import.specs.Aims.{source_words}
-use Rattle.study_import.specs.Blocks.{Entry, Told, place_in, text_at, token_name, move_name, line_name, reason_name, stop_name, run_words, symbol_words, author_of, author_words, no_colon, left_out, place_words, fault_words, counts_words, counts_line, move_counts, counted_words, behind_line, six_names, shown, tag_text, was_of, was_line, head_line, remark_lines, other_tags, stopped_block, men_in, fen_words, at_most, last_line, tail_line}
+use Rattle.study_import.specs.Blocks.{Entry, Reported, place_in, text_at, token_name, move_name, line_name, reason_name, stop_name, run_words}
+use Rattle.study_import.specs.Blocks.{symbol_words, author_of, author_words, no_colon, left_out, place_words, fault_words, counts_words, counts_line}
+use Rattle.study_import.specs.Blocks.{move_counts, counted_words, behind_line, six_names, shown, tag_text, was_of, was_line, head_line, remark_lines}
+use Rattle.study_import.specs.Blocks.{other_tags, stopped_block, men_in, fen_words, at_most, last_line, tail_line}
 use Rattle.study_import.proofs.Ink.{Ink, decimal_ink, decimal_few}
 use Rattle.study_import.proofs.TagTexts.{short_prints, short_few}
 use Rattle.study_import.proofs.CommandLines.{remark_asked, empty_asked}
@@ -126,14 +130,16 @@ hashed t = 35 ∷ t
 game_part : (number n : ℕ) (rest : List ℕ) → IsPart n rest → IsPart (70 + n) (codes " game " ++ (decimal number ++ rest))
 game_part number n rest h =
     wider (6 + (64 + n)) (70 + n) _ (omega arith)
-    (joined 6 (64 + n) (codes " game ") (decimal number ++ rest) (record { shown = refl; few = omega arith }) (joined 64 n (decimal number) rest (number_part number) h))
+    (joined 6 (64 + n) (codes " game ") (decimal number ++ rest) (record { shown = refl; few = omega arith })
+    (joined 64 n (decimal number) rest (number_part number) h))
 
 -- ---- the head of a block
 
 line_part : (line n : ℕ) (rest : List ℕ) → IsPart n rest → IsPart (71 + n) (codes ", line " ++ (decimal line ++ rest))
 line_part line n rest h =
     wider (7 + (64 + n)) (71 + n) _ (omega arith)
-    (joined 7 (64 + n) (codes ", line ") (decimal line ++ rest) (record { shown = refl; few = omega arith }) (joined 64 n (decimal line) rest (number_part line) h))
+    (joined 7 (64 + n) (codes ", line ") (decimal line ++ rest) (record { shown = refl; few = omega arith })
+    (joined 64 n (decimal line) rest (number_part line) h))
 
 head_is : (a b c : List ℕ) → (codes "# game " ++ a) ++ (codes ", line " ++ (b ++ (codes ": stipulated by " ++ (c ++ codes "\n"))))
     ≡ hashed (codes " game " ++ (a ++ (codes ", line " ++ (b ++ (codes ": stipulated by " ++ c))))) ++ 10 ∷ []
@@ -252,7 +258,8 @@ tag_part named.Round = record { shown = refl; few = omega arith }
 tag_part named.White = record { shown = refl; few = omega arith }
 tag_part named.Black = record { shown = refl; few = omega arith }
 
-was_is : (name value : List ℕ) → codes "# " ++ (name ++ (codes " was: " ++ (value ++ codes "\n"))) ≡ hashed (codes " " ++ (name ++ (codes " was: " ++ value))) ++ 10 ∷ []
+was_is : (name value : List ℕ) → codes "# " ++ (name ++ (codes " was: " ++ (value ++ codes "\n"))) ≡ hashed (codes " " ++ (name ++ (codes " was: " ++ value)))
+    ++ 10 ∷ []
 was_is name value = simp append_assoc
 
 was_by : (name : TagName) (value : List ℕ) (same : Bool)
@@ -273,15 +280,19 @@ was_lines : (tags : List Pair) (names : List TagName) → AreLines IsRemark (fla
 unfolding was_line
 was_lines tags [] = no_lines IsRemark
 was_lines tags (name ∷ names) =
-    more_lines IsRemark (was_of name (value_of (tag_name name) tags)) (flat_map (was_line tags) names) (was_remark name (value_of (tag_name name) tags)) (was_lines tags names)
+    more_lines IsRemark (was_of name (value_of (tag_name name) tags)) (flat_map (was_line tags) names) (was_remark name (value_of (tag_name name) tags))
+    (was_lines tags names)
 
-pub remarks_are : (e : Entry) (t : Told) → AreLines IsRemark (remark_lines e t)
+pub remarks_are : (e : Entry) (t : Reported) → AreLines IsRemark (remark_lines e t)
 unfolding remark_lines
 remarks_are e t =
-    more_lines IsRemark (counts_line (counted_words t.notes (other_tags (tags_of e.text)) t.repeated)) (behind_line e t.behind ++ flat_map (was_line (tags_of e.text)) six_names)
-    (counts_remark (counted_words t.notes (other_tags (tags_of e.text)) t.repeated) (length (counted_words t.notes (other_tags (tags_of e.text)) t.repeated) == 0)
+    more_lines IsRemark (counts_line (counted_words t.notes (other_tags (tags_of e.text)) t.repeated)) (behind_line e t.behind
+    ++ flat_map (was_line (tags_of e.text)) six_names)
+    (counts_remark (counted_words t.notes (other_tags (tags_of e.text)) t.repeated) (length (counted_words t.notes (other_tags (tags_of e.text)) t.repeated)
+    == 0)
     (counted_part t.notes (other_tags (tags_of e.text)) t.repeated))
-    (more_lines IsRemark (behind_line e t.behind) (flat_map (was_line (tags_of e.text)) six_names) (behind_remark e t.behind) (was_lines (tags_of e.text) six_names))
+    (more_lines IsRemark (behind_line e t.behind) (flat_map (was_line (tags_of e.text)) six_names) (behind_remark e t.behind)
+    (was_lines (tags_of e.text) six_names))
 
 -- ---- games without a study
 
@@ -471,7 +482,8 @@ pub fen_words_part : (text : List ℕ) (fault : FenFault) → IsPart 100 (fen_wo
 fen_words_part text fen.TooManyMen =
     wider (10 + (64 + 4)) 100 _ (omega arith)
     (joined 10 (64 + 4) (codes "left out: ") _ (record { shown = refl; few = omega arith })
-    (joined 64 4 (decimal (at_most (men_in (first_word text)))) (codes " men") (number_part (at_most (men_in (first_word text)))) (record { shown = refl; few = omega arith })))
+    (joined 64 4 (decimal (at_most (men_in (first_word text)))) (codes " men") (number_part (at_most (men_in (first_word text))))
+    (record { shown = refl; few = omega arith })))
 fen_words_part text fen.FieldCount = fen_part fen.FieldCount
 fen_words_part text fen.Placement = fen_part fen.Placement
 fen_words_part text fen.KingCount = fen_part fen.KingCount
@@ -484,7 +496,8 @@ fen_words_part text fen.EnPassantImpossible = fen_part fen.EnPassantImpossible
 fen_words_part text fen.Clock = fen_part fen.Clock
 fen_words_part text fen.MoveNumber = fen_part fen.MoveNumber
 
-last_is_line : (a b : List ℕ) → codes "# games " ++ (a ++ (codes ", studies " ++ (b ++ codes "\n"))) ≡ hashed (codes " games " ++ (a ++ (codes ", studies " ++ b))) ++ 10 ∷ []
+last_is_line : (a b : List ℕ) → codes "# games " ++ (a ++ (codes ", studies " ++ (b ++ codes "\n"))) ≡ hashed (codes " games "
+    ++ (a ++ (codes ", studies " ++ b))) ++ 10 ∷ []
 last_is_line a b = simp append_assoc
 
 pub last_is : (games studies : ℕ) → AreLines IsRemark (last_line games studies)

@@ -1,5 +1,6 @@
 -- The text written for a study reads back as that study.
-use Rattle.std.proofs.Common.{◌≡◌, ℕ, suc, ◌+◌, ◌<◌, ◌≤◌, Bool, true, false, not, List, [], ◌∷◌, ◌++◌, length, take, drop, map, Option, Some, None, Result, Ok, refl, sym, ap, subst, ◌∙◌, inl, inr, arith, length-drop, append_assoc}
+use Rattle.std.proofs.Common.{◌≡◌, ℕ, suc, ◌+◌, ◌<◌, ◌≤◌, Bool, true, false, not, List, [], ◌∷◌, ◌++◌, length, take, drop, map, Option, Some, None}
+use Rattle.std.proofs.Common.{Result, Ok, refl, sym, ap, subst, ◌∙◌, inl, inr, arith, length-drop, append_assoc}
 use Rattle.std.specs.Prelude.{◌==◌, ◌&&◌, nat_le, codes, decimal, if◌then◌else◌}
 use Rattle.std.specs.List.{list_all, flat_map, prefix_len}
 use Rattle.std.proofs.lemmas.Bool.{ne_eqb, le-leb, lt-leb, leb-true, and_parts}
@@ -67,8 +68,10 @@ use Rattle.study_import.proofs.TagsTrimmed.{same_end}
 use Rattle.study_import.proofs.Blanks.{SameByte, Same, same_cut, word_cut, IsGap, space_cut, same_all, same_refl, same_append, lines_same}
 use Rattle.study_import.proofs.TreeHoles.{put, root_put}
 use Rattle.study_import.proofs.Numbers.{counted_start}
-use Rattle.study_import.proofs.ReadSteps.{reads, on_reads, quiet_numbered, on_step, At, Reached, gap_step, lexed_brace, comment_is, decimal_digits, decimal_some}
-use Rattle.study_import.proofs.TreeRead.{on_tree, retold, inside_append, side_inside, number_inside, value_inside, begins_digit, digits_symbol, Node, Limits, follow_read}
+use Rattle.study_import.proofs.ReadSteps.{reads, on_reads, quiet_numbered, on_step, At, Reached, gap_step, lexed_brace, comment_is, decimal_digits}
+use Rattle.study_import.proofs.ReadSteps.{decimal_some}
+use Rattle.study_import.proofs.TreeRead.{on_tree, restated, inside_append, side_inside, number_inside, value_inside, begins_digit, digits_symbol}
+use Rattle.study_import.proofs.TreeRead.{Node, Limits, follow_read}
 use Rattle.study_import.proofs.Singles.{movetext_runs}
 use Rattle.study_import.proofs.OpeningRead.{aim_read}
 use Rattle.study_import.proofs.HeaderRead.{value_again, Named, written, AllNamed, pairs_of, lines_read, tags_from, fault_from, fault_step, feed_lexed}
@@ -186,7 +189,8 @@ abbrev pub header_of : Study Mark → List Named
 header_of s =
     (codes "Event", text_or_unknown name_of.Event (tag_of s.tags name_of.Event)) ∷ (codes "Site", text_or_unknown name_of.Site (tag_of s.tags name_of.Site))
     ∷ (codes "Date", text_or_unknown name_of.Date (tag_of s.tags name_of.Date)) ∷ (codes "Round", text_or_unknown name_of.Round (tag_of s.tags name_of.Round))
-    ∷ (codes "White", text_or_unknown name_of.White (tag_of s.tags name_of.White)) ∷ (codes "Black", text_or_unknown name_of.Black (tag_of s.tags name_of.Black))
+    ∷ (codes "White", text_or_unknown name_of.White (tag_of s.tags name_of.White))
+    ∷ (codes "Black", text_or_unknown name_of.Black (tag_of s.tags name_of.Black))
     ∷ (codes "Result", result_text s.start.position.to_move s.tree.label.value) ∷ (codes "FEN", fen_text s.start) ∷ (codes "SetUp", codes "1") ∷ []
 
 won_prints : (side : Side) → Prints (win_of side)
@@ -247,11 +251,14 @@ text_behind s = 10 ∷ (lines_text (words (movetext s)) ++ 10 ∷ [])
 pub header_is : (s : Study Mark) → pgn_text s ≡ written (header_of s) (text_behind s)
 unfolding pgn_text tags_text user_lines text_behind
 header_is s =
-    nine (user_line s name_of.Event) (user_line s name_of.Site) (user_line s name_of.Date) (user_line s name_of.Round) (user_line s name_of.White) (user_line s name_of.Black)
-    (tag_line (codes "Result") (result_text s.start.position.to_move s.tree.label.value)) (tag_line (codes "FEN") (fen_text s.start)) (tag_line (codes "SetUp") (codes "1"))
+    nine (user_line s name_of.Event) (user_line s name_of.Site) (user_line s name_of.Date) (user_line s name_of.Round) (user_line s name_of.White)
+    (user_line s name_of.Black)
+    (tag_line (codes "Result") (result_text s.start.position.to_move s.tree.label.value)) (tag_line (codes "FEN") (fen_text s.start))
+    (tag_line (codes "SetUp") (codes "1"))
     (10 ∷ (lines_text (words (movetext s)) ++ 10 ∷ []))
   where
-    nine : (a b c d e f g h i t : List ℕ) → ((a ++ (b ++ (c ++ (d ++ (e ++ f))))) ++ (g ++ (h ++ i))) ++ t ≡ a ++ (b ++ (c ++ (d ++ (e ++ (f ++ (g ++ (h ++ (i ++ t))))))))
+    nine : (a b c d e f g h i t : List ℕ) → ((a ++ (b ++ (c ++ (d ++ (e ++ f))))) ++ (g ++ (h ++ i))) ++ t ≡ a
+        ++ (b ++ (c ++ (d ++ (e ++ (f ++ (g ++ (h ++ (i ++ t))))))))
     nine a b c d e f g h i t = simp append_assoc
 
 -- ---- the opening comment
@@ -273,11 +280,13 @@ words_inside s =
     inside_append (stipulation_text s.stipulation) (codes ": " ++ (verdict_text (verdict s) ++ (codes ", " ++ value)))
     (inside_append (side_name s.stipulation.hero) (goal_text s.stipulation.goal) (side_inside s.stipulation.hero) (goal_inside s.stipulation.goal))
     (inside_append (codes ": ") (verdict_text (verdict s) ++ (codes ", " ++ value)) refl
-    (inside_append (verdict_text (verdict s)) (codes ", " ++ value) (verdict_inside (verdict s)) (inside_append (codes ", ") value refl (value_inside s.start.position.to_move s.tree.label.value))))
+    (inside_append (verdict_text (verdict s)) (codes ", " ++ value) (verdict_inside (verdict s))
+    (inside_append (codes ", ") value refl (value_inside s.start.position.to_move s.tree.label.value))))
 
 opening_aim : (s : Study Mark) (t : List ℕ) → IsCounted s.stipulation.goal → Same (opening_words s) t → aim_in t ≡ Some s.stipulation
 unfolding opening_words
-opening_aim s t counted h = aim_read s.stipulation (verdict_text (verdict s) ++ (codes ", " ++ value_text s.start.position.to_move s.tree.label.value)) t counted h
+opening_aim s t counted h = aim_read s.stipulation (verdict_text (verdict s) ++ (codes ", " ++ value_text s.start.position.to_move s.tree.label.value)) t
+    counted h
 
 -- ---- the result
 
@@ -296,12 +305,39 @@ record IsResult (w : List ℕ) : Type 0 where
 
 won_is : (side : Side) → IsResult (win_of side)
 unfolding said_of
-won_is White = record { first = 49; more = codes "-0"; outcome = WhiteWins; text = refl; begins = refl; all = refl; ink = ink_of (codes "1-0") refl; said = refl }
-won_is Black = record { first = 48; more = codes "-1"; outcome = BlackWins; text = refl; begins = refl; all = refl; ink = ink_of (codes "0-1") refl; said = refl }
+won_is White = record {
+  first = 49;
+  more = codes "-0";
+  outcome = WhiteWins;
+  text = refl;
+  begins = refl;
+  all = refl;
+  ink = ink_of (codes "1-0") refl;
+  said = refl;
+}
+won_is Black = record {
+  first = 48;
+  more = codes "-1";
+  outcome = BlackWins;
+  text = refl;
+  begins = refl;
+  all = refl;
+  ink = ink_of (codes "0-1") refl;
+  said = refl;
+}
 
 result_is : (side : Side) (v : Value) → IsResult (result_text side v)
 unfolding said_of
-result_is side Draw = record { first = 49; more = codes "/2-1/2"; outcome = Drawn; text = refl; begins = refl; all = refl; ink = ink_of (codes "1/2-1/2") refl; said = refl }
+result_is side Draw = record {
+  first = 49;
+  more = codes "/2-1/2";
+  outcome = Drawn;
+  text = refl;
+  begins = refl;
+  all = refl;
+  ink = ink_of (codes "1/2-1/2") refl;
+  said = refl;
+}
 result_is side (Win n) = won_is side
 result_is side (Loss n) = won_is (other_side side)
 
@@ -324,7 +360,8 @@ record EndsWith (x : Result Ended MovesFault) (s : PlainStudy) (o : Option Stipu
   opening : ended_by.game.notes.opening ≡ o
   quiet : moves_in ended_by.behind ≡ None
 
-result_ends : (s : PlainStudy) (path : List ℕ) (o : Option Stipulation) (g : GameRead) → At s path 0 [] o g → (w : List ℕ) → IsResult w → (b : ℕ) (rest : List ℕ) → IsGap b
+result_ends : (s : PlainStudy) (path : List ℕ) (o : Option Stipulation) (g : GameRead) → At s path 0 [] o g → (w : List ℕ) → IsResult w
+    → (b : ℕ) (rest : List ℕ) → IsGap b
     → moves_in (b ∷ rest) ≡ None → (fresh : Bool) → EndsWith (reads fresh (w ++ (b ∷ rest)) g) s o
 result_ends s path o g at w r b rest gap quiet fresh =
     let waits = not (length g.reading.lines.waiting == 0) in
@@ -339,7 +376,8 @@ result_ends s path o g at w r b rest gap quiet fresh =
       ended_by = record { game = record { reading = g.reading; notes = n }; behind = b ∷ rest };
       is = ap (λ (t : List ℕ). reads fresh (t ++ (b ∷ rest)) g) r.text ∙ on_reads fresh r.first bs g
           ∙ ap (λ (x : Lexed). on_token (λ t h. reads (r.first == 10) t h) (length (r.first ∷ bs)) g x) lex
-          ∙ ap (λ (x : Option Numbering). on_numbered (λ h. reads (r.first == 10) (b ∷ rest) h) (length (r.first ∷ bs)) g (symbol (r.first ∷ r.more)) (b ∷ rest) x)
+          ∙ ap (λ (x : Option Numbering). on_numbered (λ h. reads (r.first == 10) (b ∷ rest) h) (length (r.first ∷ bs)) g (symbol (r.first ∷ r.more)) (b
+          ∷ rest) x)
           (quiet_numbered g (symbol (r.first ∷ r.more)) (b ∷ rest) (λ side d s. ap (said_numbered side d s (r.first ∷ r.more) (b ∷ rest)) r.said))
           ∙ ap (λ (x : Result GameTaken Reason). goes_on (λ h. reads (r.first == 10) (b ∷ rest) h) (length (r.first ∷ bs)) (b ∷ rest) x) takes;
       study = at.study;
@@ -376,9 +414,15 @@ tree_ends s c o t h g at fresh =
     let node : Node base none [] s.start = record { here = refl; position = refl; valid = c.valid; counted = counted_start s.start c.number } in
     let count : nodes_in (put none [] none) ≡ 0 = ap (λ (x : Forest (Unit {0})). nodes_in x) (root_put none) in
     let few = c.few in
-    let limits : Limits none [] none (plainly s.tree.below) 0 [] 256 = record { deep = omega arith; within = c.within; room = omega arith; begun = omega arith; few = omega arith } in
+    let limits : Limits none [] none (plainly s.tree.below) 0 [] 256 = record {
+      deep = omega arith;
+      within = c.within;
+      room = omega arith;
+      begun = omega arith;
+      few = omega arith;
+    } in
     let f = follow_read s.tree.below base none [] s.start 0 [] o 256 (Ending s) t node c.playable c.distinct limits h g
-    (retold base none (put none [] none) [] [] 0 [] o g (sym (root_put none)) refl at) in
+    (restated base none (put none [] none) [] [] 0 [] o g (sym (root_put none)) refl at) in
     let made = on_tree base (plainly s.tree.below) in
     let reached : Reached t f.back made f.way 0 [] o g =
     subst (λ (x : Forest (Unit {0})). Reached t f.back (on_tree base x) f.way 0 [] o g) (root_put (plainly s.tree.below)) f.reached in
@@ -440,10 +484,12 @@ opened s c =
       rest = d.rest;
     }
   where
-    regroup : (a b c : List ℕ) → (((codes "{" ++ (a ++ codes "}")) ++ (b ++ (codes " " ++ c))) ++ 10 ∷ []) ++ 10 ∷ [] ≡ 123 ∷ (a ++ (125 ∷ (b ++ (32 ∷ (c ++ 10 ∷ 10 ∷ [])))))
+    regroup : (a b c : List ℕ) → (((codes "{" ++ (a ++ codes "}")) ++ (b ++ (codes " " ++ c))) ++ 10 ∷ []) ++ 10 ∷ [] ≡ 123
+        ∷ (a ++ (125 ∷ (b ++ (32 ∷ (c ++ 10 ∷ 10 ∷ [])))))
     regroup a b c = simp append_assoc
 
-moves_end : (s : Study Mark) → CanBeMade s → (fresh : Bool) → EndsWith (reads fresh (text_behind s) (no_moves s.start)) (on_tree (start_study s.start) (plainly s.tree.below)) (Some s.stipulation)
+moves_end : (s : Study Mark) → CanBeMade s → (fresh : Bool)
+    → EndsWith (reads fresh (text_behind s) (no_moves s.start)) (on_tree (start_study s.start) (plainly s.tree.below)) (Some s.stipulation)
 unfolding text_behind
 moves_end s c fresh =
     let g = no_moves s.start in
@@ -466,12 +512,14 @@ moves_end s c fresh =
 
 symbol_fault : (fresh : Bool) (b : ℕ) (w rest : List ℕ) → begins_symbol b ≡ true → list_all is_plain_symbol (b ∷ w) ≡ true → Stops is_symbol_byte rest
     → fault_from fresh (b ∷ (w ++ rest)) ≡ None
-symbol_fault fresh b w rest begins all stops = fault_step fresh b (w ++ rest) rest (symbol (b ∷ w)) header_ended (symbol_lexed fresh b w rest begins all stops) refl
+symbol_fault fresh b w rest begins all stops = fault_step fresh b (w ++ rest) rest (symbol (b ∷ w)) header_ended
+    (symbol_lexed fresh b w rest begins all stops) refl
 
 gap_fault : (fresh : Bool) (b : ℕ) (bs : List ℕ) → IsGap b → (f : Bool) × (fault_from fresh (b ∷ bs) ≡ fault_from f bs)
 gap_fault fresh b bs gap = (b == 10, fault_step fresh b bs bs blank (on None bs) (gap_lexed b bs gap fresh) refl)
 
-digits_fault : (fresh : Bool) (ds rest : List ℕ) → list_all is_digit ds ≡ true → 0 < length ds → Stops is_symbol_byte rest → fault_from fresh (ds ++ rest) ≡ None
+digits_fault : (fresh : Bool) (ds rest : List ℕ) → list_all is_digit ds ≡ true → 0 < length ds → Stops is_symbol_byte rest
+    → fault_from fresh (ds ++ rest) ≡ None
 digits_fault fresh [] rest h some stops = absurd (omega arith)
 digits_fault fresh (d ∷ ds) rest h some stops =
     symbol_fault fresh d ds rest (begins_digit d (and_parts (is_digit d) (list_all is_digit ds) h).0) (digits_symbol (d ∷ ds) h) stops
@@ -503,12 +551,15 @@ tree_fault s st (more m mark b r) t fresh h =
     let n = decimal st.number in
     let rest = codes " " ++ (move_text st.position m ++ (glyph_text mark.on_move ++ (codes " " ++ comment_text (other_side st.position.to_move) mark))) in
     let tail = move_dots st.position.to_move ++ (rest ++ ((variations st r ++ following (start_after st m) b) ++ Ending s)) in
-    let a = space_cut (n ++ tail) t (subst (λ (x : List ℕ). Same x t) (regroup n (move_dots st.position.to_move) rest (variations st r ++ following (start_after st m) b) (Ending s)) h) in
+    let a = space_cut (n ++ tail) t (subst (λ (x : List ℕ). Same x t)
+    (regroup n (move_dots st.position.to_move) rest (variations st r ++ following (start_after st m) b) (Ending s)) h) in
     let w = word_cut n tail a.back (decimal_ink st.number) a.rest in
-    let d = word_cut (move_dots st.position.to_move) (rest ++ ((variations st r ++ following (start_after st m) b) ++ Ending s)) w.back (dots_ink st.position.to_move) w.rest in
+    let d = word_cut (move_dots st.position.to_move) (rest ++ ((variations st r ++ following (start_after st m) b) ++ Ending s)) w.back
+    (dots_ink st.position.to_move) w.rest in
     let gap = gap_fault fresh a.byte a.back a.gap in
     ap (fault_from fresh) a.text ∙ gap.1 ∙ ap (fault_from gap.0) w.text
-    ∙ digits_fault gap.0 n w.back (decimal_digits st.number) (decimal_some st.number) (subst (λ (x : List ℕ). Stops is_symbol_byte x) (sym d.text) (dots_stop st.position.to_move d.back))
+    ∙ digits_fault gap.0 n w.back (decimal_digits st.number) (decimal_some st.number)
+    (subst (λ (x : List ℕ). Stops is_symbol_byte x) (sym d.text) (dots_stop st.position.to_move d.back))
   where
     dots_ink : (side : Side) → Ink (move_dots side)
     dots_ink White = ink_of (codes ".") refl
@@ -548,7 +599,8 @@ tags_again s c rest =
     six g h i j k l = cc
 
 fen_again : (s : Study Mark) → CanBeMade s → fen_in (flat_map escaped (fen_text s.start)) ≡ fen_text s.start
-fen_again s c = ap (map printed) (value_again (fen_text s.start)) ∙ printed_same (fen_text s.start) (all_print (fen_text s.start) (fen_is s.start (start_read s c)).prints)
+fen_again s c = ap (map printed) (value_again (fen_text s.start))
+    ∙ printed_same (fen_text s.start) (all_print (fen_text s.start) (fen_is s.start (start_read s c)).prints)
 
 pub read_back : AreReadBack
 unfolding study_in tags_of header_fault game_read
@@ -561,7 +613,8 @@ read_back s c =
     let read : game_read (pgn_text s) s.start ≡ Ok moves.ended_by =
     ap (λ (t : List ℕ). to_the_end (reads true t (no_moves s.start))) text ∙ ap to_the_end (lines.moves refl ∙ moves.is)
     ∙ ap (ended_unless moves.ended_by) moves.quiet in
-    let start : start_of (fen_in (flat_map escaped (fen_text s.start))) ≡ Ok s.start = ap start_of (fen_again s c) ∙ start_again s.start c.valid c.clock c.positive c.number in
+    let start : start_of (fen_in (flat_map escaped (fen_text s.start))) ≡ Ok s.start = ap start_of (fen_again s c)
+    ∙ start_again s.start c.valid c.clock c.positive c.number in
     let all = pairs_of (header_of s) ++ tags_from lines.then_fresh (text_behind s) in
     ap (study_behind_header None (pgn_text s)) fault
     ∙ ap (λ (ps : List Pair). study_with_fen None (pgn_text s) (value_of (codes "FEN") ps)) tags
@@ -569,6 +622,7 @@ read_back s c =
     ∙ ap (λ (ps : List Pair). study_read None ps s.start (game_read (pgn_text s) s.start)) tags
     ∙ ap (study_read None all s.start) read
     ∙ ap (study_aimed s.start all moves.ended_by) (by_comment s all s.start.position.to_move moves.ended_by.game.notes moves.opening)
-    ∙ ap (λ (ts : List (Option (List ℕ))). Some (record { start = s.start; stipulation = s.stipulation; tags = ts; tree = moves.ended_by.game.reading.study.tree }))
+    ∙ ap (λ (ts : List (Option (List ℕ))). Some
+    (record { start = s.start; stipulation = s.stipulation; tags = ts; tree = moves.ended_by.game.reading.study.tree }))
     (tags_again s c (tags_from lines.then_fresh (text_behind s)))
     ∙ ap (λ (p : PlainStudy). Some (record { start = s.start; stipulation = s.stipulation; tags = (unmarked_study s).tags; tree = p.tree })) moves.study

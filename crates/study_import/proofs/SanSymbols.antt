@@ -1,9 +1,11 @@
 -- The text of a move is a symbol that is read as that move.
-use Rattle.std.proofs.Common.{◌≡◌, ℕ, ◌+◌, ◌-◌, ◌/◌, ◌%◌, ◌<◌, ◌≤◌, Bool, true, false, List, [], ◌∷◌, ◌++◌, length, take, Option, Some, None, Ok, refl, sym, ap, subst, ◌∙◌, inl, inr, arith, length-append, append_assoc}
+use Rattle.std.proofs.Common.{◌≡◌, ℕ, ◌+◌, ◌-◌, ◌/◌, ◌%◌, ◌<◌, ◌≤◌, Bool, true, false, List, [], ◌∷◌, ◌++◌, length, take, Option, Some, None, Ok}
+use Rattle.std.proofs.Common.{refl, sym, ap, subst, ◌∙◌, inl, inr, arith, length-append, append_assoc}
 use Rattle.std.specs.Prelude.{◌==◌, ◌&&◌, ◌||◌, not, nat_le, slice_index, codes, IfSome, if◌then◌else◌}
 use Rattle.std.specs.List.{list_all, flat_map}
 use Rattle.std.specs.Str.{bytes_eq}
-use Rattle.std.proofs.lemmas.Bool.{false≢true, cases_Bool, ne_eqb, le-leb, leb-true, lt-leb, and_parts, and_from, or_from, or_parts, leb-false, false_from_ne_true, agree_below, agree_below_at}
+use Rattle.std.proofs.lemmas.Bool.{false≢true, cases_Bool, ne_eqb, le-leb, leb-true, lt-leb, and_parts, and_from, or_from, or_parts, leb-false}
+use Rattle.std.proofs.lemmas.Bool.{false_from_ne_true, agree_below, agree_below_at}
 use Rattle.std.proofs.lemmas.List.Folds.{list_all-append}
 use Rattle.std.proofs.lemmas.List.{append-nil, get_or_at}
 use Rattle.std.proofs.lemmas.Slice.Eq.{bytes_eq-Decides}
@@ -28,7 +30,8 @@ use Rattle.study_notation.proofs.OneMoveAgrees.{alone_matches}
 use Rattle.study_games.specs.Bytes.{is_digit, is_tail, begins_symbol}
 use Rattle.study_games.proofs.Lexing.{is_plain_symbol}
 use Rattle.study_games.specs.declared.symbols.Said.TheVariants.{Move as MoveSaid}
-use Rattle.study_games.specs.Symbols.{has_figurine, lettered, half, said_of, without_end, without_tail, without_passing, without_pawn, plain_bytes, spelled, san_in}
+use Rattle.study_games.specs.Symbols.{has_figurine, lettered, half, said_of, without_end, without_tail, without_passing, without_pawn, plain_bytes}
+use Rattle.study_games.specs.Symbols.{spelled, san_in}
 use Rattle.study_marks.specs.Edits.{is_printable}
 
 -- ---- the bytes of a SAN text
@@ -65,7 +68,8 @@ kind_start Pawn = refl
 
 file_byte : (f : ℕ) → f < 8 → is_start (97 + f) ≡ true
 unfolding is_start
-file_byte f lt = rw (le-leb 49 (97 + f) (omega arith), lt-leb (97 + f) 56 (omega arith), le-leb 97 (97 + f) (omega arith), le-leb (97 + f) 104 (omega arith)) refl
+file_byte f lt = rw (le-leb 49 (97 + f) (omega arith), lt-leb (97 + f) 56 (omega arith), le-leb 97 (97 + f) (omega arith), le-leb (97 + f) 104 (omega arith))
+    refl
 
 rank_byte : (r : ℕ) → r < 8 → is_start (49 + r) ≡ true
 unfolding is_start
@@ -135,11 +139,13 @@ promotion_san (Some Pawn) = refl
 san_bytes : (s : San) → Fits s → AllSan (san_text s true)
 san_bytes s f =
     subst AllSan (sym (before_is s))
-    (all_append is_san_byte (before_promotion s) (promotion_text true s.promoted) (start_san (before_promotion s) (before_start s f)) (promotion_san s.promoted))
+    (all_append is_san_byte (before_promotion s) (promotion_text true s.promoted) (start_san (before_promotion s) (before_start s f))
+    (promotion_san s.promoted))
 
 -- ---- kinds that these bytes do not have, by a table
 
-unlike : (q : ℕ → Bool) (wrong : ℕ → Bool) → agree_below (λ b. q b && wrong b) (λ _. false) 128 ≡ true → ((b : ℕ) → q b ≡ true → b < 128) → (b : ℕ) → q b ≡ true → wrong b ≡ false
+unlike : (q : ℕ → Bool) (wrong : ℕ → Bool) → agree_below (λ b. q b && wrong b) (λ _. false) 128 ≡ true → ((b : ℕ) → q b ≡ true → b < 128) → (b : ℕ)
+    → q b ≡ true → wrong b ≡ false
 unlike q wrong table low b h =
     let both = agree_below_at (λ b. q b && wrong b) (λ _. false) 128 b table (low b h) in
     rw h at both
@@ -335,7 +341,8 @@ all_tail [] ys h = none ys h
     none [] h = refl
     none (y ∷ ys) h = rw h refl
 all_tail (x ∷ xs) ys h =
-    let same : list_all is_tail (x ∷ (xs ++ ys)) ≡ list_all is_tail (x ∷ xs) = list_all-append is_tail (x ∷ xs) ys ∙ rw h (and_yes (list_all is_tail (x ∷ xs))) in
+    let same : list_all is_tail (x ∷ (xs ++ ys)) ≡ list_all is_tail (x ∷ xs) = list_all-append is_tail (x ∷ xs) ys
+    ∙ rw h (and_yes (list_all is_tail (x ∷ xs))) in
     ap (λ (b : Bool). if b then [] else x ∷ without_end is_tail (xs ++ ys)) same
     ∙ ap (λ (t : List ℕ). if list_all is_tail (x ∷ xs) then [] else x ∷ t) (all_tail xs ys h)
   where
@@ -402,7 +409,8 @@ text_bytes : (xs : List ℕ) → AllSan xs → list_all is_text_byte xs ≡ true
 text_bytes [] h = refl
 text_bytes (x ∷ xs) h = let a = and_parts (is_san_byte x) (list_all is_san_byte xs) h in rw (san_text_byte x a.0) (text_bytes xs a.1)
 
-san_same : (s : San) (check : List ℕ) → Fits s → list_all is_tail check ≡ true → list_all is_text_byte check ≡ true → san_in (san_text s true ++ check) ≡ san_text s true
+san_same : (s : San) (check : List ℕ) → Fits s → list_all is_tail check ≡ true → list_all is_text_byte check ≡ true
+    → san_in (san_text s true ++ check) ≡ san_text s true
 unfolding san_in
 san_same s check f tail bytes =
     let t = san_text s true in
@@ -421,7 +429,8 @@ officer_chosen b None e = tt
 officer_chosen true (Some k) e = e
 officer_chosen false (Some k) e = absurd (false≢true e)
 
-fits_for : (p : Position) (man : Man) (m : Move) → man.at < 64 → m.target < 64 → is_promotion_choice (reaches_last_rank man m.target) m.promoted ≡ true → Fits (san_for p man m)
+fits_for : (p : Position) (man : Man) (m : Move) → man.at < 64 → m.target < 64 → is_promotion_choice (reaches_last_rank man m.target) m.promoted ≡ true
+    → Fits (san_for p man m)
 unfolding san_for
 fits_for p man m at target choice = record {
   file = some_below (gives_file p man m.target) (file_of man.at) 8 (omega arith);
@@ -451,7 +460,8 @@ unfolding move_of
 symbol_move p m valid e =
     let h = symbol p m valid e in
     let s = san_for p h.man m in
-    let san : san_in (move_text p m) ≡ san_text s true = ap san_in (text_of p m h.man h.here) ∙ san_same s (check_text (after p m)) h.fits (check_tail (after p m)) (check_bytes (after p m)) in
+    let san : san_in (move_text p m) ≡ san_text s true = ap san_in (text_of p m h.man h.here)
+    ∙ san_same s (check_text (after p m)) h.fits (check_tail (after p m)) (check_bytes (after p m)) in
     let read : san_of (san_text s true) ≡ Some s = ap san_of (sym (append-nil (san_text s true))) ∙ san_again s true [] h.fits refl in
     ap (λ (t : List ℕ). meant p t (san_of t)) san ∙ ap (meant p (san_text s true)) read ∙ ap picked (alone_matches p m h.man valid e h.here)
 
@@ -461,7 +471,8 @@ whole_bytes : (p : Position) (m : Move) → IsValid p → is_legal p m ≡ true 
 whole_bytes p m valid e =
     let h = symbol p m valid e in
     subst (λ (t : List ℕ). list_all is_text_byte t ≡ true) (sym (text_of p m h.man h.here))
-    (all_append is_text_byte (san_text (san_for p h.man m) true) (check_text (after p m)) (text_bytes (san_text (san_for p h.man m) true) (san_bytes (san_for p h.man m) h.fits))
+    (all_append is_text_byte (san_text (san_for p h.man m) true) (check_text (after p m))
+    (text_bytes (san_text (san_for p h.man m) true) (san_bytes (san_for p h.man m) h.fits))
     (check_bytes (after p m)))
 
 -- not a text with another byte
@@ -494,16 +505,20 @@ tail_table = refl
 
 file_no_tail : (f : ℕ) → f < 8 → is_tail (97 + f) ≡ false
 unfolding is_file
-file_no_tail f lt = unlike is_file is_tail tail_table (λ b h. let high = leb-true b 104 (and_parts (nat_le 97 b) (nat_le b 104) h).1 in omega (arith, high)) (97 + f)
+file_no_tail f lt = unlike is_file is_tail tail_table (λ b h. let high = leb-true b 104 (and_parts (nat_le 97 b) (nat_le b 104) h).1 in omega (arith, high))
+    (97 + f)
     (and_from (nat_le 97 (97 + f)) (nat_le (97 + f) 104) (le-leb 97 (97 + f) (omega arith)) (le-leb (97 + f) 104 (omega (arith, lt))))
 
 -- not all of it are bytes of a kind that has no file
 not_all : (q : ℕ → Bool) → ((f : ℕ) → f < 8 → q (97 + f) ≡ false) → (s : San) (check : List ℕ) → list_all q (san_text s true ++ check) ≡ false
 not_all q none s check =
-    let cut : san_text s true ++ check ≡ (kind_text s.kind ++ (file_text s.file ++ (rank_text s.rank ++ takes_text s.is_capture))) ++ (97 + s.target % 8) ∷ ((49 + s.target / 8) ∷ (promotion_text true s.promoted ++ check)) =
-    regrouped (kind_text s.kind) (file_text s.file) (rank_text s.rank) (takes_text s.is_capture) (square_text s.target) (promotion_text true s.promoted) check in
+    let cut : san_text s true ++ check ≡ (kind_text s.kind ++ (file_text s.file ++ (rank_text s.rank ++ takes_text s.is_capture))) ++ (97 + s.target % 8)
+    ∷ ((49 + s.target / 8) ∷ (promotion_text true s.promoted ++ check)) =
+    regrouped (kind_text s.kind) (file_text s.file) (rank_text s.rank) (takes_text s.is_capture) (square_text s.target) (promotion_text true s.promoted)
+    check in
     ap (list_all q) cut
-    ∙ has_other q (kind_text s.kind ++ (file_text s.file ++ (rank_text s.rank ++ takes_text s.is_capture))) ((49 + s.target / 8) ∷ (promotion_text true s.promoted ++ check)) (97 + s.target % 8)
+    ∙ has_other q (kind_text s.kind ++ (file_text s.file ++ (rank_text s.rank ++ takes_text s.is_capture))) ((49 + s.target / 8)
+    ∷ (promotion_text true s.promoted ++ check)) (97 + s.target % 8)
     (none (s.target % 8) (omega arith))
   where
     regrouped : (a b c d e f g : List ℕ) → (a ++ (b ++ (c ++ (d ++ (e ++ f))))) ++ g ≡ (a ++ (b ++ (c ++ d))) ++ (e ++ (f ++ g))
@@ -514,7 +529,8 @@ two_bytes s check =
     omega (
       arith,
       length-append (san_text s true) check,
-      length-append (kind_text s.kind) (file_text s.file ++ (rank_text s.rank ++ (takes_text s.is_capture ++ (square_text s.target ++ promotion_text true s.promoted)))),
+      length-append (kind_text s.kind) (file_text s.file
+          ++ (rank_text s.rank ++ (takes_text s.is_capture ++ (square_text s.target ++ promotion_text true s.promoted)))),
       length-append (file_text s.file) (rank_text s.rank ++ (takes_text s.is_capture ++ (square_text s.target ++ promotion_text true s.promoted))),
       length-append (rank_text s.rank) (takes_text s.is_capture ++ (square_text s.target ++ promotion_text true s.promoted)),
       length-append (takes_text s.is_capture) (square_text s.target ++ promotion_text true s.promoted),
@@ -613,8 +629,10 @@ symbol_is p m valid e =
     let h = symbol p m valid e in
     let s = san_for p h.man m in
     let check = check_text (after p m) in
-    let text = text_of p m h.man h.here ∙ ap (λ (t : List ℕ). t ++ check) (before_is s) ∙ append_assoc (before_promotion s) (promotion_text true s.promoted) check in
-    first_of (before_promotion s) (promotion_text true s.promoted ++ check) (move_text p m) text (before_start s h.fits) (before_some s) (whole_bytes p m valid e)
+    let text = text_of p m h.man h.here ∙ ap (λ (t : List ℕ). t ++ check) (before_is s) ∙ append_assoc (before_promotion s) (promotion_text true s.promoted)
+    check in
+    first_of (before_promotion s) (promotion_text true s.promoted ++ check) (move_text p m) text (before_start s h.fits) (before_some s)
+    (whole_bytes p m valid e)
 
 printed_table : agree_below (λ b. is_san_byte b && not (is_printable b)) (λ _. false) 128 ≡ true
 unfolding is_san_byte is_start
@@ -630,5 +648,6 @@ pub symbol_prints : (p : Position) (m : Move) → IsValid p → is_legal p m ≡
 symbol_prints p m valid e =
     let h = symbol p m valid e in
     let s = san_for p h.man m in
-    let san : san_in (move_text p m) ≡ san_text s true = ap san_in (text_of p m h.man h.here) ∙ san_same s (check_text (after p m)) h.fits (check_tail (after p m)) (check_bytes (after p m)) in
+    let san : san_in (move_text p m) ≡ san_text s true = ap san_in (text_of p m h.man h.here)
+    ∙ san_same s (check_text (after p m)) h.fits (check_tail (after p m)) (check_bytes (after p m)) in
     ap (list_all is_printable) san ∙ san_prints (san_text s true) (san_bytes s h.fits)

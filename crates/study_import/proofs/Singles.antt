@@ -41,7 +41,8 @@ side_runs a White = refl
 side_runs a Black = refl
 
 mates_run : (a : Bool) (side : Side) (n : ℕ) → Runs a (mates_text side n) false
-mates_run a side n = both a false false (side_name side) (codes " mates in " ++ decimal n) (side_runs a side) (both false true false (codes " mates in ") (decimal n) refl (number_runs true n))
+mates_run a side n = both a false false (side_name side) (codes " mates in " ++ decimal n) (side_runs a side)
+    (both false true false (codes " mates in ") (decimal n) refl (number_runs true n))
 
 loss_runs : (a : Bool) (side : Side) (n : ℕ) (b : Bool) → Runs a (if b then codes "mate" else mates_text (other_side side) n) false
 loss_runs a side n true = refl
@@ -94,11 +95,13 @@ pub after_valid : (st : Start) (m : Move) → IsValid st.position → is_legal s
 unfolding start_after
 after_valid st m valid legal = IsValid-after st.position m valid legal
 
-pub after_playable : (st : Start) (m : Move) (f : Forest Mark) → IsPlayable (after st.position m) (plainly f) → IsPlayable (start_after st m).position (plainly f)
+pub after_playable : (st : Start) (m : Move) (f : Forest Mark) → IsPlayable (after st.position m) (plainly f)
+    → IsPlayable (start_after st m).position (plainly f)
 unfolding start_after
 after_playable st m f h = h
 
-forest_runs : (f : Forest Mark) (st : Start) → IsValid st.position → IsPlayable st.position (plainly f) → Runs false (following st f) false × Runs false (variations st f) false
+forest_runs : (f : Forest Mark) (st : Start) → IsValid st.position → IsPlayable st.position (plainly f) → Runs false (following st f) false
+    × Runs false (variations st f) false
 forest_runs none st valid h = (refl, refl)
 forest_runs (more m mark b r) st valid h =
     let next = start_after st m in
@@ -110,7 +113,8 @@ forest_runs (more m mark b r) st valid h =
           (both false false false (variations st r) (following next b) others.1 below.0)),
       both false false false (codes " (") (w ++ (following next b ++ (codes ")" ++ variations st r))) refl
           (both false false false w (following next b ++ (codes ")" ++ variations st r)) (move_runs false st m mark valid h.0)
-          (both false false false (following next b) (codes ")" ++ variations st r) below.0 (both false false false (codes ")") (variations st r) refl others.1))),
+          (both false false false (following next b) (codes ")" ++ variations st r) below.0
+          (both false false false (codes ")") (variations st r) refl others.1))),
     )
 
 goal_runs : (g : Goal) → Runs false (goal_text g) false
@@ -140,7 +144,8 @@ words_run s =
     (both false false false (side_name s.stipulation.hero) (goal_text s.stipulation.goal) (side_runs false s.stipulation.hero) (goal_runs s.stipulation.goal))
     (both false true false (codes ": ") rest refl
     (both true false false (verdict_text (verdict s)) (codes ", " ++ value_text s.start.position.to_move s.tree.label.value) (verdict_runs (verdict s))
-    (both false true false (codes ", ") (value_text s.start.position.to_move s.tree.label.value) refl (value_runs true s.start.position.to_move s.tree.label.value))))
+    (both false true false (codes ", ") (value_text s.start.position.to_move s.tree.label.value) refl
+    (value_runs true s.start.position.to_move s.tree.label.value))))
 
 pub movetext_runs : (s : Study Mark) → IsValid s.start.position → IsPlayable s.start.position (plainly s.tree.below) → Runs true (movetext s) false
 unfolding movetext opening_text

@@ -1,5 +1,6 @@
 -- The block of a game reads as a script that no rule refuses, and leads to the game's study.
-use Rattle.std.proofs.Common.{◌≡◌, ℕ, zero, suc, ◌-◌, ◌<◌, ◌≤◌, Bool, true, false, List, [], ◌∷◌, ◌++◌, length, get_or, Option, Some, None, is_some, Result, Ok, Err, refl, sym, ap, subst, ◌∙◌, arith, length-append, append_assoc}
+use Rattle.std.proofs.Common.{◌≡◌, ℕ, zero, suc, ◌-◌, ◌<◌, ◌≤◌, Bool, true, false, List, [], ◌∷◌, ◌++◌, length, get_or, Option, Some, None, is_some}
+use Rattle.std.proofs.Common.{Result, Ok, Err, refl, sym, ap, subst, ◌∙◌, arith, length-append, append_assoc}
 use Rattle.std.specs.Prelude.{◌==◌, codes, decimal, if◌then◌else◌}
 use Rattle.std.specs.List.{list_all, flat_map, AllByRecursion}
 use Rattle.std.proofs.lemmas.Bool.{ne_eqb, le-leb, leb-true, eqb-true, and_parts}
@@ -39,11 +40,18 @@ use Rattle.study_import.specs.declared.movetext.MovesFault.{MovesFault}
 use Rattle.study_import.specs.Movetext.{Ended, read_moves}
 use Rattle.study_import.specs.Reading.{insert_line}
 use Rattle.study_import.specs.Insertions.{Insertion, made_by, AllAccepted, AllReadAgain, lines_for}
-use Rattle.study_import.specs.Blocks.{Entry, Block, no_study, left_out, token_name, Told, told_of, head_line, remark_lines, position_line, stipulation_line, tag_line, tag_value_text, six_names, study_lines, block_lines, aim_of_game, aimed_block, stopped_block, read_block, no_moves, game_read, fen_in, start_block, fen_block, header_block, sized_block, block_of, tail_of, tail_line, under_remark, block_or_tail, block_by, place_in, last_line, is_chosen, Tally, tallied, told_text, blocks}
+use Rattle.study_import.specs.Blocks.{Entry, Block, no_study, left_out, token_name, Reported, reported_of, head_line, remark_lines, position_line}
+use Rattle.study_import.specs.Blocks.{stipulation_line, tag_line, tag_value_text, six_names, study_lines, block_lines, aim_of_game, aimed_block}
+use Rattle.study_import.specs.Blocks.{stopped_block, read_block, no_moves, game_read, fen_in, start_block, fen_block, header_block, sized_block}
+use Rattle.study_import.specs.Blocks.{block_of, tail_of, tail_line, under_remark, block_or_tail, block_by, place_in, last_line, is_chosen, Tally}
+use Rattle.study_import.specs.Blocks.{tallied, reported_text, blocks}
 use Rattle.study_import.specs.Tails.{Tail, position_text}
-use Rattle.study_import.specs.Documents.{Document, empty, placed, composed, with_start, after_position, new_study, after_stipulate, unless_refused, after_move, after_line, after_lines}
-use Rattle.study_import.specs.Meant.{tag_texts, study_aimed, study_read, study_begun, study_with_fen, study_behind_header, study_in, study_of_game, study_of_tail, study_by}
-use Rattle.study_import.specs.Laws.{IsCounted, IsGiven, asks_pgn, IsNoPgn, IsWritten, HasSixTags, document_then, document_behind, IsShort as IsShortLine, AreRead, AreScriptsRead}
+use Rattle.study_import.specs.Documents.{Document, empty, placed, composed, with_start, after_position, new_study, after_stipulate, unless_refused}
+use Rattle.study_import.specs.Documents.{after_move, after_line, after_lines}
+use Rattle.study_import.specs.Meant.{tag_texts, study_aimed, study_read, study_begun, study_with_fen, study_behind_header, study_in, study_of_game}
+use Rattle.study_import.specs.Meant.{study_of_tail, study_by}
+use Rattle.study_import.specs.Laws.{IsCounted, IsGiven, asks_pgn, IsNoPgn, IsWritten, HasSixTags, document_then, document_behind}
+use Rattle.study_import.specs.Laws.{IsShort as IsShortLine, AreRead, AreScriptsRead}
 use Rattle.study_import.proofs.Ink.{Print}
 use Rattle.study_import.proofs.Spelling.{IsShort, IsFen, AllBelow, move_short, move_some, fen_is, path_short, path_some}
 use Rattle.study_import.proofs.PathAgain.{path_again}
@@ -55,8 +63,11 @@ use Rattle.study_import.proofs.TagsTaken.{taken}
 use Rattle.study_import.proofs.TagsTrimmed.{text_trimmed, text_prints, text_few}
 use Rattle.study_import.proofs.AimsCounted.{aim_counted}
 use Rattle.study_import.proofs.Openings.{opening_given}
-use Rattle.study_import.proofs.CommandLines.{side_words, goal_words, stipulate_words, insert_words, tag_words, position_asked, stipulate_asked, stipulate_prints, insert_asked, insert_prints, tag_asked, tag_prints, pgn_asked, empty_asked, position_prints}
-use Rattle.study_import.proofs.Remarks.{shows, IsLine, IsRemark, fed, AreLines, each_append, IsPart, number_part, joined, tag_part, head_remark, remarks_are, left_out_is, fault_words_are, token_part, stopped_lines, fen_words_part, last_is, tail_is}
+use Rattle.study_import.proofs.CommandLines.{side_words, goal_words, stipulate_words, insert_words, tag_words, position_asked, stipulate_asked}
+use Rattle.study_import.proofs.CommandLines.{stipulate_prints, insert_asked, insert_prints, tag_asked, tag_prints, pgn_asked, empty_asked}
+use Rattle.study_import.proofs.CommandLines.{position_prints}
+use Rattle.study_import.proofs.Remarks.{shows, IsLine, IsRemark, fed, AreLines, each_append, IsPart, number_part, joined, tag_part, head_remark}
+use Rattle.study_import.proofs.Remarks.{remarks_are, left_out_is, fault_words_are, token_part, stopped_lines, fen_words_part, last_is, tail_is}
 
 -- ---- lines are found as they were written
 
@@ -131,7 +142,8 @@ after_remarks [] h d = refl
 after_remarks (line ∷ lines) h d = ap (λ (a : Asks). after_lines (after_line d a) lines) h.0.silent ∙ after_remarks lines h.1 d
 
 -- a line that is read as a command
-on_command : (d : Document) (line : List ℕ) (lines : List (List ℕ)) (a : Asks) → command_of line ≡ a → after_lines (Some d) (line ∷ lines) ≡ after_lines (after_line d a) lines
+on_command : (d : Document) (line : List ℕ) (lines : List (List ℕ)) (a : Asks) → command_of line ≡ a
+    → after_lines (Some d) (line ∷ lines) ≡ after_lines (after_line d a) lines
 on_command d line lines a e = ap (λ (x : Asks). after_lines (after_line d x) lines) e
 
 -- ---- insertions
@@ -183,11 +195,13 @@ unfolding insert_lines
 inserts_spelled s [] n h = record { text = refl; each = tt }
 inserts_spelled s (i ∷ later) n h =
     let o = is_open (Unit {0}) s i.0 i.1 h.0 in
-    before (insert_line (position_at s i.0) i.0 (Some i.1)) (lines_for (with_insertion s i.0 i.1) later) (insert_words_of s i) (insert_lines (with_insertion s i.0 i.1) later)
+    before (insert_line (position_at s i.0) i.0 (Some i.1)) (lines_for (with_insertion s i.0 i.1) later) (insert_words_of s i)
+    (insert_lines (with_insertion s i.0 i.1) later)
     (insert_is (path_text i.0) (move_text (position_at s i.0) i.1)) (insert_line_is s i (is_insert s i n o))
     (inserts_spelled (with_insertion s i.0 i.1) later (narrow_inserted s i.0 i.1 n o) h.1)
 
-insert_read : (s : PlainStudy) (i : Insertion) → IsInsert s i → ◌≡◌ {A = Asks} (command_of (insert_words_of s i)) (Ok (Some (insert i.0 (move_text (position_at s i.0) i.1))))
+insert_read : (s : PlainStudy) (i : Insertion) → IsInsert s i
+    → ◌≡◌ {A = Asks} (command_of (insert_words_of s i)) (Ok (Some (insert i.0 (move_text (position_at s i.0) i.1))))
 insert_read s i h =
     insert_asked (path_text i.0) (move_text (position_at s i.0) i.1) i.0 h.path.ink h.path_some h.san.ink h.san_some (path_again i.0 h.again)
 
@@ -232,7 +246,8 @@ module _ (tags : List Pair) where
   unfolding tag_lines
   tags_spelled [] = record { text = refl; each = tt }
   tags_spelled (name ∷ names) =
-      before (tag_line tags name) (flat_map (tag_line tags) names) (tag_words name (text_of name)) (tag_lines names) (tag_is name) (tag_line_is name) (tags_spelled names)
+      before (tag_line tags name) (flat_map (tag_line tags) names) (tag_words name (text_of name)) (tag_lines names) (tag_is name) (tag_line_is name)
+      (tags_spelled names)
 
   tag_read : (name : TagName) → ◌≡◌ {A = Asks} (command_of (tag_words name (text_of name))) (Ok (Some (tag name (text_of name))))
   tag_read name = tag_asked name (text_of name) (text_trimmed name (value_of (tag_name name) tags)) (text_prints name (value_of (tag_name name) tags))
@@ -274,7 +289,8 @@ six_held (composed old) h = h
 six_held empty h = refl
 six_held (placed start) h = refl
 
-begun : (d : Document) (start : Start) (aim : Stipulation) → after_stipulate (with_start d start) aim ≡ Some (composed (framed (new_study start aim) aim (tags_held d)))
+begun : (d : Document) (start : Start) (aim : Stipulation)
+    → after_stipulate (with_start d start) aim ≡ Some (composed (framed (new_study start aim) aim (tags_held d)))
 unfolding tags_held
 begun (composed old) start aim = refl
 begun empty start aim = refl
@@ -290,7 +306,8 @@ position_is start = refl
 position_line_is : (start : Start) → IsFen (fen_text start) → IsLine (position_words start)
 position_line_is start h = printed_line (position_words start) (position_prints (fen_text start) h) (omega (arith, h.few))
 
-stipulation_is : (hero : Side) (goal : Goal) → stipulation_line (record { hero = hero; goal = goal }) ≡ fed (stipulate_words (record { hero = hero; goal = goal }))
+stipulation_is : (hero : Side) (goal : Goal)
+    → stipulation_line (record { hero = hero; goal = goal }) ≡ fed (stipulate_words (record { hero = hero; goal = goal }))
 unfolding stipulation_line
 stipulation_is White Win = refl
 stipulation_is White Draw = refl
@@ -347,8 +364,10 @@ module _ (e : Entry) (start : Start) (aim : Stipulation) (is : List Insertion) w
       let later = tag_lines tags six_names ++ behind in
       let old = framed (new_study start aim) aim (tags_held d) in
       let new = framed bare aim (tag_texts tags) in
-      on_command d (position_words start) (stipulate_words aim ∷ later) (Ok (Some (fen_command PositionWord (fen_text start)))) (position_asked (fen_text start) (fen_is start r))
-      ∙ ap (λ (x : Result Start FenFault). after_lines (after_position d x) (stipulate_words aim ∷ later)) (start_again start r.valid r.clock r.positive r.number)
+      on_command d (position_words start) (stipulate_words aim ∷ later) (Ok (Some (fen_command PositionWord (fen_text start))))
+      (position_asked (fen_text start) (fen_is start r))
+      ∙ ap (λ (x : Result Start FenFault). after_lines (after_position d x) (stipulate_words aim ∷ later))
+      (start_again start r.valid r.clock r.positive r.number)
       ∙ on_command (with_start d start) (stipulate_words aim) later (Ok (Some (stipulate aim))) (stipulate_asked aim counted)
       ∙ ap (λ (x : Option Document). after_lines x later) (begun d start aim)
       ∙ after_append (Some (composed old)) (tag_lines tags six_names) behind
@@ -427,7 +446,7 @@ remarks_read t h = record {
   study = λ d six. after_remarks h.lines h.each d;
 }
 
-block_reads : (e : Entry) (start : Start) (aim : Aim) (t : Told) (is : List Insertion) (tree : PlainStudy) → IsStart start → IsCounted aim.stipulation.goal
+block_reads : (e : Entry) (start : Start) (aim : Aim) (t : Reported) (is : List Insertion) (tree : PlainStudy) → IsStart start → IsCounted aim.stipulation.goal
     → AllAccepted (Unit {0}) (no_moves start).reading.study is → AllReadAgain (no_moves start).reading.study is
     → tree ≡ made_by (no_moves start).reading.study is → t.inserts ≡ lines_for (no_moves start).reading.study is
     → Reads (record { text = block_lines e start aim t; is_study = true })
@@ -445,7 +464,12 @@ block_reads e start aim t is tree r counted h k made inserts =
     (both (remark_lines e t) (study_lines e start aim.stipulation t.inserts) remarks.lines lines (remarks_spelled (remark_lines e t) remarks) spelled) in
     let same : framed (made_by (no_moves start).reading.study is) aim.stipulation (tag_texts (tags_of e.text))
     ≡ record { start = start; stipulation = aim.stipulation; tags = tag_texts (tags_of e.text); tree = tree.tree } =
-    ap (λ (x : Start). record { start = x; stipulation = aim.stipulation; tags = tag_texts (tags_of e.text); tree = (made_by (no_moves start).reading.study is).tree })
+    ap (λ (x : Start). record {
+      start = x;
+      stipulation = aim.stipulation;
+      tags = tag_texts (tags_of e.text);
+      tree = (made_by (no_moves start).reading.study is).tree;
+    })
     (made_start (no_moves start).reading.study is)
     ∙ ap (λ (x : PlainStudy). record { start = start; stipulation = aim.stipulation; tags = tag_texts (tags_of e.text); tree = x.tree }) (sym made) in
     record {
@@ -469,14 +493,16 @@ block_reads e start aim t is tree r counted h k made inserts =
 module _ (given : Option Stipulation) (g : IsGiven given) (e : Entry) where
   aimed_reads : (start : Start) (x : Ended) (aim : Option Aim) → IsStart start → game_read e.text start ≡ Ok x
       → aim_of_game given (tags_of e.text) start.position.to_move x.game.notes ≡ aim
-      → Reads (aimed_block e start (told_of x) aim) (study_aimed start (tags_of e.text) x aim)
+      → Reads (aimed_block e start (reported_of x) aim) (study_aimed start (tags_of e.text) x aim)
   unfolding game_read
-  aimed_reads start x None r is a = remarks_read (left_out e (codes "NoStipulation")) (left_out_is e (codes "NoStipulation") (record { shown = refl; few = omega arith }))
+  aimed_reads start x None r is a = remarks_read (left_out e (codes "NoStipulation"))
+      (left_out_is e (codes "NoStipulation") (record { shown = refl; few = omega arith }))
   aimed_reads start x (Some aim) r is a =
       let read = end_is (read_moves (length e.text) true e.text (no_moves start)) x is in
       let l = moves_lead (Unit {0}) (length e.text) true e.text (no_moves start) x read in
-      let counted = aim_counted given (tags_of e.text) start.position.to_move x.game.notes aim g (opening_given (length e.text) true e.text (no_moves start) x tt read) a in
-      block_reads e start aim (told_of x) l.insertions x.game.reading.study r counted l.accepted
+      let counted = aim_counted given (tags_of e.text) start.position.to_move x.game.notes aim g
+      (opening_given (length e.text) true e.text (no_moves start) x tt read) a in
+      block_reads e start aim (reported_of x) l.insertions x.game.reading.study r counted l.accepted
       (read_again (Unit {0}) (no_moves start).reading.study l.insertions r.valid tt l.accepted) l.study l.lines
 
   read_reads : (start : Start) (x : Result Ended MovesFault) → IsStart start → game_read e.text start ≡ x
@@ -493,7 +519,8 @@ module _ (given : Option Stipulation) (g : IsGiven given) (e : Entry) where
   fen_reads (Some value) = start_reads (fen_in value) (start_of (fen_in value)) refl
 
   no_tag : (tags : List Pair) (none : Bool) → (length tags == 0) ≡ none
-      → Reads (if none then no_study (left_out e (codes "left out: no tags")) else fen_block given e (value_of (codes "FEN") tags)) (study_with_fen given e.text (value_of (codes "FEN") tags))
+      → Reads (if none then no_study (left_out e (codes "left out: no tags")) else fen_block given e (value_of (codes "FEN") tags))
+      (study_with_fen given e.text (value_of (codes "FEN") tags))
   no_tag [] true is = remarks_read _ (left_out_is e (codes "left out: no tags") (record { shown = refl; few = omega arith }))
   no_tag [] false is = fen_reads None
   no_tag (t ∷ ts) true is = absurd (ne_length t ts is)
@@ -507,10 +534,12 @@ module _ (given : Option Stipulation) (g : IsGiven given) (e : Entry) where
       remarks_read _ (fault_words_are e (place_in e fault.left) (token_name fault.why) [] (token_part fault.why) (record { shown = refl; few = omega arith }))
   header_reads None = no_tag (tags_of e.text) (length (tags_of e.text) == 0) refl
 
-sized_reads : (given : Option Stipulation) (number line : ℕ) (text : Option (List ℕ)) → IsGiven given → Reads (sized_block given number line text) (study_of_game given text)
+sized_reads : (given : Option Stipulation) (number line : ℕ) (text : Option (List ℕ)) → IsGiven given
+    → Reads (sized_block given number line text) (study_of_game given text)
 unfolding study_in
 sized_reads given number line None g =
-    remarks_read _ (fault_words_are (record { number = number; line = line; text = [] }) (record { line = line; column = 1 }) (codes "GameTooLarge") [] (record { shown = refl; few = omega arith }) (record { shown = refl; few = omega arith }))
+    remarks_read _ (fault_words_are (record { number = number; line = line; text = [] }) (record { line = line; column = 1 }) (codes "GameTooLarge") []
+    (record { shown = refl; few = omega arith }) (record { shown = refl; few = omega arith }))
 sized_reads given number line (Some text) g = header_reads given g (record { number = number; line = line; text = text }) (header_fault text)
 
 game_reads : (given : Option Stipulation) (number : ℕ) (game : Game) → IsGiven given → Reads (block_of given number game) (study_of_game given game.text)
@@ -566,10 +595,10 @@ last_leads games studies =
     record { lines = h.lines; spelled = remarks_spelled (last_line games studies) h; study = λ d six. after_remarks h.lines h.each d }
 
 -- a game that is not chosen has no block
-told_leads : (c : Choice) (g : Game) (number : ℕ) (chosen : Bool) → IsGiven c.given
+reported_leads : (c : Choice) (g : Game) (number : ℕ) (chosen : Bool) → IsGiven c.given
     → LeadsTo (if chosen then (block_by c number g).text else []) (λ d. if chosen then document_then d (study_by c g.text) else d)
-told_leads c g number true given = let r = by_reads c number g given in record { lines = r.lines; spelled = r.spelled; study = r.study }
-told_leads c g number false given = record { lines = []; spelled = record { text = refl; each = tt }; study = λ d six. refl }
+reported_leads c g number true given = let r = by_reads c number g given in record { lines = r.lines; spelled = r.spelled; study = r.study }
+reported_leads c g number false given = record { lines = []; spelled = record { text = refl; each = tt }; study = λ d six. refl }
 
 six_then : (c : Choice) (g : Game) (number : ℕ) (chosen : Bool) → IsGiven c.given → (d : Document) → HasSixTags d
     → HasSixTags (if chosen then document_then d (study_by c g.text) else d)
@@ -584,15 +613,15 @@ met_then : (c : Choice) (t : Tally) (g : Game) → (tallied c t g).met ≡ one_m
 met_then c t g = met_if (is_chosen c (one_more t.met)) _ _ (one_more t.met) refl refl (tallied c t g) refl
 
 blocks_lead : (c : Choice) (t : Tally) (games : List Game) → IsGiven c.given → LeadsTo (blocks c t games) (λ d. document_behind c t.met d games)
-blocks_lead c t [] given = last_leads t.told t.studies
+blocks_lead c t [] given = last_leads t.reported t.studies
 blocks_lead c t (g ∷ gs) given =
     let number = one_more t.met in
-    let here = told_leads c g number (is_chosen c number) given in
+    let here = reported_leads c g number (is_chosen c number) given in
     let later = blocks_lead c (tallied c t g) gs given in
     let next = λ (d : Document). if is_chosen c number then document_then d (study_by c g.text) else d in
     record {
       lines = here.lines ++ later.lines;
-      spelled = both (told_text c t g) (blocks c (tallied c t g) gs) here.lines later.lines here.spelled later.spelled;
+      spelled = both (reported_text c t g) (blocks c (tallied c t g) gs) here.lines later.lines here.spelled later.spelled;
       study = λ d six.
           after_append (Some d) here.lines later.lines ∙ ap (λ (o : Option Document). after_lines o later.lines) (here.study d six)
           ∙ later.study (next d) (six_then c g number (is_chosen c number) given d six)

@@ -1,5 +1,6 @@
 -- The texts of moves, of starts and of paths are printable words.
-use Rattle.std.proofs.Common.{◌≡◌, ℕ, zero, suc, ◌+◌, ◌*◌, ◌/◌, ◌<◌, ◌≤◌, Bool, true, false, List, [], ◌∷◌, ◌++◌, length, Option, Some, None, refl, sym, ap, subst, inl, inr, arith, length-append, append_assoc}
+use Rattle.std.proofs.Common.{◌≡◌, ℕ, zero, suc, ◌+◌, ◌*◌, ◌/◌, ◌<◌, ◌≤◌, Bool, true, false, List, [], ◌∷◌, ◌++◌, length, Option, Some, None, refl}
+use Rattle.std.proofs.Common.{sym, ap, subst, inl, inr, arith, length-append, append_assoc}
 use Rattle.std.specs.Prelude.{IfSome, decimal, ◌==◌, if◌then◌else◌}
 use Rattle.std.proofs.lemmas.Bool.{cases_Bool, eqb-true, and_parts, ltb-false}
 use Rattle.std.proofs.lemmas.Fmt.{length-decimal-le, decimal_nonempty}
@@ -20,7 +21,8 @@ use Rattle.study_notation.specs.declared.san.San.{San}
 use Rattle.study_notation.specs.declared.placement.Piece.{Piece}
 use Rattle.study_notation.specs.declared.start.Start.{Start}
 use Rattle.study_notation.specs.San.{kind_text, file_text, rank_text, takes_text, promotion_text, san_text}
-use Rattle.study_notation.specs.FenSpelling.{man_letter, row, run, spelled, rank_field, ranks_text, placement_text, side_text, square_text, passed_text, fen_text}
+use Rattle.study_notation.specs.FenSpelling.{man_letter, row, run, spelled, rank_field, ranks_text, placement_text, side_text, square_text}
+use Rattle.study_notation.specs.FenSpelling.{passed_text, fen_text}
 use Rattle.study_notation.specs.SanSpelling.{gives_file, gives_rank, san_for, check_text, move_text}
 use Rattle.study_notation.proofs.FenStarts.{IsRead}
 use Rattle.study_notation.proofs.RowText.{length-placement_text}
@@ -107,7 +109,8 @@ move_short p m valid e =
 
 square_some : (s : San) → 0 < length (san_text s true)
 square_some s =
-    let a = length-append (kind_text s.kind) (file_text s.file ++ (rank_text s.rank ++ (takes_text s.is_capture ++ (square_text s.target ++ promotion_text true s.promoted)))) in
+    let a = length-append (kind_text s.kind) (file_text s.file
+    ++ (rank_text s.rank ++ (takes_text s.is_capture ++ (square_text s.target ++ promotion_text true s.promoted)))) in
     let b = length-append (file_text s.file) (rank_text s.rank ++ (takes_text s.is_capture ++ (square_text s.target ++ promotion_text true s.promoted))) in
     let c = length-append (rank_text s.rank) (takes_text s.is_capture ++ (square_text s.target ++ promotion_text true s.promoted)) in
     let d = length-append (takes_text s.is_capture) (square_text s.target ++ promotion_text true s.promoted) in
@@ -230,7 +233,8 @@ unfolding fen_text
 fen_is s r =
     let men = s.position.men in
     let p = placement_ink men in
-    let q = passed_in s.position.passed (passed_on men s.position.to_move s.position.passed (IsFaultless-from_first men s.position.to_move s.position.passed r.valid.faultless).possible) in
+    let q = passed_in s.position.passed (passed_on men s.position.to_move s.position.passed
+    (IsFaultless-from_first men s.position.to_move s.position.passed r.valid.faultless).possible) in
     let c = counted s.clock r.clock in
     let n = counted s.number r.number in
     let some = decimal_nonempty s.number (omega (arith, r.number)) in
@@ -238,16 +242,20 @@ fen_is s r =
     let few = ltb-false 4 (length men) (IsFaultless-from_first men s.position.to_move s.position.passed r.valid.faultless).few in
     record {
       first = b.0;
-      rest = b.1 ++ (32 ∷ (side_text s.position.to_move ++ (32 ∷ ((45 ∷ []) ++ (32 ∷ (passed_text s.position.passed ++ (32 ∷ (decimal s.clock ++ (32 ∷ decimal s.number)))))))));
-      front = placement_text men ++ (32 ∷ (side_text s.position.to_move ++ (32 ∷ ((45 ∷ []) ++ (32 ∷ (passed_text s.position.passed ++ (32 ∷ (decimal s.clock ++ 32 ∷ []))))))));
+      rest = b.1 ++ (32 ∷ (side_text s.position.to_move
+          ++ (32 ∷ ((45 ∷ []) ++ (32 ∷ (passed_text s.position.passed ++ (32 ∷ (decimal s.clock ++ (32 ∷ decimal s.number)))))))));
+      front = placement_text men ++ (32 ∷ (side_text s.position.to_move
+          ++ (32 ∷ ((45 ∷ []) ++ (32 ∷ (passed_text s.position.passed ++ (32 ∷ (decimal s.clock ++ 32 ∷ []))))))));
       last = decimal s.number;
-      begins = ap (λ (t : List ℕ). t ++ (32 ∷ (side_text s.position.to_move ++ (32 ∷ ((45 ∷ []) ++ (32 ∷ (passed_text s.position.passed ++ (32 ∷ (decimal s.clock ++ (32 ∷ decimal s.number)))))))))) b.2;
+      begins = ap (λ (t : List ℕ). t ++ (32 ∷ (side_text s.position.to_move
+          ++ (32 ∷ ((45 ∷ []) ++ (32 ∷ (passed_text s.position.passed ++ (32 ∷ (decimal s.clock ++ (32 ∷ decimal s.number)))))))))) b.2;
       no_space = b.3;
       ends = regrouped (placement_text men) (side_text s.position.to_move) (45 ∷ []) (passed_text s.position.passed) (decimal s.clock) (decimal s.number);
       inked = n.ink;
       some = some;
       prints = spaced (placement_text men) _ p.0 (spaced (side_text s.position.to_move) _ (side_ink s.position.to_move)
-          (spaced (45 ∷ []) _ (omega arith, omega arith, tt) (spaced (passed_text s.position.passed) _ q (spaced (decimal s.clock) _ c.ink (ink_prints (decimal s.number) n.ink)))));
+          (spaced (45 ∷ []) _ (omega arith, omega arith, tt)
+          (spaced (passed_text s.position.passed) _ q (spaced (decimal s.clock) _ c.ink (ink_prints (decimal s.number) n.ink)))));
       few = omega (
         arith,
         longs (placement_text men) (side_text s.position.to_move) (45 ∷ []) (passed_text s.position.passed) (decimal s.clock) (decimal s.number),
@@ -280,7 +288,10 @@ places_short (k ∷ ks) h =
 
 pub path_short : (ks : List ℕ) → AllBelow 62 ks → IsShort (3 * length ks + 4) (path_text ks)
 unfolding path_text
-path_short [] h = record { ink = (omega arith, omega arith, (omega arith, omega arith, (omega arith, omega arith, (omega arith, omega arith, tt)))); few = omega arith }
+path_short [] h = record {
+  ink = (omega arith, omega arith, (omega arith, omega arith, (omega arith, omega arith, (omega arith, omega arith, tt))));
+  few = omega arith;
+}
 path_short (k ∷ ks) h =
     let p = place_short k h.0 in
     let q = places_short ks h.1 in

@@ -8,7 +8,8 @@ use Rattle.study_games.specs.Bytes.{is_blank}
 use Rattle.study_games.specs.Symbols.{without_end}
 use Rattle.study_games.specs.Words.{is_inked, is_space, begun_word, first_word, without_spaces}
 use Rattle.study_games.specs.Characters.{Character, is_utf8, read_at}
-use Rattle.study_games.specs.Ascii.{first_or, behind_or, word_at, latin_1, latin_a, romanian, cyrillic, ukrainian, marks, in_range, letters_of, ascii_of, spelled_behind, spelled_in, spelled_out, short_text}
+use Rattle.study_games.specs.Ascii.{first_or, behind_or, word_at, latin_1, latin_a, romanian, cyrillic, ukrainian, marks, in_range, letters_of}
+use Rattle.study_games.specs.Ascii.{ascii_of, spelled_behind, spelled_in, spelled_out, short_text}
 
 abbrev AllPrint : List ℕ → Type 0
 AllPrint [] = Unit {0}

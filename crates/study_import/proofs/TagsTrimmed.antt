@@ -1,5 +1,6 @@
 -- The text of a tag has no spaces at its ends.
-use Rattle.std.proofs.Common.{◌≡◌, ℕ, zero, suc, ◌+◌, ◌≤◌, Bool, true, false, List, [], ◌∷◌, length, take, Option, Some, None, refl, sym, ap, ◌∙◌, inl, inr, arith}
+use Rattle.std.proofs.Common.{◌≡◌, ℕ, zero, suc, ◌+◌, ◌≤◌, Bool, true, false, List, [], ◌∷◌, length, take, Option, Some, None, refl, sym, ap, ◌∙◌}
+use Rattle.std.proofs.Common.{inl, inr, arith}
 use Rattle.std.specs.Prelude.{◌==◌, codes, if◌then◌else◌}
 use Rattle.std.specs.List.{list_all, prefix_len}
 use Rattle.std.proofs.lemmas.Bool.{cases_Bool, and_parts, leb-true, false≢true, false_from_ne_true}
@@ -78,7 +79,8 @@ trimmed_from (x ∷ xs) h e some = record { first = x; rest = xs; begins = refl;
 short_starts : (value : List ℕ) → Starts (short_text value)
 unfolding short_text
 short_starts value =
-    rw (same_end (take 60 (without_spaces value))) (starts_ended (take 60 (without_spaces value)) (starts_take 60 (without_spaces value) (starts_without value)))
+    rw (same_end (take 60 (without_spaces value)))
+    (starts_ended (take 60 (without_spaces value)) (starts_take 60 (without_spaces value) (starts_without value)))
 
 short_ends : (value : List ℕ) → ended (short_text value) ≡ short_text value
 unfolding short_text
@@ -120,7 +122,8 @@ unknown_prints named.Round = (refl, omega arith)
 unknown_prints named.White = (refl, omega arith)
 unknown_prints named.Black = (refl, omega arith)
 
-shown_prints : (name : TagName) (text : List ℕ) (none : Bool) → list_all is_printable text ≡ true → list_all is_printable (if none then unknown_text name else text) ≡ true
+shown_prints : (name : TagName) (text : List ℕ) (none : Bool) → list_all is_printable text ≡ true
+    → list_all is_printable (if none then unknown_text name else text) ≡ true
 shown_prints name text true h = (unknown_prints name).0
 shown_prints name text false h = h
 

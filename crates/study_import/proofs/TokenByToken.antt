@@ -15,7 +15,7 @@ use Rattle.study_import.specs.Notes.{GameRead, GameTaken, noted_on, game_taken}
 use Rattle.study_games.specs.Tokens.{Token, Lexed, lexed, token_at, begins_feed}
 use Rattle.study_import.specs.declared.numbering.Numbering.{Numbering}
 use Rattle.study_import.specs.Movetext.{Ended, goes_on, game_numbered, with_numbering, on_numbered, on_token, read_moves}
-use Rattle.study_import.specs.MovesRead.{IsTold, TakesIn}
+use Rattle.study_import.specs.MovesRead.{IsReported, TakesIn}
 
 abbrev lexed_or : Option Lexed → Lexed
 lexed_or o = unwrap_or o (Err Byte)
@@ -48,19 +48,19 @@ module _ (n m : ℕ) (fresh : Bool) (r : GameRead) (t : Token) (behind : List �
   unfit_on (b ∷ bs) e k i = numbered_by b bs None e k i
 
 -- a reported reason, or want of memory
-pub told_by : (why : Reason) (x : Result GameTaken Reason) (new : GameRead) (expected : Result Ended MovesFault) (left : ℕ) → TakesIn (Err why) x new
-    → (x ≡ Err why → expected ≡ Err (record { why = stop.Taking why; left = left })) → IsTold (stop.Taking why) expected left
-told_by (reason.Move move_fault.NoSuchNode) x new expected left h f = f h
-told_by (reason.Move (move_fault.San fault)) x new expected left h f = f h
-told_by (reason.Move move_fault.TooDeep) x new expected left h f = f h
-told_by (reason.Move move_fault.TreeFull) x new expected left h f = f h
-told_by (reason.Move move_fault.OutOfMemory) x new expected left h f = tt
-told_by (reason.Line line_fault.NoMoveBefore) x new expected left h f = f h
-told_by (reason.Line line_fault.TooNested) x new expected left h f = f h
-told_by (reason.Line line_fault.NotOpened) x new expected left h f = f h
-told_by (reason.Line line_fault.OutOfMemory) x new expected left h f = tt
-told_by reason.TagInMoves x new expected left h f = f h
-told_by reason.NullMove x new expected left h f = f h
+pub reported_by : (why : Reason) (x : Result GameTaken Reason) (new : GameRead) (expected : Result Ended MovesFault) (left : ℕ) → TakesIn (Err why) x new
+    → (x ≡ Err why → expected ≡ Err (record { why = stop.Taking why; left = left })) → IsReported (stop.Taking why) expected left
+reported_by (reason.Move move_fault.NoSuchNode) x new expected left h f = f h
+reported_by (reason.Move (move_fault.San fault)) x new expected left h f = f h
+reported_by (reason.Move move_fault.TooDeep) x new expected left h f = f h
+reported_by (reason.Move move_fault.TreeFull) x new expected left h f = f h
+reported_by (reason.Move move_fault.OutOfMemory) x new expected left h f = tt
+reported_by (reason.Line line_fault.NoMoveBefore) x new expected left h f = f h
+reported_by (reason.Line line_fault.TooNested) x new expected left h f = f h
+reported_by (reason.Line line_fault.NotOpened) x new expected left h f = f h
+reported_by (reason.Line line_fault.OutOfMemory) x new expected left h f = tt
+reported_by reason.TagInMoves x new expected left h f = f h
+reported_by reason.NullMove x new expected left h f = f h
 
 -- a token that was taken, with its note
 pub noted_takes : (answer : Result Bool Reason) (x : Result Taken Reason) (new : Reading) (n : Notes) → Takes answer x new

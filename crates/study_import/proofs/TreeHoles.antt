@@ -140,7 +140,8 @@ by_move true j r s e f = absurd cc
 by_move false j r s e f = f e
 
 -- a move that is not among them
-pub beside_place : (x : Plain) (j : ℕ) (m n : Move) (b : Plain) → place_from j m x ≡ None → same_move m n ≡ false → place_from j m (beside x (more n tt b none)) ≡ None
+pub beside_place : (x : Plain) (j : ℕ) (m n : Move) (b : Plain) → place_from j m x ≡ None → same_move m n ≡ false
+    → place_from j m (beside x (more n tt b none)) ≡ None
 unfolding beside
 beside_place none j m n b e f = rw f refl
 beside_place (more o l c r) j m n b e f =

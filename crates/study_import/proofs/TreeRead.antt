@@ -1,5 +1,6 @@
 -- The movetext of a tree is read as that tree.
-use Rattle.std.proofs.Common.{◌≡◌, ℕ, zero, suc, ◌+◌, ◌<◌, ◌≤◌, Bool, true, false, List, [], ◌∷◌, ◌++◌, length, take, Option, Some, None, refl, sym, ap, subst, ◌∙◌, inl, inr, arith, length-append, append_assoc}
+use Rattle.std.proofs.Common.{◌≡◌, ℕ, zero, suc, ◌+◌, ◌<◌, ◌≤◌, Bool, true, false, List, [], ◌∷◌, ◌++◌, length, take, Option, Some, None, refl, sym}
+use Rattle.std.proofs.Common.{ap, subst, ◌∙◌, inl, inr, arith, length-append, append_assoc}
 use Rattle.std.specs.Prelude.{◌==◌, ◌||◌, nat_le, ◌/◌, codes, decimal, if◌then◌else◌}
 use Rattle.std.specs.List.{list_all}
 use Rattle.std.proofs.lemmas.Bool.{false_from_ne_true, and_from, le-leb, leb-true, ne_eqb, and_parts}
@@ -41,11 +42,14 @@ use Rattle.study_import.proofs.Ink.{Ink, ink_of, decimal_ink}
 use Rattle.study_import.proofs.Spelling.{move_short}
 use Rattle.study_import.proofs.Blanks.{Same, same_cut, word_cut, IsGap, space_cut, same_all}
 use Rattle.study_import.proofs.SanSymbols.{symbol_is, symbol_said, symbol_move, symbol_prints}
-use Rattle.study_import.proofs.TreeHoles.{Plain, put, put_has, put_here, put_way, put_width, put_place, put_moves, put_last, put_put, put_nodes, position_on, beside, beside_assoc, beside_none, last_put, last_has, last_is, last_moves, last_nodes, beside_nodes, beside_place, first_put, first_beside}
+use Rattle.study_import.proofs.TreeHoles.{Plain, put, put_has, put_here, put_way, put_width, put_place, put_moves, put_last, put_put, put_nodes}
+use Rattle.study_import.proofs.TreeHoles.{position_on, beside, beside_assoc, beside_none, last_put, last_has, last_is, last_moves, last_nodes}
+use Rattle.study_import.proofs.TreeHoles.{beside_nodes, beside_place, first_put, first_beside}
 use Rattle.study_import.specs.declared.numbering.Numbering.{Numbering}
 use Rattle.study_import.specs.Numbering.{has_dot}
 use Rattle.study_import.proofs.Numbers.{IsFirst, Fits, Counted, counted_on, no_dot, number_fits}
-use Rattle.study_import.proofs.ReadSteps.{At, Reached, reached_on, gap_step, dot_step, number_step, glyph_step, comment_step, IsNew, move_step, open_step, close_step, decimal_digits, decimal_some}
+use Rattle.study_import.proofs.ReadSteps.{At, Reached, reached_on, gap_step, dot_step, number_step, glyph_step, comment_step, IsNew, move_step}
+use Rattle.study_import.proofs.ReadSteps.{open_step, close_step, decimal_digits, decimal_some}
 
 -- the study with this tree
 abbrev pub on_tree : PlainStudy → Plain → PlainStudy
@@ -71,7 +75,8 @@ side_inside White = refl
 side_inside Black = refl
 
 mates_inside : (side : Side) (n : ℕ) → list_all is_inside (mates_text side n) ≡ true
-mates_inside side n = inside_append (side_name side) (codes " mates in " ++ decimal n) (side_inside side) (inside_append (codes " mates in ") (decimal n) refl (number_inside n))
+mates_inside side n = inside_append (side_name side) (codes " mates in " ++ decimal n) (side_inside side)
+    (inside_append (codes " mates in ") (decimal n) refl (number_inside n))
 
 loss_by : (side : Side) (n : ℕ) (b : Bool) → list_all is_inside (if b then codes "mate" else mates_text (other_side side) n) ≡ true
 loss_by side n true = refl
@@ -146,7 +151,8 @@ module _ (s : PlainStudy) (path : List ℕ) (from : ℕ) (ws : List Waiting) (o 
   digits_pass [] rest h some stops fits = absurd (omega arith)
   digits_pass (d ∷ ds) rest h some stops fits =
       λ g at. let f = fits g.notes.numbering at.numbers in
-      number_step s path from ws o g at d ds rest (begins_digit d (and_parts (is_digit d) (list_all is_digit ds) h).0) (digits_symbol (d ∷ ds) h) (said_number (d ∷ ds) h) stops f.0 f.1 f.2
+      number_step s path from ws o g at d ds rest (begins_digit d (and_parts (is_digit d) (list_all is_digit ds) h).0) (digits_symbol (d ∷ ds) h)
+      (said_number (d ∷ ds) h) stops f.0 f.1 f.2
 
   -- the number of a move, before a text without a dot
   number_passes : (st : Start) (rest t : List ℕ) → Counted s.start (length path) st → length path < 256 → ((u : List ℕ) → Same rest u → has_dot u ≡ false)
@@ -160,8 +166,10 @@ module _ (s : PlainStudy) (path : List ℕ) (from : ℕ) (ws : List Waiting) (o 
         d.rest,
         passes_text t (n ++ c.back) d.back c.text
             (passes_on (n ++ c.back) c.back d.back
-            (digits_pass n c.back (decimal_digits st.number) (decimal_some st.number) (subst (λ (x : List ℕ). Stops is_symbol_byte x) (sym d.text) (dots_stop st.position.to_move d.back))
-            (λ m first. subst (λ (x : List ℕ). Fits s.start (length path) m n x) (sym d.text) (number_fits s.start (length path) st m d.back counted depth first (dotless d.back d.rest))))
+            (digits_pass n c.back (decimal_digits st.number) (decimal_some st.number)
+            (subst (λ (x : List ℕ). Stops is_symbol_byte x) (sym d.text) (dots_stop st.position.to_move d.back))
+            (λ m first. subst (λ (x : List ℕ). Fits s.start (length path) m n x) (sym d.text)
+            (number_fits s.start (length path) st m d.back counted depth first (dotless d.back d.rest))))
             (passes_text c.back (dots ++ d.back) d.back d.text (dots_pass st.position.to_move d.back))),
       )
     where
@@ -170,7 +178,8 @@ module _ (s : PlainStudy) (path : List ℕ) (from : ℕ) (ws : List Waiting) (o 
       dots_ink Black = ink_of (codes "...") refl
 
   -- a NAG, or nothing
-  glyph_word : (d : ℕ) (rest t : List ℕ) → is_digit d ≡ true → 32 < d → d ≤ 126 → Same (32 ∷ 36 ∷ d ∷ 32 ∷ rest) t → (back : List ℕ) × Same (32 ∷ rest) back × Passes t back
+  glyph_word : (d : ℕ) (rest t : List ℕ) → is_digit d ≡ true → 32 < d → d ≤ 126 → Same (32 ∷ 36 ∷ d ∷ 32 ∷ rest) t → (back : List ℕ) × Same (32 ∷ rest) back
+      × Passes t back
   glyph_word d rest t digit low high h =
       let a = space_cut (36 ∷ d ∷ 32 ∷ rest) t h in
       let c = word_cut (36 ∷ d ∷ []) (32 ∷ rest) a.back (omega arith, omega arith, (low, high, tt)) a.rest in
@@ -199,7 +208,8 @@ module _ (s : PlainStudy) (path : List ℕ) (from : ℕ) (ws : List Waiting) (o 
   glyph_passes (Some Mistake) rest t h = glyph_word 52 rest t refl (omega arith) (omega arith) h
 
   -- a comment in braces
-  pub comment_passes : (words rest t : List ℕ) → list_all is_inside words ≡ true → Same (123 ∷ (words ++ (125 ∷ rest))) t → (back : List ℕ) × Same rest back × Passes t back
+  pub comment_passes : (words rest t : List ℕ) → list_all is_inside words ≡ true → Same (123 ∷ (words ++ (125 ∷ rest))) t → (back : List ℕ) × Same rest back
+      × Passes t back
   comment_passes words rest t inside h =
       let a = word_cut (123 ∷ []) (words ++ (125 ∷ rest)) t (omega arith, omega arith, tt) h in
       let c = same_cut words (125 ∷ rest) a.back a.rest in
@@ -215,7 +225,8 @@ module _ (s : PlainStudy) (path : List ℕ) (from : ℕ) (ws : List Waiting) (o 
   mark_passes : (side : Side) (mark : Mark) (rest t : List ℕ) → Same (comment_text side mark ++ rest) t → (back : List ℕ) × Same rest back × Passes t back
   mark_passes side mark rest t h =
       let words = value_text side mark.value ++ dual_text mark.on_move in
-      comment_passes words rest t (inside_append (value_text side mark.value) (dual_text mark.on_move) (value_inside side mark.value) (dual_inside mark.on_move))
+      comment_passes words rest t (inside_append (value_text side mark.value) (dual_text mark.on_move) (value_inside side mark.value)
+      (dual_inside mark.on_move))
       (subst (λ (x : List ℕ). Same x t) (regroup (value_text side mark.value) (dual_text mark.on_move) rest) h)
     where
       regroup : (a b c : List ℕ) → (123 ∷ (a ++ (b ++ 125 ∷ []))) ++ c ≡ 123 ∷ ((a ++ b) ++ (125 ∷ c))
@@ -231,7 +242,8 @@ pub record Node (s : PlainStudy) (f : Plain) (path : List ℕ) (st : Start) : Ty
   pub counted : Counted s.start (length path) st
 
 -- the text of a move that is new below the node, and the rest
-record Moved (s : PlainStudy) (f : Plain) (path : List ℕ) (x : Plain) (m : Move) (rest t : List ℕ) (from : ℕ) (ws : List Waiting) (o : Option Stipulation) (g : GameRead) : Type 0 where
+record Moved (s : PlainStudy) (f : Plain) (path : List ℕ) (x : Plain) (m : Move) (rest t : List ℕ) (from : ℕ) (ws : List Waiting) (o : Option Stipulation)
+    (g : GameRead) : Type 0 where
   back : List ℕ
   same : Same rest back
   reached : Reached t back (on_tree s (put f path (with_last m tt x))) (path ++ width x ∷ []) from ws o g
@@ -241,7 +253,8 @@ gap_stops b (inl e) = rw e refl
 gap_stops b (inr e) = rw e refl
 
 module _ (s : PlainStudy) (f : Plain) (path : List ℕ) (st : Start) (node : Node s f path st) (from : ℕ) (ws : List Waiting) (o : Option Stipulation) where
-  move_moves : (x : Plain) (m : Move) (rest : List ℕ) → is_legal st.position m ≡ true → place_from 0 m x ≡ None → length path < 256 → nodes_in (put f path x) + 2 ≤ 4096
+  move_moves : (x : Plain) (m : Move) (rest : List ℕ) → is_legal st.position m ≡ true → place_from 0 m x ≡ None → length path < 256
+      → nodes_in (put f path x) + 2 ≤ 4096
       → Stops is_symbol_byte rest → (g : GameRead) → At (on_tree s (put f path x)) path from ws o g
       → Reached (move_text st.position m ++ rest) rest (on_tree s (put f path (with_last m tt x))) (path ++ width x ∷ []) from ws o g
   move_moves x m rest legal new depth room stops g at =
@@ -250,10 +263,15 @@ module _ (s : PlainStudy) (f : Plain) (path : List ℕ) (st : Start) (node : Nod
       let position : position_at t path ≡ st.position = ap (position_after s.start.position) (put_way x f path node.here) ∙ node.position in
       let is_new : IsNew t path from ws o g at (text.first ∷ text.rest) m = record {
         said = ap said_of (sym text.text) ∙ symbol_said st.position m node.valid legal;
-        few = (let short = move_short st.position m node.valid legal in let le : length (text.first ∷ text.rest) ≤ 32 = omega (arith, short.few, ap length text.text) in le);
+        few = (let short = move_short st.position m node.valid legal in let le : length (text.first ∷ text.rest) ≤ 32 = omega (
+          arith,
+          short.few,
+          ap length text.text,
+        ) in le);
         prints = ap (λ (w : List ℕ). list_all is_printable (san_in w)) (sym text.text) ∙ symbol_prints st.position m node.valid legal;
         found = put_here x f path node.here;
-        means = ap (λ (p : Position). move_of p (san_in (text.first ∷ text.rest))) position ∙ ap (λ (w : List ℕ). move_of st.position (san_in w)) (sym text.text)
+        means = ap (λ (p : Position). move_of p (san_in (text.first ∷ text.rest))) position
+            ∙ ap (λ (w : List ℕ). move_of st.position (san_in w)) (sym text.text)
             ∙ symbol_move st.position m node.valid legal;
         place = put_place x f path m node.here ∙ new;
         depth = depth;
@@ -262,7 +280,8 @@ module _ (s : PlainStudy) (f : Plain) (path : List ℕ) (st : Start) (node : Nod
       let step = move_step t path from ws o g at text.first text.rest rest m text.begins text.all stops is_new in
       let tree : with_insertion t path m ≡ on_tree s (put f path (with_last m tt x)) = ap (on_tree s) (put_last x f path m node.here) in
       let child : children_at (put f path x) path ≡ width x = put_width x f path node.here in
-      text_is (on_tree s (put f path (with_last m tt x))) (path ++ width x ∷ []) from ws o g (move_text st.position m ++ rest) ((text.first ∷ text.rest) ++ rest) rest
+      text_is (on_tree s (put f path (with_last m tt x))) (path ++ width x ∷ []) from ws o g (move_text st.position m ++ rest) ((text.first ∷ text.rest)
+      ++ rest) rest
       (ap (λ (w : List ℕ). w ++ rest) text.text)
       (subst (λ (k : ℕ). Reached ((text.first ∷ text.rest) ++ rest) rest (on_tree s (put f path (with_last m tt x))) (path ++ k ∷ []) from ws o g) child
       (subst (λ (u : PlainStudy). Reached ((text.first ∷ text.rest) ++ rest) rest u (path ++ children_at (put f path x) path ∷ []) from ws o g) tree step))
@@ -327,7 +346,8 @@ module _ (s : PlainStudy) (f : Plain) (path : List ℕ) (st : Start) (node : Nod
 -- ---- trees
 
 -- the text after a node was read: its nodes are below it
-pub record Followed (s : PlainStudy) (f : Plain) (path : List ℕ) (x : Plain) (rest t : List ℕ) (from : ℕ) (ws : List Waiting) (o : Option Stipulation) (g : GameRead) : Type 0 where
+pub record Followed (s : PlainStudy) (f : Plain) (path : List ℕ) (x : Plain) (rest t : List ℕ) (from : ℕ) (ws : List Waiting) (o : Option Stipulation)
+    (g : GameRead) : Type 0 where
   pub back : List ℕ
   pub same : Same rest back
   pub way : List ℕ
@@ -346,7 +366,8 @@ NoneOf : Plain → Plain → Type 0
 NoneOf x none = Unit {0}
 NoneOf x (more m l b r) = (place_from 0 m x ≡ None) × NoneOf x r
 
-record Varied (s : PlainStudy) (f : Plain) (path : List ℕ) (x : Plain) (rest t : List ℕ) (from : ℕ) (ws : List Waiting) (o : Option Stipulation) (g : GameRead) : Type 0 where
+record Varied (s : PlainStudy) (f : Plain) (path : List ℕ) (x : Plain) (rest t : List ℕ) (from : ℕ) (ws : List Waiting) (o : Option Stipulation)
+    (g : GameRead) : Type 0 where
   back : List ℕ
   same : Same rest back
   reached : Reached t back (on_tree s (put f path x)) (path ++ 0 ∷ []) from ws o g
@@ -354,10 +375,12 @@ record Varied (s : PlainStudy) (f : Plain) (path : List ℕ) (x : Plain) (rest t
 abbrev pub FollowOk : Forest Mark → Type 0
 FollowOk t = (s : PlainStudy) (f : Plain) (path : List ℕ) (st : Start) (from : ℕ) (ws : List Waiting) (o : Option Stipulation) (d : ℕ) (rest text : List ℕ)
     → Node s f path st → IsPlayable st.position (plainly t) → AreDistinct (plainly t) → Limits f path none (plainly t) from ws d
-    → Same (following st t ++ rest) text → (g : GameRead) → At (on_tree s (put f path none)) path from ws o g → Followed s f path (plainly t) rest text from ws o g
+    → Same (following st t ++ rest) text → (g : GameRead) → At (on_tree s (put f path none)) path from ws o g
+    → Followed s f path (plainly t) rest text from ws o g
 
 abbrev VaryOk : Forest Mark → Type 0
-VaryOk t = (s : PlainStudy) (f : Plain) (path : List ℕ) (st : Start) (from : ℕ) (ws : List Waiting) (o : Option Stipulation) (d : ℕ) (x : Plain) (rest text : List ℕ)
+VaryOk t = (s : PlainStudy) (f : Plain) (path : List ℕ) (st : Start) (from : ℕ) (ws : List Waiting) (o : Option Stipulation) (d : ℕ) (x : Plain)
+    (rest text : List ℕ)
     → Node s f path st → IsPlayable st.position (plainly t) → AreDistinct (plainly t) → NoneOf x (plainly t) → Limits f path x (plainly t) from ws d
     → Same (variations st t ++ rest) text → (g : GameRead) → At (on_tree s (put f path x)) (path ++ 0 ∷ []) from ws o g
     → Varied s f path (beside x (plainly t)) rest text from ws o g
@@ -389,7 +412,8 @@ child_node s f path st x k m node legal depth has moves = record {
   position = ap (position_after s.start.position) (put_moves x f path (k ∷ []) node.here ∙ ap (λ (ms : List Move). moves_to f path ++ ms) moves)
       ∙ position_on s.start.position (moves_to f path) (m ∷ []) ∙ ap (λ (p : Position). after p m) node.position;
   valid = IsValid-after st.position m node.valid legal;
-  counted = subst (λ (n : ℕ). Counted s.start n (start_after st m)) (sym (length-append path (k ∷ []))) (counted_on s.start (length path) st m node.counted legal depth);
+  counted = subst (λ (n : ℕ). Counted s.start n (start_after st m)) (sym (length-append path (k ∷ [])))
+      (counted_on s.start (length path) st m node.counted legal depth);
 }
 
 follow_none : FollowOk none
@@ -397,32 +421,44 @@ follow_none s f path st from ws o d rest text node playable distinct limits h g 
   back = text;
   same = h;
   way = [];
-  reached = record { next = g; goes = λ fresh. (fresh, refl); at = subst (λ (p : List ℕ). At (on_tree s (put f path none)) p from ws o g) (sym (append-nil path)) at };
+  reached = record {
+    next = g;
+    goes = λ fresh. (fresh, refl);
+    at = subst (λ (p : List ℕ). At (on_tree s (put f path none)) p from ws o g)
+        (sym (append-nil path)) at;
+  };
 }
 
 vary_none : VaryOk none
 vary_none s f path st from ws o d x rest text node playable distinct apart limits h g at = record {
   back = text;
   same = h;
-  reached = record { next = g; goes = λ fresh. (fresh, refl); at = subst (λ (y : Plain). At (on_tree s (put f path y)) (path ++ 0 ∷ []) from ws o g) (sym (beside_none x)) at };
+  reached = record {
+    next = g;
+    goes = λ fresh. (fresh, refl);
+    at = subst (λ (y : Plain). At (on_tree s (put f path y)) (path ++ 0 ∷ []) from ws o g)
+        (sym (beside_none x)) at;
+  };
 }
 
 -- one after the other
-joined : (t mid rest : List ℕ) (s u : PlainStudy) (p q : List ℕ) (b c : ℕ) (ws vs : List Waiting) (o : Option Stipulation) (g : GameRead) (r : Reached t mid s p b ws o g)
+joined : (t mid rest : List ℕ) (s u : PlainStudy) (p q : List ℕ) (b c : ℕ) (ws vs : List Waiting) (o : Option Stipulation) (g : GameRead)
+    (r : Reached t mid s p b ws o g)
     → Reached mid rest u q c vs o r.next → Reached t rest u q c vs o g
 joined t mid rest s u p q b c ws vs o g r k =
     record { next = k.next; goes = λ fresh. let x = r.goes fresh in let y = k.goes x.0 in (y.0, x.1 ∙ y.1); at = k.at }
 
 -- the same with another name for the text, the tree or the path
-renamed : (t u rest : List ℕ) (s : PlainStudy) (x y : Plain) (p q : List ℕ) (b : ℕ) (ws : List Waiting) (o : Option Stipulation) (g : GameRead) → t ≡ u → x ≡ y → p ≡ q
+renamed : (t u rest : List ℕ) (s : PlainStudy) (x y : Plain) (p q : List ℕ) (b : ℕ) (ws : List Waiting) (o : Option Stipulation) (g : GameRead) → t ≡ u
+    → x ≡ y → p ≡ q
     → Reached u rest (on_tree s x) p b ws o g → Reached t rest (on_tree s y) q b ws o g
 renamed t u rest s x y p q b ws o g e f h r =
     subst (λ (z : List ℕ). Reached z rest (on_tree s y) q b ws o g) (sym e)
     (subst (λ (z : Plain). Reached u rest (on_tree s z) q b ws o g) f (subst (λ (z : List ℕ). Reached u rest (on_tree s x) z b ws o g) h r))
 
-pub retold : (s : PlainStudy) (x y : Plain) (p q : List ℕ) (b : ℕ) (ws : List Waiting) (o : Option Stipulation) (g : GameRead) → x ≡ y → p ≡ q
+pub restated : (s : PlainStudy) (x y : Plain) (p q : List ℕ) (b : ℕ) (ws : List Waiting) (o : Option Stipulation) (g : GameRead) → x ≡ y → p ≡ q
     → At (on_tree s x) p b ws o g → At (on_tree s y) q b ws o g
-retold s x y p q b ws o g e f at = subst (λ (z : Plain). At (on_tree s z) q b ws o g) e (subst (λ (z : List ℕ). At (on_tree s x) z b ws o g) f at)
+restated s x y p q b ws o g e f at = subst (λ (z : Plain). At (on_tree s z) q b ws o g) e (subst (λ (z : List ℕ). At (on_tree s x) z b ws o g) f at)
 
 start_position : (st : Start) (m : Move) → (start_after st m).position ≡ after st.position m
 unfolding start_after
@@ -446,29 +482,49 @@ module _ (m : Move) (mark : Mark) (b r : Forest Mark) (fb : FollowOk b) (vr : Va
       let q = path ++ 0 ∷ [] in
       let longer : length q ≡ length path + 1 = length-append path (0 ∷ []) in
       let r1 = gap_step (on_tree s old) path from ws o g at cut.byte cut.back cut.gap in
-      let mv = words_move s f path st node from ws o none m mark (v ++ (fo ++ rest)) cut.back playable.0 refl (omega (arith, dd.1)) (omega arith) cut.rest r1.next r1.at in
+      let mv = words_move s f path st node from ws o none m mark (v ++ (fo ++ rest)) cut.back playable.0 refl (omega (arith, dd.1)) (omega arith) cut.rest
+      r1.next r1.at in
       let one = put_nodes (more m tt none none) f path node.here in
-      let vl : Limits f path (more m tt none none) (plainly r) from ws d = record { deep = deep; within = dd.3; room = omega arith; begun = limits.begun; few = few } in
-      let va = vr s f path st from ws o d (more m tt none none) (fo ++ rest) mv.back node playable.2 distinct.2 (first_others m (plainly r) distinct.0) vl mv.same mv.reached.next mv.reached.at in
+      let vl : Limits f path (more m tt none none) (plainly r) from ws d = record {
+        deep = deep;
+        within = dd.3;
+        room = omega arith;
+        begun = limits.begun;
+        few = few;
+      } in
+      let va = vr s f path st from ws o d (more m tt none none) (fo ++ rest) mv.back node playable.2 distinct.2 (first_others m (plainly r) distinct.0) vl
+      mv.same mv.reached.next mv.reached.at in
       let tree1 : put f path (beside (more m tt none none) (plainly r)) ≡ f2 = ap (put f path) (first_beside m (plainly r)) in
       let hole : f2 ≡ put f2 q none = sym (put_put y f path (0 ∷ []) none node.here ∙ ap (put f path) (first_put m (plainly r) none)) in
       let child = child_node s f path st y 0 m node playable.0 (omega (arith, dd.1)) refl refl in
       let many = put_nodes y f path node.here in
       let same_nodes : nodes_in (put f2 q none) ≡ nodes_in f2 = ap (λ (z : Plain). nodes_in z) (sym hole) in
       let begun = limits.begun in
-      let fl : Limits f2 q none (plainly b) from ws dd.0 = record { deep = omega (arith, dd.1); within = dd.2; room = omega arith; begun = omega arith; few = omega arith } in
-      let fo2 = fb s f2 q next from ws o dd.0 rest va.back child (subst (λ (p : Position). IsPlayable p (plainly b)) (sym (start_position st m)) playable.1) distinct.1 fl va.same
-      va.reached.next (retold s (put f path (beside (more m tt none none) (plainly r))) (put f2 q none) q q from ws o va.reached.next (tree1 ∙ hole) refl va.reached.at) in
+      let fl : Limits f2 q none (plainly b) from ws dd.0 = record {
+        deep = omega (arith, dd.1);
+        within = dd.2;
+        room = omega arith;
+        begun = omega arith;
+        few = omega arith;
+      } in
+      let fo2 = fb s f2 q next from ws o dd.0 rest va.back child (subst (λ (p : Position). IsPlayable p (plainly b)) (sym (start_position st m)) playable.1)
+      distinct.1 fl va.same
+      va.reached.next (restated s (put f path (beside (more m tt none none) (plainly r))) (put f2 q none) q q from ws o va.reached.next (tree1 ∙ hole) refl
+      va.reached.at) in
       let last : put f2 q (plainly b) ≡ put f path (more m tt (plainly b) (plainly r)) =
       put_put y f path (0 ∷ []) (plainly b) node.here ∙ ap (put f path) (first_put m (plainly r) (plainly b)) in
-      let tail = joined mv.back va.back fo2.back (on_tree s (put f path (beside (more m tt none none) (plainly r)))) (on_tree s (put f2 q (plainly b))) q (q ++ fo2.way) from from ws ws o mv.reached.next va.reached fo2.reached in
-      let middle = joined cut.back mv.back fo2.back (on_tree s (put f path (more m tt none none))) (on_tree s (put f2 q (plainly b))) q (q ++ fo2.way) from from ws ws o r1.next mv.reached tail in
-      let whole = joined (cut.byte ∷ cut.back) cut.back fo2.back (on_tree s old) (on_tree s (put f2 q (plainly b))) path (q ++ fo2.way) from from ws ws o g r1 middle in
+      let tail = joined mv.back va.back fo2.back (on_tree s (put f path (beside (more m tt none none) (plainly r)))) (on_tree s (put f2 q (plainly b))) q (q
+      ++ fo2.way) from from ws ws o mv.reached.next va.reached fo2.reached in
+      let middle = joined cut.back mv.back fo2.back (on_tree s (put f path (more m tt none none))) (on_tree s (put f2 q (plainly b))) q (q ++ fo2.way) from
+      from ws ws o r1.next mv.reached tail in
+      let whole = joined (cut.byte ∷ cut.back) cut.back fo2.back (on_tree s old) (on_tree s (put f2 q (plainly b))) path (q ++ fo2.way) from from ws ws o g r1
+      middle in
       record {
         back = fo2.back;
         same = fo2.same;
         way = 0 ∷ fo2.way;
-        reached = renamed text (cut.byte ∷ cut.back) fo2.back s (put f2 q (plainly b)) (put f path (more m tt (plainly b) (plainly r))) (q ++ fo2.way) (path ++ (0 ∷ fo2.way)) from ws o g
+        reached = renamed text (cut.byte ∷ cut.back) fo2.back s (put f2 q (plainly b)) (put f path (more m tt (plainly b) (plainly r))) (q ++ fo2.way) (path
+            ++ (0 ∷ fo2.way)) from ws o g
             cut.text last (append_assoc path (0 ∷ []) fo2.way) whole;
       }
     where
@@ -500,7 +556,8 @@ opened u path from ws o rest text le few h g at =
           (text_is u path (length path) (waits from ∷ ws) o gap.next cut.back (40 ∷ begin.back) begin.back begin.text open_line));
     }
 
-ended : (u : PlainStudy) (path : List ℕ) (k : ℕ) (way : List ℕ) (from : ℕ) (ws : List Waiting) (o : Option Stipulation) (rest text : List ℕ) → Same (41 ∷ rest) text
+ended : (u : PlainStudy) (path : List ℕ) (k : ℕ) (way : List ℕ) (from : ℕ) (ws : List Waiting) (o : Option Stipulation) (rest text : List ℕ)
+    → Same (41 ∷ rest) text
     → (g : GameRead) → At u ((path ++ k ∷ []) ++ way) (length path) (waits from ∷ ws) o g → Piece text rest u (path ++ 0 ∷ []) from ws o g
 ended u path k way from ws o rest text h g at =
     let cut = word_cut (41 ∷ []) rest text (omega arith, omega arith, tt) h in
@@ -538,28 +595,42 @@ module _ (m : Move) (mark : Mark) (b : Forest Mark) (fb : FollowOk b) (s : Plain
       let most = put_nodes x f path node.here in
       let more_nodes = last_nodes x m in
       let same_nodes : nodes_in (put f2 q none) ≡ nodes_in f2 = ap (λ (z : Plain). nodes_in z) (sym hole) in
-      let limits : Limits f2 q none (plainly b) (length path) ws d = record { deep = omega arith; within = within; room = omega arith; begun = omega arith; few = omega arith } in
+      let limits : Limits f2 q none (plainly b) (length path) ws d = record {
+        deep = omega arith;
+        within = within;
+        room = omega arith;
+        begun = omega arith;
+        few = omega arith;
+      } in
       let child = child_node s f path st y k m node legal (omega arith) (last_has x m) (last_moves x m) in
-      let r = fb s f2 q (start_after st m) (length path) ws o d rest text child (subst (λ (p : Position). IsPlayable p (plainly b)) (sym (start_position st m)) playable) distinct
-      limits h g (retold s f2 (put f2 q none) q q (length path) ws o g hole refl at) in
+      let r = fb s f2 q (start_after st m) (length path) ws o d rest text child
+      (subst (λ (p : Position). IsPlayable p (plainly b)) (sym (start_position st m)) playable) distinct
+      limits h g (restated s f2 (put f2 q none) q q (length path) ws o g hole refl at) in
       let made : put f2 q (plainly b) ≡ put f path (beside x (more m tt (plainly b) none)) =
       put_put y f path (k ∷ []) (plainly b) node.here ∙ ap (put f path) (last_put x m (plainly b)) in
       record {
         way = r.way;
-        piece = record { back = r.back; same = r.same; reached = subst (λ (z : Plain). Reached text r.back (on_tree s z) (q ++ r.way) (length path) ws o g) made r.reached };
+        piece = record {
+          back = r.back;
+          same = r.same;
+          reached = subst (λ (z : Plain). Reached text r.back (on_tree s z) (q ++ r.way) (length path) ws o g)
+              made r.reached;
+        };
       }
 
   body_read : (rest text : List ℕ) → Same (words_of_move st m mark ++ (following (start_after st m) b ++ rest)) text → (g : GameRead)
       → At (on_tree s (put f path x)) path (length path) ws o g → Body s (put f path (beside x (more m tt (plainly b) none))) path (width x) rest text ws o g
   body_read rest text h g at =
-      let mv = words_move s f path st node (length path) ws o x m mark (following (start_after st m) b ++ rest) text legal new (omega arith) (omega arith) h g at in
+      let mv = words_move s f path st node (length path) ws o x m mark (following (start_after st m) b ++ rest) text legal new (omega arith) (omega arith) h g
+      at in
       let r = behind_move rest mv.back mv.same mv.reached.next mv.reached.at in
       record {
         way = r.way;
         piece = record {
           back = r.piece.back;
           same = r.piece.same;
-          reached = joined text mv.back r.piece.back (on_tree s (put f path (with_last m tt x))) (on_tree s (put f path (beside x (more m tt (plainly b) none)))) (path ++ width x ∷ [])
+          reached = joined text mv.back r.piece.back (on_tree s (put f path (with_last m tt x)))
+              (on_tree s (put f path (beside x (more m tt (plainly b) none)))) (path ++ width x ∷ [])
               ((path ++ width x ∷ []) ++ r.way) (length path) (length path) ws ws o g mv.reached r.piece.reached;
         };
       }
@@ -574,7 +645,8 @@ module _ (m : Move) (mark : Mark) (b : Forest Mark) (fb : FollowOk b) (s : Plain
       let old = on_tree s (put f path x) in
       let new_tree = on_tree s (put f path (beside x (more m tt (plainly b) none))) in
       let a = opened old path from vs o w text le small h g at in
-      let c = body_read (41 ∷ rest) a.back a.same a.reached.next (subst (λ (z : List Waiting). At old path (length path) z o a.reached.next) (sym is) a.reached.at) in
+      let c = body_read (41 ∷ rest) a.back a.same a.reached.next (subst (λ (z : List Waiting). At old path (length path) z o a.reached.next) (sym is)
+      a.reached.at) in
       let e = ended new_tree path (width x) c.way from vs o rest c.piece.back c.piece.same c.piece.reached.next
       (subst (λ (z : List Waiting). At new_tree ((path ++ width x ∷ []) ++ c.way) (length path) z o c.piece.reached.next) is c.piece.reached.at) in
       record {
@@ -598,20 +670,23 @@ module _ (m : Move) (mark : Mark) (b r : Forest Mark) (fb : FollowOk b) (vr : Va
       let begun = limits.begun in
       let v = variations st r in
       let most = put_nodes x f path node.here in
-      let piece = variation_read m mark b fb s f path st node playable.0 playable.1 distinct.1 dd.0 (omega (arith, dd.1)) dd.2 (waits from ∷ ws) (omega arith) o x apart.0 (omega arith)
+      let piece = variation_read m mark b fb s f path st node playable.0 playable.1 distinct.1 dd.0 (omega (arith, dd.1)) dd.2 (waits from ∷ ws) (omega arith)
+      o x apart.0 (omega arith)
       from ws (v ++ rest) text refl begun (omega (arith, dd.1))
       (subst (λ (y : List ℕ). Same y text) (cut_line (words_of_move st m mark) (following (start_after st m) b) v rest) h) g at in
       let done = beside x (more m tt (plainly b) none) in
       let count_b = put_nodes done f path node.here in
       let count_done = beside_nodes x (more m tt (plainly b) none) in
       let vl : Limits f path done (plainly r) from ws d = record { deep = deep; within = dd.3; room = omega arith; begun = begun; few = few } in
-      let va = vr s f path st from ws o d done rest piece.back node playable.2 distinct.2 (others_none x m (plainly b) (plainly r) apart.1 distinct.0) vl piece.same
+      let va = vr s f path st from ws o d done rest piece.back node playable.2 distinct.2 (others_none x m (plainly b) (plainly r) apart.1 distinct.0) vl
+      piece.same
       piece.reached.next piece.reached.at in
       record {
         back = va.back;
         same = va.same;
         reached = subst (λ (z : Plain). Reached text va.back (on_tree s (put f path z)) (path ++ 0 ∷ []) from ws o g) (beside_assoc x m (plainly b) (plainly r))
-            (joined text piece.back va.back (on_tree s (put f path done)) (on_tree s (put f path (beside done (plainly r)))) (path ++ 0 ∷ []) (path ++ 0 ∷ []) from from ws ws o g
+            (joined text piece.back va.back (on_tree s (put f path done)) (on_tree s (put f path (beside done (plainly r)))) (path ++ 0 ∷ []) (path ++ 0 ∷ [])
+            from from ws ws o g
             piece.reached va.reached);
       }
     where

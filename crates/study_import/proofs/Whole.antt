@@ -1,12 +1,15 @@
 -- Each token has at least one byte, so that a game is read to its end.
-use Rattle.std.proofs.Common.{◌≡◌, ℕ, zero, suc, ◌+◌, ◌≤◌, Bool, true, false, List, [], ◌∷◌, length, drop, Option, Some, None, Result, Ok, Err, refl, sym, ap, ◌∙◌, arith, length-drop}
+use Rattle.std.proofs.Common.{◌≡◌, ℕ, zero, suc, ◌+◌, ◌≤◌, Bool, true, false, List, [], ◌∷◌, length, drop, Option, Some, None, Result, Ok, Err, refl}
+use Rattle.std.proofs.Common.{sym, ap, ◌∙◌, arith, length-drop}
 use Rattle.std.specs.Prelude.{◌==◌, ◌&&◌, ◌||◌, if◌then◌else◌}
 use Rattle.std.specs.List.{prefix_len}
 use Rattle.std.proofs.lemmas.Bool.{and_parts}
 use Rattle.study_games.specs.declared.token.TokenFault.TheVariants.{OpenComment, TagForm, OpenString, Byte}
 use Rattle.study_games.specs.declared.header.HeaderFault.{HeaderFault}
 use Rattle.study_games.specs.Bytes.{is_blank, is_gap, is_letter, is_digit, is_name_byte, is_sign, is_tail, begins_symbol, is_symbol_byte, is_glyph}
-use Rattle.study_games.specs.Tokens.{Token, Lexed, front, behind, closed, is_inside, comment_at, is_in_line, value_end, without_first, behind_value, valued, quoted, named, tag_at, begins_ellipsis, behind_ellipsis, begins_number, symbol_at, ink_at, lexed, blank, aside, opening, closing, star, tag, comment, rest, sign, symbol}
+use Rattle.study_games.specs.Tokens.{Token, Lexed, front, behind, closed, is_inside, comment_at, is_in_line, value_end, without_first, behind_value}
+use Rattle.study_games.specs.Tokens.{valued, quoted, named, tag_at, begins_ellipsis, behind_ellipsis, begins_number, symbol_at, ink_at, lexed, blank}
+use Rattle.study_games.specs.Tokens.{aside, opening, closing, star, tag, comment, rest, sign, symbol}
 use Rattle.study_games.specs.Header.{Pair, Step, on, no_tag, ended, step_of, with_tags, tags_in, with_fault, fault_in}
 use Rattle.study_import.specs.declared.taking.Reason.{Reason}
 use Rattle.study_import.specs.declared.movetext.MovesFault.{MovesFault}
@@ -122,7 +125,8 @@ pub same_token : (p q : List ℕ → GameRead → Result Ended MovesFault) (left
 same_token p q left n g (Err fault) w h = refl
 same_token p q left n g (Ok x) w h = same_numbered (p x.1) (q x.1) left g x.0 x.1 (game_numbered g x.0 x.1) (λ k. h x.1 k w)
 
-pub moves_same : (n m : ℕ) (fresh : Bool) (text : List ℕ) (g : GameRead) → length text ≤ n → length text ≤ m → read_moves n fresh text g ≡ read_moves m fresh text g
+pub moves_same : (n m : ℕ) (fresh : Bool) (text : List ℕ) (g : GameRead) → length text ≤ n → length text ≤ m
+    → read_moves n fresh text g ≡ read_moves m fresh text g
 moves_same zero zero fresh text g h k = refl
 moves_same zero (suc m) fresh [] g h k = refl
 moves_same zero (suc m) fresh (b ∷ bs) g h k = absurd (omega arith)
@@ -170,7 +174,8 @@ tags_same n m fresh [] h k = tags_none n fresh ∙ sym (tags_none m fresh)
 tags_same zero m fresh (b ∷ bs) h k = absurd (omega arith)
 tags_same (suc n) zero fresh (b ∷ bs) h k = absurd (omega arith)
 tags_same (suc n) (suc m) fresh (b ∷ bs) h k =
-    same_tags (tags_in n (b == 10)) (tags_in m (b == 10)) (length bs) (step_of (lexed fresh b bs)) (within_step (length bs) (lexed fresh b bs) (within_lexed fresh b bs))
+    same_tags (tags_in n (b == 10)) (tags_in m (b == 10)) (length bs) (step_of (lexed fresh b bs))
+    (within_step (length bs) (lexed fresh b bs) (within_lexed fresh b bs))
     (λ rest le. tags_same n m (b == 10) rest (omega arith) (omega arith))
 
 pub same_fault : (p q : List ℕ → Option HeaderFault) (left n : ℕ) (s : Step) → StepWithin n s → ((bs : List ℕ) → length bs ≤ n → p bs ≡ q bs)

@@ -43,7 +43,7 @@ use Rattle.study_import.specs.declared.movetext.Stop.TheVariants as stop
 use Rattle.study_import.specs.declared.aims.Aim.{Aim}
 use Rattle.study_import.specs.declared.aims.AimSource.TheVariants.{Comment, StipulationTag, ResultTag, Result as EndResult, Given}
 use Rattle.study_import.specs.declared.notes.Notes.{Notes}
-use Rattle.study_import.specs.declared.block.Told.{Told as ToldRead}
+use Rattle.study_import.specs.declared.block.Reported.{Reported as ReportedRead}
 use Rattle.study_import.specs.declared.counts.Count.{Count}
 use Rattle.study_import.specs.declared.importer.Choice.{Choice}
 use Rattle.study_import.specs.declared.places.Place.{Place}
@@ -291,24 +291,24 @@ position_line start = codes "position " ++ (fen_text start ++ codes "\n")
 
 -- what was read of a game, but for its start: the notes, the number of played moves that are not new nodes, the text after the result, and the lines that
 -- make the tree
-pub record Told : Type 0 where
+pub record Reported : Type 0 where
   pub notes : Notes
   pub repeated : ℕ
   pub behind : List ℕ
   pub inserts : List ℕ
 
-abbrev pub told_of : Ended → Told
-told_of x = record {
+abbrev pub reported_of : Ended → Reported
+reported_of x = record {
   notes = x.game.notes;
   repeated = repeated_moves x.game.notes x.game.reading.study;
   behind = x.behind;
   inserts = x.game.reading.inserts;
 }
 
-abbrev pub told_seen : ToldRead → Told
-told_seen t = record { notes = t.notes; repeated = t.repeated; behind = t.behind.now; inserts = t.inserts.now }
+abbrev pub reported_seen : ReportedRead → Reported
+reported_seen t = record { notes = t.notes; repeated = t.repeated; behind = t.behind.now; inserts = t.inserts.now }
 
-unfoldable pub remark_lines : Entry → Told → List ℕ
+unfoldable pub remark_lines : Entry → Reported → List ℕ
 remark_lines e t =
     counts_line (counted_words t.notes (other_tags (tags_of e.text)) t.repeated)
     ++ (behind_line e t.behind ++ flat_map (was_line (tags_of e.text)) six_names)
@@ -317,7 +317,7 @@ unfoldable pub study_lines : Entry → Start → Stipulation → List ℕ → Li
 study_lines e start stipulation inserts =
     position_line start ++ (stipulation_line stipulation ++ (flat_map (tag_line (tags_of e.text)) six_names ++ (inserts ++ codes "pgn\n\n")))
 
-unfoldable pub block_lines : Entry → Start → Aim → Told → List ℕ
+unfoldable pub block_lines : Entry → Start → Aim → Reported → List ℕ
 block_lines e start aim t = head_line e aim ++ (remark_lines e t ++ study_lines e start aim.stipulation t.inserts)
 
 -- ---- a game
@@ -339,7 +339,7 @@ aim_of_game given tags to_move n =
     (or_aim (aim_of_result EndResult n.outcome)
     (from_source Given given))))
 
-abbrev pub aimed_block : Entry → Start → Told → Option Aim → Block
+abbrev pub aimed_block : Entry → Start → Reported → Option Aim → Block
 aimed_block e start t None = no_study (left_out e (codes "NoStipulation"))
 aimed_block e start t (Some aim) = record { text = block_lines e start aim t; is_study = true }
 
@@ -348,7 +348,7 @@ stopped_block e fault = no_study (fault_words e (place_in e fault.left) (stop_na
 
 abbrev pub read_block : Option Stipulation → Entry → Start → Result Ended MovesFault → Block
 read_block given e start (Err fault) = stopped_block e fault
-read_block given e start (Ok x) = aimed_block e start (told_of x) (aim_of_game given (tags_of e.text) start.position.to_move x.game.notes)
+read_block given e start (Ok x) = aimed_block e start (reported_of x) (aim_of_game given (tags_of e.text) start.position.to_move x.game.notes)
 
 -- before the first move. The stipulation has no effect here
 abbrev pub no_moves : Start → GameRead
@@ -463,7 +463,7 @@ is_chosen c number = nat_le c.from number && nat_le number c.to
 -- the numbers of games so far, of those written, and of studies among these
 pub record Tally : Type 0 where
   pub met : ℕ
-  pub told : ℕ
+  pub reported : ℕ
   pub studies : ℕ
 
 -- with the next game
@@ -472,16 +472,16 @@ tallied c t g =
     if is_chosen c (one_more t.met)
     then record {
       met = one_more t.met;
-      told = one_more t.told;
+      reported = one_more t.reported;
       studies = one_if (block_by c (one_more t.met) g).is_study t.studies;
     }
-    else record { met = one_more t.met; told = t.told; studies = t.studies }
+    else record { met = one_more t.met; reported = t.reported; studies = t.studies }
 
 -- the text written for it
-abbrev pub told_text : Choice → Tally → Game → List ℕ
-told_text c t g = if is_chosen c (one_more t.met) then (block_by c (one_more t.met) g).text else []
+abbrev pub reported_text : Choice → Tally → Game → List ℕ
+reported_text c t g = if is_chosen c (one_more t.met) then (block_by c (one_more t.met) g).text else []
 
 -- the text written for these games, and the last line
 abbrev pub blocks : Choice → Tally → List Game → List ℕ
-blocks c t [] = last_line t.told t.studies
-blocks c t (g ∷ gs) = told_text c t g ++ blocks c (tallied c t g) gs
+blocks c t [] = last_line t.reported t.studies
+blocks c t (g ∷ gs) = reported_text c t g ++ blocks c (tallied c t g) gs

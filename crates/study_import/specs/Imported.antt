@@ -3,10 +3,10 @@ use Rattle.std.specs.Prelude.{◌≡◌, ℕ, ◌-◌, ◌^◌, false, List, [],
 use Rattle.study_marks.specs.declared.stipulation.Stipulation.{Stipulation}
 use Rattle.study_games.specs.Games.{Game, Begun, Gathered, games_from, games_of, lines_behind}
 use Rattle.study_import.specs.declared.importer.Choice.{Choice}
-use Rattle.study_import.specs.Blocks.{Tally, tallied, told_text, blocks}
+use Rattle.study_import.specs.Blocks.{Tally, tallied, reported_text, blocks}
 
 abbrev pub no_game : Tally
-no_game = record { met = 0; told = 0; studies = 0 }
+no_game = record { met = 0; reported = 0; studies = 0 }
 
 -- the script of a PGN file
 unfoldable pub script_of : Choice → List ℕ → List ℕ
@@ -80,4 +80,4 @@ put_away h = record h {
 
 abbrev pub text_at_hand : Held → Option Begun → List ℕ
 text_at_hand h None = []
-text_at_hand h (Some g) = told_text h.choice h.tally g.game
+text_at_hand h (Some g) = reported_text h.choice h.tally g.game

@@ -15,7 +15,7 @@ use Rattle.study_games.specs.Header.{Pair, tags_in, fault_in, tags_of, header_fa
 use Rattle.study_games.specs.Games.{Game, games_of, games_from, one_more}
 use Rattle.study_games.specs.Laws.{number_behind, EndsWithMoves, BeginsWithTag, lines_of}
 use Rattle.study_import.specs.declared.importer.Choice.{Choice}
-use Rattle.study_import.specs.Blocks.{Tally, is_chosen, tallied, told_text, blocks, no_moves, game_read, tag_value_text, Entry, Told, block_lines}
+use Rattle.study_import.specs.Blocks.{Tally, is_chosen, tallied, reported_text, blocks, no_moves, game_read, tag_value_text, Entry, Reported, block_lines}
 use Rattle.study_import.specs.Blocks.{tail_of, tail_line, under_remark, block_by}
 use Rattle.study_import.specs.Insertions.{Leads, AllReadAgain}
 use Rattle.study_import.specs.declared.aims.Aim.{Aim}
@@ -33,9 +33,9 @@ use Rattle.study_import.specs.Tails.{Tail, tail_from, not_begun, tail_in}
 use Rattle.study_import.specs.Meant.{study_by}
 
 -- the blocks of these games after a tally, without the last line
-abbrev pub told_texts : Choice → Tally → List Game → List ℕ
-told_texts c t [] = []
-told_texts c t (g ∷ gs) = told_text c t g ++ told_texts c (tallied c t g) gs
+abbrev pub reported_texts : Choice → Tally → List Game → List ℕ
+reported_texts c t [] = []
+reported_texts c t (g ∷ gs) = reported_text c t g ++ reported_texts c (tallied c t g) gs
 
 -- if a text ends with a whole line of moves, and is followed by one that begins with a line of a tag, the script of both is the blocks of the first, as
 -- they are without the second, and then those of the second, whose numbers of games and lines continue
@@ -43,7 +43,7 @@ abbrev pub IsIsolated : Type 0
 IsIsolated =
     (c : Choice) → (front b : List ℕ) → (a : List ℕ) → a ≡ front ++ 10 ∷ [] → EndsWithMoves 1 (lines_of a)
     → BeginsWithTag (number_behind 1 (lines_of a)) (lines_of b)
-    → script_of c (a ++ b) ≡ told_texts c no_game (games_of a) ++ blocks c (tally_of c a) (games_from (number_behind 1 (lines_of a)) None (lines_of b))
+    → script_of c (a ++ b) ≡ reported_texts c no_game (games_of a) ++ blocks c (tally_of c a) (games_from (number_behind 1 (lines_of a)) None (lines_of b))
 
 -- if the moves of a game are read to the end, its tree is made of insertions into the bare start, one after another: none of them is refused in its turn,
 -- apart from tables and memory, the lines of the game's block have them in this order, and the text of each move in them reads in its turn as that move
@@ -72,10 +72,10 @@ text_read text (Some t) = t.text
 abbrev pub AreAlike : Type 0
 AreAlike =
     (c : Choice) → (text : List ℕ) → (m k : ℕ) → (block_by c m (record { line = k; text = Some text })).is_study ≡ true
-    → (start : Start) × (aim : Aim) × (told : Told)
+    → (start : Start) × (aim : Aim) × (reported : Reported)
     × ((number line : ℕ) → block_by c number (record { line = line; text = Some text })
     ≡ under_remark (remark_above (tail_of c.tails (Some text)))
-    (record { text = block_lines (entry_of number line (text_read text (tail_of c.tails (Some text)))) start aim told; is_study = true }))
+    (record { text = block_lines (entry_of number line (text_read text (tail_of c.tails (Some text)))) start aim reported; is_study = true }))
 
 -- a mate within 1 to 127 moves
 abbrev pub IsCounted : Goal → Type 0

@@ -11,14 +11,14 @@ use Rattle.study_import.specs.Notes.{GameRead, GameTaken}
 use Rattle.study_import.specs.Movetext.{Ended}
 
 -- a reported fault, or want of memory, which ends the run
-abbrev pub IsTold : Stop → Result Ended MovesFault → ℕ → Type 0
-IsTold (stop.Taking (reason.Move move_fault.OutOfMemory)) expected left = Unit {0}
-IsTold (stop.Taking (reason.Line line_fault.OutOfMemory)) expected left = Unit {0}
-IsTold why expected left = expected ≡ Err (record { why = why; left = left })
+abbrev pub IsReported : Stop → Result Ended MovesFault → ℕ → Type 0
+IsReported (stop.Taking (reason.Move move_fault.OutOfMemory)) expected left = Unit {0}
+IsReported (stop.Taking (reason.Line line_fault.OutOfMemory)) expected left = Unit {0}
+IsReported why expected left = expected ≡ Err (record { why = why; left = left })
 
 abbrev pub Ends : {T : Type 0} → (T → List ℕ) → Result T MovesFault → Result Ended MovesFault → GameRead → Type 0
 Ends text (Ok x) expected new = expected ≡ Ok (record { game = new; behind = text x })
-Ends text (Err fault) expected new = IsTold fault.why expected fault.left
+Ends text (Err fault) expected new = IsReported fault.why expected fault.left
 
 -- the result for a token, and the state after it, unless there was no memory, which ends the run
 abbrev pub TakesIn : Result Bool Reason → Result GameTaken Reason → GameRead → Type 0

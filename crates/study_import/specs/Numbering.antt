@@ -2,7 +2,7 @@
 use Rattle.std.specs.Prelude.{ℕ, ◌+◌, ◌/◌, ◌%◌, Bool, true, false, not, ◌&&◌, ◌||◌, ◌==◌, List, [], ◌∷◌, Option, Some, None, if◌then◌else◌}
 use Rattle.study_board.specs.declared.men.Side.{Side}
 use Rattle.study_board.specs.declared.men.Side.TheVariants.{White, Black}
-use Rattle.study_notation.specs.Fen.{digits_told}
+use Rattle.study_notation.specs.Fen.{digits_parsed}
 use Rattle.study_games.specs.Bytes.{is_blank}
 use Rattle.study_games.specs.Symbols.{said_of}
 use Rattle.study_games.specs.declared.symbols.Said.{Said}
@@ -62,14 +62,14 @@ numbered side s dots n =
 -- ---- numbers in a text, at the node after d half moves
 
 -- a number of more than nine digits does not fit
-abbrev pub told_numbered : Side → ℕ → Numbering → Bool → Option ℕ → Option Numbering
-told_numbered side d s dots None = None
-told_numbered side d s dots (Some n) = numbered side s dots (record { number = n; depth = d })
+abbrev pub reported_numbered : Side → ℕ → Numbering → Bool → Option ℕ → Option Numbering
+reported_numbered side d s dots None = None
+reported_numbered side d s dots (Some n) = numbered side s dots (record { number = n; depth = d })
 
 -- digits are the number of a move if a dot is behind them; others are ignored
 unfoldable pub digits_numbered : Side → ℕ → Numbering → List ℕ → List ℕ → Option Numbering
 digits_numbered side d s digits behind =
-    if has_dot behind then told_numbered side d s (has_dots behind) (digits_told 9 digits) else Some s
+    if has_dot behind then reported_numbered side d s (has_dots behind) (digits_parsed 9 digits) else Some s
 
 abbrev pub said_numbered : Side → ℕ → Numbering → List ℕ → List ℕ → Said → Option Numbering
 said_numbered side d s text behind say.Number = digits_numbered side d s text behind

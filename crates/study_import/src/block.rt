@@ -14,7 +14,7 @@ ghost use Rattle.study_import.specs.Notes.{game_of};
 ghost use Rattle.study_import.specs.Aims.{source_words, from_source, or_aim, aim_of_result};
 ghost use Rattle.study_import.specs.Blocks.{entry_seen, repeated_moves, place_words, behind_line, side_text, goal_text, stipulation_line, head_line};
 ghost use Rattle.study_import.specs.Blocks.{position_line, counts_line, counted_words, other_tags, remark_lines, study_lines, block_lines};
-ghost use Rattle.study_import.specs.Blocks.{tag_aim, result_of, aim_of_game, told_seen, aimed_block, stopped_block, read_block, no_moves, game_read};
+ghost use Rattle.study_import.specs.Blocks.{tag_aim, result_of, aim_of_game, reported_seen, aimed_block, stopped_block, read_block, no_moves, game_read};
 ghost use Rattle.study_import.specs.Blocks.{at_most, men_in, no_study, left_out, fen_words, start_block, fen_in, fen_block, header_block, block_of};
 ghost use Rattle.study_import.specs.BlocksRead.{is_of_memory, Adds};
 
@@ -153,7 +153,7 @@ fn add_behind<A: Allocator>(
 
 /// What was read of a game, except its start.
 #[derive(Clone, Copy)]
-pub struct Told<'t> {
+pub struct Reported<'t> {
     pub notes: Notes,
     /// The number of played moves that are not new nodes.
     pub repeated: u32,
@@ -183,14 +183,19 @@ fn add_counts<'a, A: Allocator>(
     alloc: &'a A,
     out: &mut Text<'_, A>,
     game: &[u8],
-    told: &Told<'_>,
+    reported: &Reported<'_>,
 ) -> Result<(), AllocError>
     ensures { OnOk result (out.new ≡ out.old
         ++ counts_line
-        (counted_words told.now.notes (other_tags (tags_of game.now)) told.now.repeated)) }
+        (counted_words reported.now.notes (other_tags (tags_of game.now)) reported.now.repeated)) }
 {
     let mut words = Text::new(alloc);
-    add_counted(&mut words, &told.notes, other_tags(game), told.repeated)?;
+    add_counted(
+        &mut words,
+        &reported.notes,
+        other_tags(game),
+        reported.repeated,
+    )?;
     add_counts_line(out, words.as_slice())
 }
 
@@ -199,13 +204,13 @@ fn add_remarks<'a, A: Allocator>(
     alloc: &'a A,
     out: &mut Text<'_, A>,
     entry: &Entry<'_>,
-    told: &Told<'_>,
+    reported: &Reported<'_>,
 ) -> Result<(), AllocError>
     ensures { OnOk result (out.new ≡ out.old
-        ++ remark_lines (entry_seen entry.now) (told_seen told.now)) }
+        ++ remark_lines (entry_seen entry.now) (reported_seen reported.now)) }
 {
-    add_counts(alloc, out, entry.text, told)?;
-    add_behind(out, entry, told.behind)?;
+    add_counts(alloc, out, entry.text, reported)?;
+    add_behind(out, entry, reported.behind)?;
     add_was_lines(alloc, out, entry.text)
 }
 
@@ -317,14 +322,14 @@ fn add_block<'a, A: Allocator>(
     entry: &Entry<'_>,
     start: &Start,
     aim: &Aim,
-    told: &Told<'_>,
+    reported: &Reported<'_>,
 ) -> Result<(), AllocError>
     ensures { OnOk result (out.new ≡ out.old
-        ++ block_lines (entry_seen entry.now) start.now aim.now (told_seen told.now)) }
+        ++ block_lines (entry_seen entry.now) start.now aim.now (reported_seen reported.now)) }
 {
     add_head(out, entry, aim)?;
-    add_remarks(alloc, out, entry, told)?;
-    add_study(alloc, out, entry, start, &aim.stipulation, told.inserts)
+    add_remarks(alloc, out, entry, reported)?;
+    add_study(alloc, out, entry, start, &aim.stipulation, reported.inserts)
 }
 
 /// What the caller of the block knows of a game before its moves are read.
@@ -341,18 +346,18 @@ fn add_aimed<'a, A: Allocator>(
     out: &mut Text<'_, A>,
     setting: &Setting<'_>,
     start: &Start,
-    told: &Told<'_>,
+    reported: &Reported<'_>,
 ) -> Result<bool, AllocError>
     ensures { Adds result out.old out.new
-        (aimed_block (entry_seen setting.now.entry) start.now (told_seen told.now)
+        (aimed_block (entry_seen setting.now.entry) start.now (reported_seen reported.now)
         (aim_of_game setting.now.given
-        (tags_of setting.now.entry.text.now) start.now.position.to_move told.now.notes)) }
+        (tags_of setting.now.entry.text.now) start.now.position.to_move reported.now.notes)) }
 {
     let entry = &setting.entry;
     let to_move = start.position.to_move();
-    match aim_of_game(alloc, setting.given, entry.text, to_move, &told.notes)? {
+    match aim_of_game(alloc, setting.given, entry.text, to_move, &reported.notes)? {
         Some(aim) => {
-            add_block(alloc, out, entry, start, &aim, told)?;
+            add_block(alloc, out, entry, start, &aim, reported)?;
             Ok(true)
         }
         None => add_left_out(alloc, out, entry, b"NoStipulation"),
@@ -403,13 +408,13 @@ fn add_read<'a, A: Allocator>(
     let mut game = begin_game(alloc, start.copied())?;
     match game.read_whole(setting.entry.text) {
         Ok(behind) => {
-            let told = Told {
+            let reported = Reported {
                 notes: game.notes,
                 repeated: repeated_moves(&game.notes, &game.reading.bench),
                 behind,
                 inserts: game.reading.inserts.as_slice(),
             };
-            add_aimed(alloc, out, setting, start, &told)
+            add_aimed(alloc, out, setting, start, &reported)
         }
         Err(fault) => add_stopped(alloc, out, setting, &fault),
     }
@@ -422,7 +427,7 @@ fn add_stopped<'a, A: Allocator>(
     setting: &Setting<'_>,
     fault: &MovesFault,
 ) -> Result<bool, AllocError>
-    ensures told { Adds result out.old out.new
+    ensures reported { Adds result out.old out.new
         (stopped_block (entry_seen setting.now.entry) fault.now) }
     ensures memory { is_of_memory fault.now.why ≡ true → IsErr result }
 {

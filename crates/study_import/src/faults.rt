@@ -18,7 +18,7 @@ use study_reply::Refusal;
 use study_text::Text;
 
 /// The number of bytes of a symbol or a number that are printed.
-const LONGEST_TOLD: usize = 40;
+const LONGEST_REPORTED: usize = 40;
 
 pub fn token_name(fault: TokenFault) -> &'static [u8]
     ensures { result.now ≡ token_name fault }
@@ -85,8 +85,8 @@ fn add_run<A: Allocator>(out: &mut Text<'_, A>, run: Run, text: &[u8]) -> Result
     ensures { OnOk result (out.new ≡ out.old ++ run_words (is_in run) text.now) }
 {
     let (bytes, _) = cut_run(run, text);
-    let told = shortened(bytes, LONGEST_TOLD);
-    add_pieces(out, &[Piece::Bytes(b" at "), Piece::Bytes(told)])
+    let reported = shortened(bytes, LONGEST_REPORTED);
+    add_pieces(out, &[Piece::Bytes(b" at "), Piece::Bytes(reported)])
 }
 
 /// Adds ` at SYMBOL`, if the fault is a move that cannot be read or a number that does not fit.

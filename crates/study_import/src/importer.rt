@@ -1,7 +1,7 @@
 //! A file of games, read byte by byte.
 ghost use Rattle.std.specs.Prelude.{◌≡◌, ◌++◌, [], ◌==◌, length, OnOk, IfOk};
 ghost use Rattle.study_games.specs.Games.{unmarked, kind_of, longer, with_next, game_seen};
-ghost use Rattle.study_import.specs.Blocks.{tallied, told_text, last_line};
+ghost use Rattle.study_import.specs.Blocks.{tallied, reported_text, last_line};
 ghost use Rattle.study_import.specs.Imported.{script_of, all_games, nothing_held, still_written, still_tallied, written_of, tally_ahead, put_away};
 ghost use Rattle.study_import.specs.Imported.{text_at_hand, TakesByte, KeepsTally, EndsLine, EndsLineTallied};
 ghost use Rattle.study_import.specs.ImportedSeen.{tally_seen};
@@ -28,7 +28,7 @@ pub struct Choice {
 #[derive(Clone, Copy, Debug, Default, PartialEq, Eq)]
 pub struct Imported {
     pub met: u32,
-    pub told: u32,
+    pub reported: u32,
     pub studies: u32,
 }
 
@@ -48,7 +48,12 @@ impl<'a, A: Allocator> Model for Importer<'a, A> {
 
     ghost Value = { Held };
 
-    ghost view = { λ i. record { choice = i.choice; line = i.line.items; gathered = i.gathering; tally = tally_seen i.tally } };
+    ghost view = { λ i. record {
+      choice = i.choice;
+      line = i.line.items;
+      gathered = i.gathering;
+      tally = tally_seen i.tally;
+    } };
 }
 
 impl<'a, A: Allocator> Importer<'a, A> {
@@ -180,7 +185,7 @@ fn tell_game<'a, A: Allocator>(
     game: &Game<'_>,
 ) -> Result<Imported, AllocError>
     ensures text { OnOk result (out.new ≡ out.old
-        ++ told_text choice.now (tally_seen tally.now) (game_seen game.now)) }
+        ++ reported_text choice.now (tally_seen tally.now) (game_seen game.now)) }
     ensures then { IfOk result (λ t.
         tally_seen t ≡ tallied choice.now (tally_seen tally.now) (game_seen game.now)) }
 {
@@ -188,14 +193,14 @@ fn tell_game<'a, A: Allocator>(
     if number < choice.from || choice.to < number {
         return Ok(Imported {
             met: number,
-            told: tally.told,
+            reported: tally.reported,
             studies: tally.studies,
         });
     }
     let is_study = add_chosen(alloc, out, choice, number, game)?;
     Ok(Imported {
         met: number,
-        told: tally.told.saturating_add(1),
+        reported: tally.reported.saturating_add(1),
         studies: if is_study {
             tally.studies.saturating_add(1)
         } else {
@@ -207,13 +212,13 @@ fn tell_game<'a, A: Allocator>(
 /// Adds `# games N, studies M`.
 #[tactic(auto, unfolding(crate::specs::Blocks::last_line))]
 fn add_last_line<A: Allocator>(out: &mut Text<'_, A>, tally: &Imported) -> Result<(), AllocError>
-    ensures { OnOk result (out.new ≡ out.old ++ last_line tally.now.told tally.now.studies) }
+    ensures { OnOk result (out.new ≡ out.old ++ last_line tally.now.reported tally.now.studies) }
 {
     add_pieces(
         out,
         &[
             Piece::Bytes(b"# games "),
-            Piece::Number(tally.told),
+            Piece::Number(tally.reported),
             Piece::Bytes(b", studies "),
             Piece::Number(tally.studies),
             Piece::Bytes(b"\n"),

@@ -1,6 +1,6 @@
 //! The numbers of moves.
 ghost use Rattle.std.specs.Prelude.{◌≡◌};
-ghost use Rattle.study_notation.specs.Fen.{digits_told};
+ghost use Rattle.study_notation.specs.Fen.{digits_parsed};
 ghost use Rattle.study_games.specs.Tokens.{token_seen};
 ghost use Rattle.study_import.specs.Numbering.{begins_dot, has_dot, has_dots, black_moves, is_black_to_move, fit, fits_first};
 ghost use Rattle.study_import.specs.Numbering.{numbered, digits_numbered, token_numbered};
@@ -48,7 +48,7 @@ fn has_dots(text: &[u8]) -> bool
 
 /// The number that at most nine digits spell.
 fn read_number(text: &[u8]) -> Option<u32>
-    ensures { result ≡ digits_told 9 text.now }
+    ensures { result ≡ digits_parsed 9 text.now }
 {
     if text.is_empty() || text.len() > 9 {
         return None;

@@ -10,7 +10,7 @@ use Rattle.study_import.specs.ImportedSeen.{tally_seen}
 use Rattle.study_import.proofs.Ended.{script_is, tally_is}
 use Rattle.std.specs.Prelude.{IfOk, OnErr}
 use Rattle.study_import_program.specs.declared.streaming.ImportFault.{ImportFault}
-use Rattle.study_import_program.specs.Status.{stop_text, IsTold}
+use Rattle.study_import_program.specs.Status.{stop_text, IsReported}
 use Rattle.study_import_program.specs.Ended.{HasRun}
 use Rattle.study_import_program.specs.Streams.{AppendsFront, PutsByte, StopsAtByte, PutsRest, IsWhole, IsFront}
 
@@ -89,7 +89,8 @@ stops_in now old mid new c h text r f =
 pub no_more : (old : Option (List ℕ)) (text : List ℕ) → AppendsFront old old text
 no_more old text = ([], text, refl, Appends-nil old)
 
-pub stops_reading : (now old mid : Option (List ℕ)) (c : Choice) (h : Held) (text : List ℕ) → Reached now old mid c h text → AppendsFront old mid (script_of c text)
+pub stops_reading : (now old mid : Option (List ℕ)) (c : Choice) (h : Held) (text : List ℕ) → Reached now old mid c h text
+    → AppendsFront old mid (script_of c text)
 stops_reading now old mid c h text r = stops_in now old mid mid c h text r (no_more mid (still_written h r.rest))
 
 pub stops_at_byte : (now now' old mid new : Option (List ℕ)) (c : Choice) (h : Held) (text : List ℕ) (byte : ℕ) → Reached now old mid c h text
@@ -141,7 +142,8 @@ appends_behind (Some xs) None c text kept h = absurd kept
 appends_behind (Some xs) (Some ys) None text kept h = h
 appends_behind (Some xs) (Some ys) (Some zs) text kept h = h ∙ ap (λ (x : List ℕ). x ++ text) kept
 
-pub told_behind : (old mid new : Option (List ℕ)) (answer : Result Imported ImportFault) → Keeps old mid → IsTold answer mid new → IsTold answer old new
-told_behind old mid new (Ok i) kept h = Keeps-trans old mid new kept h
-told_behind old mid new (Err fault) kept (inl all) = inl (appends_behind old mid new (stop_text fault) kept all)
-told_behind old mid new (Err fault) kept (inr (front, byte, back, e, h)) = inr (front, byte, back, e, appends_behind old mid new front kept h)
+pub reported_behind : (old mid new : Option (List ℕ)) (answer : Result Imported ImportFault) → Keeps old mid → IsReported answer mid new
+    → IsReported answer old new
+reported_behind old mid new (Ok i) kept h = Keeps-trans old mid new kept h
+reported_behind old mid new (Err fault) kept (inl all) = inl (appends_behind old mid new (stop_text fault) kept all)
+reported_behind old mid new (Err fault) kept (inr (front, byte, back, e, h)) = inr (front, byte, back, e, appends_behind old mid new front kept h)

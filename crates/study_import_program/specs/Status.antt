@@ -9,9 +9,9 @@ use Rattle.study_import_program.specs.declared.streaming.ImportFault.{ImportFaul
 use Rattle.study_import_program.specs.declared.streaming.ImportFault.TheVariants.{ReadDevice, WriteDevice, OutOfMemory}
 
 -- 0 if each game that was written is a study, 1 if some game is not, 3 if the run stopped at a fault
-abbrev pub status_told : Result Imported ImportFault → ℕ
-status_told (Ok imported) = if imported.told == imported.studies then 0 else 1
-status_told (Err fault) = 3
+abbrev pub status_reported : Result Imported ImportFault → ℕ
+status_reported (Ok imported) = if imported.reported == imported.studies then 0 else 1
+status_reported (Err fault) = 3
 
 -- help or the version was requested: 0 if it was printed; elsewhere the words were refused
 abbrev pub status_shown : Bool → ℕ
@@ -31,6 +31,6 @@ stop_text WriteDevice = codes "studyimport: WriteDevice\n"
 stop_text OutOfMemory = codes "studyimport: OutOfMemory\n"
 
 -- a run that stopped is reported, or a prefix of the report if standard error fails; for another run nothing is written
-abbrev pub IsTold : Result Imported ImportFault → Option (List ℕ) → Option (List ℕ) → Type 0
-IsTold (Ok imported) old new = Keeps old new
-IsTold (Err fault) old new = Appends old new (stop_text fault) ⊎ TakesPrefix old new (stop_text fault)
+abbrev pub IsReported : Result Imported ImportFault → Option (List ℕ) → Option (List ℕ) → Type 0
+IsReported (Ok imported) old new = Keeps old new
+IsReported (Err fault) old new = Appends old new (stop_text fault) ⊎ TakesPrefix old new (stop_text fault)

@@ -8,7 +8,7 @@ use study_marks::Stipulation;
 use study_text::Text;
 
 /// The version, and the kit that it is proved with, as `studyimport --version` prints them.
-pub const VERSION: &str = "1.6.0 (kit rattle-kit-13f)";
+pub const VERSION: &str = "1.7.0 (kit rattle-kit-13f)";
 
 const ABOUT: &str =
     "Turns games of PGN, from standard input, into a script of studybench and studyreport, to standard output.";

@@ -1,6 +1,6 @@
 //! The program, over the streams of its process or over any others.
 ghost use Rattle.std.specs.Prelude.{◌≡◌};
-ghost use Rattle.study_import_program.specs.Status.{status_told, IsTold};
+ghost use Rattle.study_import_program.specs.Status.{status_reported, IsReported};
 ghost use Rattle.study_import_program.specs.Ended.{HasRun, EndsBy};
 
 use crate::options::{Options, read_words};
@@ -100,8 +100,8 @@ pub fn import_stream<A: Allocator, R: Read, W: Write, E: Write>(
 
 /// Reports why a run stopped, if it did. A failure of standard error cannot be reported.
 fn ended<E: Write>(errors: &mut E, answer: &Result<Imported, ImportFault>) -> u8
-    ensures status { result ≡ status_told answer.now }
-    ensures told { IsTold answer.now (E.contents errors.old) (E.contents errors.new) }
+    ensures status { result ≡ status_reported answer.now }
+    ensures reported { IsReported answer.now (E.contents errors.old) (E.contents errors.new) }
 {
     if let Err(fault) = answer {
         let _ = put_stop(errors, *fault);

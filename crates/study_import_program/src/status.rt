@@ -3,7 +3,7 @@ ghost use Rattle.std.specs.Prelude.{◌≡◌, ◌++◌, codes, decimal, OnOk, O
 ghost use Rattle.std.specs.Io.KnownBytes.{Appends};
 ghost use Rattle.clap.specs.Values.{kind_of};
 ghost use Rattle.study_text.specs.Taken.{TakesPrefix};
-ghost use Rattle.study_import_program.specs.Status.{status_told, status_unread, stop_text};
+ghost use Rattle.study_import_program.specs.Status.{status_reported, status_unread, stop_text};
 
 use crate::streaming::ImportFault;
 use clap::Error;
@@ -15,10 +15,10 @@ use study_text::{DeviceFailed, write_text};
 
 /// The exit status after a run.
 pub fn status_of(answer: &Result<Imported, ImportFault>) -> u8
-    ensures { result ≡ status_told answer.now }
+    ensures { result ≡ status_reported answer.now }
 {
     match answer {
-        Ok(imported) if imported.told == imported.studies => 0,
+        Ok(imported) if imported.reported == imported.studies => 0,
         Ok(_) => 1,
         Err(_) => 3,
     }

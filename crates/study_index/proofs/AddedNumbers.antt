@@ -10,7 +10,7 @@ use Rattle.study_board.specs.Position.{Position}
 use Rattle.study_board.proofs.Lists.{count_by-cons}
 use Rattle.study_material.specs.declared.class.Class.{Class}
 use Rattle.study_values.specs.Number.{without_bit}
-use Rattle.study_index.specs.Decoded.{slots_of, slots_have_pawn, slot_filled, told_men}
+use Rattle.study_index.specs.Decoded.{slots_of, slots_have_pawn, slot_filled, decoded_men}
 use Rattle.study_index.specs.Stepped.{moved_to, IsStepped}
 use Rattle.study_board.specs.Men.{moved_if}
 use Rattle.study_index.specs.Moved.{IsMoved}
@@ -120,16 +120,16 @@ as_long (m ∷ ms) = let e = as_long ms in omega (arith, e)
 
 -- the man on x is the man of slot i
 pub IsStepped-moved : (c : Class) (n i x a : ℕ) (p : Position) → i < length (slots_of c)
-    → ((d : Man) → (slice_index_or (told_men (slots_of c) (without_bit n)) i d).at ≡ x) → IsMoved c n x a p → IsStepped c n i a p
+    → ((d : Man) → (slice_index_or (decoded_men (slots_of c) (without_bit n)) i d).at ≡ x) → IsMoved c n x a p → IsStepped c n i a p
 IsStepped-moved c n i x a p few stands t =
-    let told = told_men (slots_of c) (without_bit n) in
+    let decoded_as = decoded_men (slots_of c) (without_bit n) in
     let f = moved_if x a in
     let apart = AreApart-ascending p.men t.valid.ordered a in
-    let count = sum_by-IsPermutation (λ (y : Man). cond (y.at == a) 1 0) p.men (map f told) t.men in
-    let there = all_there x a told in
+    let count = sum_by-IsPermutation (λ (y : Man). cond (y.at == a) 1 0) p.men (map f decoded_as) t.men in
+    let there = all_there x a decoded_as in
     let filled = filled-men_of (slots_have_pawn (slots_of c)) (slots_of c) (without_bit n) (AreSlots-class c) in
-    let long : length told ≡ length (slots_of c) = sym (as_long told) ∙ ap (λ ss. length ss) filled in
-    let is : map f told ≡ moved_to i a told = one_moves x a told i (omega (arith, few, long)) stands (omega (arith, apart, count, there)) in
+    let long : length decoded_as ≡ length (slots_of c) = sym (as_long decoded_as) ∙ ap (λ ss. length ss) filled in
+    let is : map f decoded_as ≡ moved_to i a decoded_as = one_moves x a decoded_as i (omega (arith, few, long)) stands (omega (arith, apart, count, there)) in
     record {
       valid = t.valid;
       men = subst (λ (zs : List Man). IsPermutation p.men zs) is t.men;

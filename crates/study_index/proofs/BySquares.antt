@@ -13,7 +13,8 @@ use Rattle.study_values.specs.Slots.{man_slot_number}
 use Rattle.study_values.specs.Index.{put, sorted}
 use Rattle.study_values.specs.Number.{place, king_places, side_number, append_squares, number}
 use Rattle.study_values.specs.Canonical.{canonical_symmetry, last_two_exchanged, are_like, descends, turned_number, least, least_by, canonical_number}
-use Rattle.study_index.specs.Squares.{placed_man, put_placed, squares_placed, square_symmetry, counted_at, number_at, exchanged_at, descends_at, least_turned, least_at}
+use Rattle.study_index.specs.Squares.{placed_man, put_placed, squares_placed, square_symmetry, counted_at, number_at, exchanged_at, descends_at}
+use Rattle.study_index.specs.Squares.{least_turned, least_at}
 
 abbrev pub AreOnBoard : List Man → Type 0
 AreOnBoard [] = Unit {0}
@@ -136,7 +137,8 @@ least_of_squares pawns to_move c [] h = refl
 least_of_squares true to_move c (k ∷ ms) h =
     least_by_squares true to_move (square_symmetry true false c k.at) (canonical_symmetry true false c k.at) (brought_so true false c k.at) (k ∷ ms) h
 least_of_squares false to_move c (k ∷ ms) h =
-    two_least _ _ _ _ (least_by_squares false to_move (square_symmetry false false c k.at) (canonical_symmetry false false c k.at) (brought_so false false c k.at) (k ∷ ms) h)
+    two_least _ _ _ _ (least_by_squares false to_move (square_symmetry false false c k.at) (canonical_symmetry false false c k.at)
+    (brought_so false false c k.at) (k ∷ ms) h)
     (least_by_squares false to_move (square_symmetry false true c k.at) (canonical_symmetry false true c k.at) (brought_so false true c k.at) (k ∷ ms) h)
 
 AreOnBoard-put : (c : Bool) (m : Man) (xs : List Man) → m.at < 64 → AreOnBoard xs → AreOnBoard (put c m xs)
@@ -155,7 +157,8 @@ unfolding put put_placed
 placed-put c m [] = refl
 placed-put c m (x ∷ xs) =
     elim (nat_le (man_slot_number c x) (man_slot_number c m))
-    as (λ b. cond b (placed_man c x ∷ put_placed (placed_man c m) (map (placed_man c) xs)) (placed_man c m ∷ placed_man c x ∷ map (placed_man c) xs) ≡ map (placed_man c) (cond b (x ∷ put c m xs) (m ∷ x ∷ xs))) [
+    as (λ b. cond b (placed_man c x ∷ put_placed (placed_man c m) (map (placed_man c) xs)) (placed_man c m ∷ placed_man c x ∷ map (placed_man c) xs) ≡ map
+    (placed_man c) (cond b (x ∷ put c m xs) (m ∷ x ∷ xs))) [
       | true ↦ ap (λ ks. placed_man c x ∷ ks) (placed-put c m xs)
       | false ↦ refl
     ]

@@ -71,7 +71,8 @@ below c n q d =
     doubled true k m l = omega arith
     doubled false k m l = l
 
-    by_live : (b : Bool) → has_legal_en_passant q ≡ b → n ≡ with_bit b (without_bit n) → without_bit n < 16777216 → without_bit n < numbers_of c → n < cells_of c
+    by_live : (b : Bool) → has_legal_en_passant q ≡ b → n ≡ with_bit b (without_bit n) → without_bit n < 16777216 → without_bit n < numbers_of c
+        → n < cells_of c
     by_live true e is l small = subst (λ m. n < m) (sym (live_cells c (live_class c q d.valid of_class e))) (let h : n < 33554432 = omega arith in h)
     by_live false e is l small = doubled (has_both_pawns (lists_of c)) n (numbers_of c) (subst (λ m. m < numbers_of c) (sym is) small)
 
@@ -149,7 +150,8 @@ same_least c p q n h o i =
     let j : IsLeastNumber (image s (without_idle_passed_square p)) n =
     IsLeastNumber-image s (without_idle_passed_square p) n v h.alike.images.admitted keeps
     (IsLeastNumber-passed p (without_idle_passed_square p) n (sym (bare_men p)) (sym (bare_to_move p)) i) in
-    IsLeastNumber-passed (without_idle_passed_square q) q n (bare_men q) (bare_to_move q) (subst (λ (r : Position). IsLeastNumber r n) (sym h.alike.images.is) j)
+    IsLeastNumber-passed (without_idle_passed_square q) q n (bare_men q) (bare_to_move q)
+    (subst (λ (r : Position). IsLeastNumber r n) (sym h.alike.images.is) j)
 
 pub same_index : (c : Class) (p q : Position) (n : ℕ) → AreAlikeIn c p q → IsOf c p → IsIndex p n → IsIndex q n
 same_index c p q n h o i = record {
@@ -171,7 +173,8 @@ alike_back c p q h =
           by = back s;
           admitted = subst (λ (x : Position). admits x (back s) ≡ true) (sym h.alike.images.is)
               (admits_image s (back s) (without_idle_passed_square p) v a ∙ admits_back s (without_idle_passed_square p) a);
-          is = sym (subst (λ (x : Position). image (back s) x ≡ without_idle_passed_square p) (sym h.alike.images.is) (image_back s (without_idle_passed_square p) (IsTurnable-from_valid s (without_idle_passed_square p) v a)));
+          is = sym (subst (λ (x : Position). image (back s) x ≡ without_idle_passed_square p) (sym h.alike.images.is)
+              (image_back s (without_idle_passed_square p) (IsTurnable-from_valid s (without_idle_passed_square p) v a)));
         };
       };
       kept = h.kept;
@@ -186,7 +189,8 @@ alike_move c p q r h l =
     let t = IsTurnable-from_valid s (without_idle_passed_square p) b.valid h.alike.images.admitted in
     let lb : IsLegal (without_idle_passed_square p) m = b.legal m ∙ l.1 in
     let m' = image_move s m in
-    let lq : IsLegal (without_idle_passed_square q) m' = subst (λ (x : Position). IsLegal x m') (sym h.alike.images.is) (image_legal s (without_idle_passed_square p) t m lb) in
+    let lq : IsLegal (without_idle_passed_square q) m' = subst (λ (x : Position). IsLegal x m') (sym h.alike.images.is)
+    (image_legal s (without_idle_passed_square p) t m lb) in
     let l' : IsLegal q m' = sym (d.legal m') ∙ lq in
     let same : after q m' ≡ image s r =
     sym (d.after m' l') ∙ ap (λ x. after x m') h.alike.images.is ∙ after-turned s (without_idle_passed_square p) t m lb ∙ ap (image s) (b.after m l.1 ∙ l.2) in
@@ -238,10 +242,10 @@ HasParts-number : (p : Position) (n : ℕ) (v : IsValid p) (i : IsIndex p n) →
 HasParts-number p n v i = IsLeastNumber-unique p (without_bit n) i.number (HasParts-from p n v i).least i.least
 
 -- the passed square of a position that is its own bare form is the one that the bit encodes
-told_passed : (q : Position) (xs : List Man) (b : Bool) → IsValid q → without_idle_passed_square q ≡ q → IsFilling false q.men xs
+decoded_passed : (q : Position) (xs : List Man) (b : Bool) → IsValid q → without_idle_passed_square q ≡ q → IsFilling false q.men xs
     → has_legal_en_passant q ≡ b → q.passed ≡ passed_behind b q.to_move xs
-told_passed q xs true v own f e = live_behind q xs v f.each_once e
-told_passed q xs false v own f e = not_live_passed q own e
+decoded_passed q xs true v own f e = live_behind q xs v f.each_once e
+decoded_passed q xs false v own f e = not_live_passed q own e
 
 -- if the lists of the class are equal, so are those of its positions
 equal_back : (c : Class) (p : Position) → IsOf c p → (lists_of c).white ≡ (lists_of c).black → (lists p.men).white ≡ (lists p.men).black
@@ -286,7 +290,7 @@ numbered_bare c p b n v w plain own o i =
           slots_are = filled_in_order q filling u i.least.number.fills ∙ ap (λ l. slots_for l) same;
           is = subst (λ h. number h q.to_move filling ≡ Some (without_bit n)) (sym (has_pawn-image t b w a))
               (i.least.number.is ∙ ap (λ k. Some k) (sym same_number));
-          passed = told_passed q filling (has_bit n) u own_image i.least.number.fills (sym parts.bit);
+          passed = decoded_passed q filling (has_bit n) u own_image i.least.number.fills (sym parts.bit);
         };
         index = index;
       },
@@ -314,7 +318,8 @@ numbered_bare c p b n v w plain own o i =
 -- each position has a number that is read as a position that is alike
 pub numbered : (c : Class) (p : Position) (n : ℕ) → IsValid p → IsOf c p → IsIndex p n → (q : Position) × IsDecoded c n q × AreAlikeIn c q p
 numbered c p n v o i =
-    numbered_bare c p (without_idle_passed_square p) n v (AgreesWithBare-from_valid p v).valid refl (bare_twice p) (o ∙ ap (λ xs. ordered (lists xs)) (sym (bare_men p)))
+    numbered_bare c p (without_idle_passed_square p) n v (AgreesWithBare-from_valid p v).valid refl (bare_twice p) (o
+    ∙ ap (λ xs. ordered (lists xs)) (sym (bare_men p)))
     (record {
       number = i.number;
       least = IsLeastNumber-passed p (without_idle_passed_square p) i.number (sym (bare_men p)) (sym (bare_to_move p)) i.least;

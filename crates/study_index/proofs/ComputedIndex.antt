@@ -18,14 +18,14 @@ use Rattle.study_material.specs.declared.class.Class.{Class}
 use Rattle.study_material.specs.Lists.{is_swapped}
 use Rattle.study_index.specs.declared.decoding.Slot.{Slot}
 use Rattle.study_values.specs.Number.{IsLeastNumber, IsIndex, king_places, numbers_of, cells_of, without_bit}
-use Rattle.study_index.specs.Decoded.{IsDecoded, AreSlots, slots_of, slots_have_pawn, men_of, told_men, listed_square, man}
+use Rattle.study_index.specs.Decoded.{IsDecoded, AreSlots, slots_of, slots_have_pawn, men_of, decoded_men, listed_square, man}
 use borrow.Author.Tests.{ltb-true}
-use Rattle.study_index.specs.Computed.{position_told, is_entry, position_numbered}
+use Rattle.study_index.specs.Computed.{position_decoded, is_entry, position_numbered}
 use Rattle.study_values.specs.Index.{least_number, index_of}
 use Rattle.study_index.proofs.ClassLaws.{below}
 use Rattle.study_index.proofs.ClassSlots.{AreSlots-class, is_cell-below, number_below}
 use Rattle.study_index.proofs.TurnedNumbers.{least_is}
-use Rattle.study_index.proofs.NumbersReadOff.{IsLeastNumber-unique, IsIndex-unique, IsOfMen-decoded, decoded, told_fault, same_position}
+use Rattle.study_index.proofs.NumbersReadOff.{IsLeastNumber-unique, IsIndex-unique, IsOfMen-decoded, decoded, decoded_fault, same_position}
 use Rattle.study_index.proofs.Slots.{IsFilling-sorted}
 
 pub IsLeastNumber-least_number : (p : Position) → IsValid p → IsLeastNumber p (least_number p)
@@ -88,42 +88,42 @@ on_board pawns (k ∷ []) n a = absurd a
 on_board pawns (k ∷ b ∷ x ∷ y ∷ z ∷ fs) n a = absurd a
 
 -- men in order without a fault are a valid position
-valid_told : (c : Class) (n : ℕ) → first_fault (position_told c n).men (position_told c n).to_move (position_told c n).passed ≡ None
-    → IsValid (position_told c n)
-valid_told c n e =
-    let men = told_men (slots_of c) (without_bit n) in
+decoded_is_valid : (c : Class) (n : ℕ) → first_fault (position_decoded c n).men (position_decoded c n).to_move (position_decoded c n).passed ≡ None
+    → IsValid (position_decoded c n)
+decoded_is_valid c n e =
+    let men = decoded_men (slots_of c) (without_bit n) in
     record {
       ordered =
           IsAscending-from_sorted (in_order men) (IsSortedByAt-in_order men)
-          (IsFaultless-from_first (in_order men) (position_told c n).to_move (position_told c n).passed e).once;
+          (IsFaultless-from_first (in_order men) (position_decoded c n).to_move (position_decoded c n).passed e).once;
       on_board = All-permutation OnBoard men (in_order men) (IsPermutation-in_order men)
           (on_board (slots_have_pawn (slots_of c)) (slots_of c) (without_bit n) (AreSlots-class c));
       faultless = e;
     }
 
 -- the decoded position is the encoded one
-one_told : (c : Class) (n : ℕ) (q : Position) → IsDecoded c n q → position_told c n ≡ q
-one_told c n q d =
-    let men = told_men (slots_of c) (without_bit n) in
+one_decoded : (c : Class) (n : ℕ) (q : Position) → IsDecoded c n q → position_decoded c n ≡ q
+one_decoded c n q d =
+    let men = decoded_men (slots_of c) (without_bit n) in
     let o = IsOfMen-decoded (slots_of c) n q (AreSlots-class c) d in
     let same : IsPermutation q.men (in_order men) =
     IsPermutation-trans q.men men (in_order men) (IsPermutation-sym men q.men o.same)
     (IsPermutation-in_order men) in
-    let none : first_fault (in_order men) (position_told c n).to_move (position_told c n).passed ≡ None =
-    sym (first_fault_same men (in_order men) (IsPermutation-in_order men) (position_told c n).to_move (position_told c n).passed)
-    ∙ told_fault (slots_of c) n q o ∙ d.valid.faultless in
-    same_position (position_told c n) q (valid_told c n none) d.valid (IsPermutation-sym q.men (in_order men) same) (sym o.move) (sym o.passed)
+    let none : first_fault (in_order men) (position_decoded c n).to_move (position_decoded c n).passed ≡ None =
+    sym (first_fault_same men (in_order men) (IsPermutation-in_order men) (position_decoded c n).to_move (position_decoded c n).passed)
+    ∙ decoded_fault (slots_of c) n q o ∙ d.valid.faultless in
+    same_position (position_decoded c n) q (decoded_is_valid c n none) d.valid (IsPermutation-sym q.men (in_order men) same) (sym o.move) (sym o.passed)
 
 abbrev test : Class → ℕ → Position → Bool
 test c n r = nat_lt n (cells_of c) && is_none (first_fault r.men r.to_move r.passed) && (index_of r == n)
 
-pub decoded_told : (c : Class) (n : ℕ) (q : Position) → IsDecoded c n q → position_numbered c n ≡ Some q
+pub numbered_of_decoded : (c : Class) (n : ℕ) (q : Position) → IsDecoded c n q → position_numbered c n ≡ Some q
 unfolding position_numbered
-decoded_told c n q d =
+numbered_of_decoded c n q d =
     let lt : nat_lt n (cells_of c) ≡ true = small n (cells_of c) (below c n q d) in
     let none : is_none (first_fault q.men q.to_move q.passed) ≡ true = ap (λ o. is_none o) d.valid.faultless in
     let at_q : test c n q ≡ true = and_from _ _ (and_from _ _ lt none) (eq-eqb (index_of q) n (sym (index_of-only q n d.valid d.index))) in
-    subst (λ (r : Position). cond (test c n r) (Some r) None ≡ Some q) (sym (one_told c n q d)) (at_test (test c n q) at_q)
+    subst (λ (r : Position). cond (test c n r) (Some r) None ≡ Some q) (sym (one_decoded c n q d)) (at_test (test c n q) at_q)
   where
     small : (m k : ℕ) → m < k → nat_lt m k ≡ true
     small m k l = grind (arith, nat_tests)
@@ -132,22 +132,22 @@ decoded_told c n q d =
     at_test true e = refl
     at_test false e = absurd (false≢true e)
 
-pub told_decoded : (c : Class) (n : ℕ) (q : Position) → position_numbered c n ≡ Some q → IsDecoded c n q
+pub decoded_of_numbered : (c : Class) (n : ℕ) (q : Position) → position_numbered c n ≡ Some q → IsDecoded c n q
 unfolding position_numbered
-told_decoded c n q e = by_test (is_entry c n) refl e
+decoded_of_numbered c n q e = by_test (is_entry c n) refl e
   where
     no_fault : (o : Option PositionFault) → is_none o ≡ true → o ≡ None
     no_fault None e = refl
     no_fault (Some f) e = absurd (false≢true e)
 
-    by_test : (b : Bool) → is_entry c n ≡ b → cond b (Some (position_told c n)) None ≡ Some q → IsDecoded c n q
+    by_test : (b : Bool) → is_entry c n ≡ b → cond b (Some (position_decoded c n)) None ≡ Some q → IsDecoded c n q
     by_test false f e = absurd (let no : None ≡ Some q = e in cc)
     by_test true f e =
-        let r = position_told c n in
-        let men = told_men (slots_of c) (without_bit n) in
+        let r = position_decoded c n in
+        let men = decoded_men (slots_of c) (without_bit n) in
         let a = and_parts (nat_lt n (cells_of c) && is_none (first_fault r.men r.to_move r.passed)) (index_of r == n) f in
         let b = and_parts (nat_lt n (cells_of c)) (is_none (first_fault r.men r.to_move r.passed)) a.0 in
-        let v : IsValid r = valid_told c n (no_fault (first_fault r.men r.to_move r.passed) b.1) in
+        let v : IsValid r = decoded_is_valid c n (no_fault (first_fault r.men r.to_move r.passed) b.1) in
         let same : r ≡ q = (let s : Some r ≡ Some q = e in cc) in
         subst (λ (z : Position). IsDecoded c n z) same
         (decoded (slots_of c) n r (AreSlots-class c)

@@ -7,7 +7,7 @@ use Rattle.study_board.specs.declared.men.Kind.{Kind}
 use Rattle.study_board.specs.declared.men.Kind.TheVariants.{King, Rook, Pawn}
 use Rattle.study_material.specs.declared.class.Class.TheVariants.{KK, KRK, KPK, KQKR, KRKP, KPKP}
 use Rattle.study_values.specs.Number.{place, number, with_bit, has_bit, without_bit, cells_of}
-use Rattle.study_index.specs.Decoded.{slot_for, slots_of, listed_square, told_men, passed_behind}
+use Rattle.study_index.specs.Decoded.{slot_for, slots_of, listed_square, decoded_men, passed_behind}
 
 abbrev man : Side → Kind → ℕ → Man
 man s k a = record { side = s; kind = k; at = a }
@@ -52,7 +52,7 @@ a_pawn_of_four : cells_of KRKP ≡ 16777216
 a_pawn_of_four = refl
 
 -- the men that 20,543 encodes for king and rook against king
-decode_men : told_men (slots_of KRK) 20543 ≡ man White King 10 ∷ man Black King 0 ∷ man White Rook 63 ∷ []
+decode_men : decoded_men (slots_of KRK) 20543 ≡ man White King 10 ∷ man Black King 0 ∷ man White Rook 63 ∷ []
 unfolding listed_square
 decode_men = refl
 
@@ -77,6 +77,6 @@ the_bit = refl
 the_number : without_bit 26081051 ≡ 9303835
 the_number = refl
 
-the_square : passed_behind true Black (told_men (slots_of KPKP) 9303835) ≡ Some 20
+the_square : passed_behind true Black (decoded_men (slots_of KPKP) 9303835) ≡ Some 20
 unfolding listed_square
 the_square = refl

@@ -20,7 +20,7 @@ use Rattle.study_material.proofs.ClassOfImage.{IsPermutation-turned}
 use Rattle.study_values.specs.Slots.{IsInSlots}
 use Rattle.study_values.specs.Number.{number, place, has_pawn, with_bit, without_bit}
 use Rattle.study_index.specs.declared.decoding.Slot.{Slot}
-use Rattle.study_index.specs.Decoded.{slot_filled, slots_of, slots_have_pawn, AreSlots, men_of, told_men, told_side}
+use Rattle.study_index.specs.Decoded.{slot_filled, slots_of, slots_have_pawn, AreSlots, men_of, decoded_men, decoded_side}
 use Rattle.study_values.specs.Canonical.{turned_number}
 use Rattle.study_values.specs.Index.{index_of}
 use Rattle.study_index.specs.Squares.{number_at}
@@ -85,14 +85,15 @@ king_first pawns (k ∷ b ∷ x ∷ y ∷ z ∷ fs) n a s h = absurd s
 
 -- the number of the men turned, with the king on a, is computed in this way
 abbrev pub number_so : Bool → List Slot → ℕ → ℕ → Option ℕ
-number_so pawns slots n a = number_at pawns (other_side (told_side slots n)) (turned_square (king_symmetry pawns a)) (squares (moved_to 0 a (told_men slots n)))
+number_so pawns slots n a = number_at pawns (other_side (decoded_side slots n)) (turned_square (king_symmetry pawns a))
+    (squares (moved_to 0 a (decoded_men slots n)))
 
 pub no_number : (c : Class) (n a : ℕ) (p : Position) → IsStepped c n 0 a p → None ≡ number_so (slots_have_pawn (slots_of c)) (slots_of c) (without_bit n) a → ⊥
 no_number c n a p h e =
     let slots = slots_of c in
     let pawns = slots_have_pawn slots in
-    let men = moved_to 0 a (told_men slots (without_bit n)) in
-    let side : Side = other_side (told_side slots (without_bit n)) in
+    let men = moved_to 0 a (decoded_men slots (without_bit n)) in
+    let side : Side = other_side (decoded_side slots (without_bit n)) in
     let f = king_first pawns slots (without_bit n) a (AreSlots-class c) (on_board men (All-permutation (λ x. x.at < 64) p.men men h.men h.valid.on_board)) in
     some_number pawns side a f.0 f.2 (e ∙ ap (λ (xs : List ℕ). number_at pawns side (turned_square (king_symmetry pawns a)) xs) f.1)
 
@@ -104,24 +105,27 @@ king_index c n a p m h e =
     let slots = slots_of c in
     let pawns = slots_have_pawn slots in
     let b = without_bit n in
-    let told = told_men slots b in
-    let men = moved_to 0 a told in
+    let decoded_as = decoded_men slots b in
+    let men = moved_to 0 a decoded_as in
     let s = AreSlots-class c in
-    let side : Side = other_side (told_side slots b) in
+    let side : Side = other_side (decoded_side slots b) in
     let t = king_symmetry pawns a in
     let turned = map (turned_man t) men in
     let q = image t p in
-    let filled : map slot_filled men ≡ slots = filled_moved 0 a told ∙ filled-men_of pawns slots b s in
+    let filled : map slot_filled men ≡ slots = filled_moved 0 a decoded_as ∙ filled-men_of pawns slots b s in
     let admitted = king_admitted pawns a p (has_pawn-slots p.men men slots h.men filled) in
     let valid = valid_image t p h.valid admitted in
     let same : IsPermutation q.men turned =
-    IsPermutation-trans q.men (map (turned_man t) p.men) turned (IsPermutation-sym _ _ (IsPermutation-turned t p.men)) (IsPermutation-map (turned_man t) p.men men h.men) in
+    IsPermutation-trans q.men (map (turned_man t) p.men) turned (IsPermutation-sym _ _ (IsPermutation-turned t p.men))
+    (IsPermutation-map (turned_man t) p.men men h.men) in
     let filled_so : map slot_filled turned ≡ slots = filled_turned t (colours_kept pawns a) men ∙ filled in
     let on : All (λ x. x.at < 64) turned = All-permutation (λ x. x.at < 64) q.men turned same valid.on_board in
     let there : AreOnBoard men = on_board men (All-permutation (λ x. x.at < 64) p.men men h.men h.valid.on_board) in
     let is : number pawns side turned ≡ Some m = sym (number_men pawns side t t (λ x l. refl) men there) ∙ sym e in
-    let in_slots = IsInSlots-map t men (subst (λ w. IsInSlots w men) (sym (colours_kept pawns a)) (IsInSlots-moved 0 a told (IsInSlots-men_of pawns slots b s))) in
-    let found = least_number_is c q turned side _ valid same filled_so in_slots (to_move_kept t p side (colours_kept pawns a) h.to_move) (read_least c turned side m filled_so on is) in
+    let in_slots = IsInSlots-map t men (subst (λ w. IsInSlots w men) (sym (colours_kept pawns a))
+    (IsInSlots-moved 0 a decoded_as (IsInSlots-men_of pawns slots b s))) in
+    let found = least_number_is c q turned side _ valid same filled_so in_slots (to_move_kept t p side (colours_kept pawns a) h.to_move)
+    (read_least c turned side m filled_so on is) in
     let i = IsIndex-index_of p h.valid in
     let other = IsLeastNumber-image t p i.number h.valid admitted (λ k. colours_kept pawns a) i.least in
     i.is

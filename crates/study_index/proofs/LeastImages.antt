@@ -57,7 +57,13 @@ both x y e = and_parts x y e
 
 -- a listed square needs no turn
 record IsHome (pawns : Bool) (s : ℕ) : Type 0 where
-  pub symmetry : (across : Bool) → square_symmetry pawns (not pawns && across) false s ≡ record { files = false; ranks = false; diagonal = not pawns && across; colours = false }
+  pub symmetry : (across : Bool) → square_symmetry pawns (not pawns && across) false s ≡ record {
+    files = false;
+    ranks = false;
+    diagonal = not pawns
+        && across;
+    colours = false;
+  }
   pub on_board : s < 64
 
 home : (pawns : Bool) (q : ℕ) → q < king_places pawns → IsHome pawns (listed_square pawns q)
@@ -317,10 +323,10 @@ least_squares pawns (k ∷ []) n a c = absurd a
 least_squares pawns (k ∷ b ∷ x ∷ y ∷ z ∷ fs) n a c = absurd a
 
 -- the least number of the men that a number of the class encodes
-pub least_told : (pawns : Bool) (slots : List Slot) (n : ℕ) → AreSlots slots → nat_lt (head slots n / king_places pawns) 2 ≡ true
+pub least_decoded : (pawns : Bool) (slots : List Slot) (n : ℕ) → AreSlots slots → nat_lt (head slots n / king_places pawns) 2 ≡ true
     → canonical_number pawns (side_numbered (head slots n / king_places pawns)) false (men_of pawns slots n)
     ≡ Some (least_image pawns (are_like_slots slots) slots n)
-least_told pawns slots n a c =
+least_decoded pawns slots n a c =
     let men = men_of pawns slots n in
     let side = side_numbered (head slots n / king_places pawns) in
     let like : are_like false men ≡ are_like_slots slots = are_like-slots men ∙ ap (λ ss. are_like_slots ss) (filled-men_of pawns slots n a) in

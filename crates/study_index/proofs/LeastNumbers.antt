@@ -166,7 +166,8 @@ unfolding turned_number number
 number-listed pawns side t k rest n e =
     let go : (o : Option ℕ) → option_map (λ q. append_squares (side_number side * king_places pawns + q) (map (turned_man t) rest)) o ≡ Some n
     → (q : ℕ) × (o ≡ Some q) =
-    λ o. elim o as (λ v. option_map (λ q. append_squares (side_number side * king_places pawns + q) (map (turned_man t) rest)) v ≡ Some n → (q : ℕ) × (v ≡ Some q))
+    λ o. elim o as (λ v. option_map (λ q. append_squares (side_number side * king_places pawns + q) (map (turned_man t) rest)) v ≡ Some n → (q : ℕ)
+    × (v ≡ Some q))
     [ None ↦ λ d. cc | Some q ↦ λ d. (q, refl) ]
     in go (place pawns (turned_square t k.at)) e
 

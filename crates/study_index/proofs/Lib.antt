@@ -18,7 +18,7 @@ pub mod ClassLaws
 pub mod ComputedIndex
 pub mod BySquares
 pub mod HeavierSide
-pub mod ToldKings
+pub mod DecodedKings
 pub mod SteppedNumbers
 pub mod MovedNumbers
 pub mod AddedNumbers

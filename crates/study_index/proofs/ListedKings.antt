@@ -8,7 +8,7 @@ use Rattle.study_board.specs.declared.symmetry.Symmetry.{Symmetry}
 use Rattle.study_board.specs.Symmetry.{turned_square}
 use Rattle.study_index.specs.declared.decoding.Slot.{Slot}
 use Rattle.study_values.specs.Number.{place, king_places, side_number}
-use Rattle.study_index.specs.Decoded.{AreSlots, told_men}
+use Rattle.study_index.specs.Decoded.{AreSlots, decoded_men}
 use Rattle.study_index.specs.Squares.{number_at}
 use Rattle.study_index.specs.Stepped.{moved_to}
 use Rattle.study_index.specs.LeastImage.{king_symmetry, squares, with_head}
@@ -38,7 +38,8 @@ pub listed_stays : (pawns : Bool) (a q : ℕ) → a < 64 → Some q ≡ place pa
 unfolding king_symmetry
 listed_stays pawns a q on e =
     straight_stays (king_symmetry pawns a) refl
-    (by_place (place pawns a) (is_straight (king_symmetry pawns a)) e (at_below 64 (λ s. not (is_some (place pawns s)) || is_straight (king_symmetry pawns s)) (stays_test pawns) a on))
+    (by_place (place pawns a) (is_straight (king_symmetry pawns a)) e (at_below 64 (λ s. not (is_some (place pawns s)) || is_straight (king_symmetry pawns s))
+    (stays_test pawns) a on))
   where
     by_place : (o : Option ℕ) (b : Bool) → Some q ≡ o → (not (is_some o) || b) ≡ true → b ≡ true
     by_place None b e h = absurd cc
@@ -49,7 +50,7 @@ head_of side f o q e = rw (sym e) refl
 
 -- the number of the men with the king on a listed square
 pub listed_number : (pawns : Bool) (slots : List Slot) (side : Side) (n a q : ℕ) → AreSlots slots → a < 64 → Some q ≡ place pawns a
-    → number_at pawns side (turned_square (king_symmetry pawns a)) (squares (moved_to 0 a (told_men slots n)))
+    → number_at pawns side (turned_square (king_symmetry pawns a)) (squares (moved_to 0 a (decoded_men slots n)))
     ≡ Some (with_head slots (side_number side * king_places pawns + q) n)
 unfolding number_at with_head
 listed_number pawns (k ∷ b ∷ []) side n a q s on e =

@@ -119,13 +119,15 @@ behind-one side (x ∷ xs) m (inl s) e few = found (is_man side Pawn x) (ap (λ 
     found false h = absurd (false≢true h)
 behind-one side (x ∷ xs) m (inr i) e few = further (is_man side Pawn x) few (λ l. behind-one side xs m i e l)
   where
-    further : (b : Bool) → cond b (suc (many side Pawn xs)) (many side Pawn xs) ≤ 1 → (many side Pawn xs ≤ 1 → square_behind_pawn side xs ≡ Some (square_behind side m.at))
+    further : (b : Bool) → cond b (suc (many side Pawn xs)) (many side Pawn xs) ≤ 1
+        → (many side Pawn xs ≤ 1 → square_behind_pawn side xs ≡ Some (square_behind side m.at))
         → option_map (λ y. square_behind side y.at) (cond b (Some x) (find (λ y. is_man side Pawn y) xs)) ≡ Some (square_behind side m.at)
     further true l rest = absurd (let n = many-among side Pawn xs m i e in omega arith)
     further false l rest = rest l
 
 -- a live passed square is the one behind the pawn of the side not to move
-pub live_behind : (p : Position) (xs : List Man) → IsValid p → IsPermutation p.men xs → has_legal_en_passant p ≡ true → p.passed ≡ square_behind_pawn (other_side p.to_move) xs
+pub live_behind : (p : Position) (xs : List Man) → IsValid p → IsPermutation p.men xs → has_legal_en_passant p ≡ true
+    → p.passed ≡ square_behind_pawn (other_side p.to_move) xs
 unfolding has_man could_be_passed
 live_behind p xs v same taken =
     let r = live_pawns p v taken in
@@ -175,7 +177,8 @@ live-bare p = by_live (has_legal_en_passant p) refl
     by_live false e = refl
 
 -- a position that has an image as its bare form is live exactly if the image is
-pub live_along : (s : Symmetry) (p q : Position) → without_idle_passed_square q ≡ image s (without_idle_passed_square p) → has_legal_en_passant q ≡ has_legal_en_passant p
+pub live_along : (s : Symmetry) (p q : Position) → without_idle_passed_square q ≡ image s (without_idle_passed_square p)
+    → has_legal_en_passant q ≡ has_legal_en_passant p
 live_along s p q e = live-bare q ∙ ap (λ (r : Position). is_some r.passed) e ∙ turned s (without_idle_passed_square p).passed ∙ sym (live-bare p)
   where
     turned : (s : Symmetry) (o : Option ℕ) → is_some (turned_passed s o) ≡ is_some o

@@ -12,7 +12,7 @@ use Rattle.study_material.specs.declared.class.Class.{Class}
 use Rattle.study_material.specs.Lists.{is_exchanged, is_swapped}
 use Rattle.study_values.specs.Slots.{man_slot_number, NoneBefore, IsInSlots, IsFilling}
 use Rattle.study_values.specs.Number.{has_pawn, with_bit, without_bit, IsLeastNumber}
-use Rattle.study_index.specs.Decoded.{slot_filled, slots_of, slots_have_pawn, told_men, told_side}
+use Rattle.study_index.specs.Decoded.{slot_filled, slots_of, slots_have_pawn, decoded_men, decoded_side}
 use Rattle.study_values.specs.Canonical.{canonical_number}
 use Rattle.study_values.specs.Index.{index_of}
 use Rattle.study_index.specs.Moved.{IsMoved}
@@ -82,14 +82,14 @@ least_index c p men side r valid same filled in_slots to_move dead e =
 
 -- the least number of the men that a number encodes, one of them on another square, is the index of their position
 pub moved_number : (c : Class) (n x a : ℕ) (p : Position) (r : Option ℕ) → IsMoved c n x a p
-    → r ≡ canonical_number (slots_have_pawn (slots_of c)) (other_side (told_side (slots_of c) (without_bit n))) false
-    (map (moved_if x a) (told_men (slots_of c) (without_bit n))) → r ≡ Some (index_of p)
+    → r ≡ canonical_number (slots_have_pawn (slots_of c)) (other_side (decoded_side (slots_of c) (without_bit n))) false
+    (map (moved_if x a) (decoded_men (slots_of c) (without_bit n))) → r ≡ Some (index_of p)
 moved_number c n x a p r t e =
     let slots = slots_of c in
     let b = without_bit n in
-    let told = told_men slots b in
-    let men = map (moved_if x a) told in
+    let decoded_as = decoded_men slots b in
+    let men = map (moved_if x a) decoded_as in
     let s = AreSlots-class c in
     let pawns = slots_have_pawn slots in
-    least_index c p men (other_side (told_side slots b)) r t.valid t.men (slots_kept x a told ∙ filled-men_of pawns slots b s)
-    (IsInSlots-kept x a told (IsInSlots-men_of pawns slots b s)) t.to_move t.dead e
+    least_index c p men (other_side (decoded_side slots b)) r t.valid t.men (slots_kept x a decoded_as ∙ filled-men_of pawns slots b s)
+    (IsInSlots-kept x a decoded_as (IsInSlots-men_of pawns slots b s)) t.to_move t.dead e

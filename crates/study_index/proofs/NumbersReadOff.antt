@@ -22,7 +22,7 @@ use Rattle.study_index.specs.declared.decoding.Slot.{Slot}
 use Rattle.study_values.specs.Slots.{IsInSlots, man_slot_number}
 use Rattle.study_values.specs.Number.{place, king_places, number, has_pawn, append_squares, side_number, with_bit, has_bit, without_bit, IsLeastNumber, IsIndex}
 use Rattle.study_index.specs.Decoded.{slot_filled, IsDecodedAt, AreSlots, listed_square, slots_have_pawn, man, head, men_of}
-use Rattle.study_index.specs.Decoded.{side_numbered, told_men, told_side, passed_behind, is_cell, IsPlaced, IsFaulty}
+use Rattle.study_index.specs.Decoded.{side_numbered, decoded_men, decoded_side, passed_behind, is_cell, IsPlaced, IsFaulty}
 use Rattle.study_index.proofs.Symmetries.{all_below, at_below}
 
 -- an option is this number
@@ -220,9 +220,9 @@ IsIndex-unique p m n h k = h.is ∙ ap (λ l. with_bit (has_legal_en_passant p) 
 
 -- a decoded position is that of the men that are read off
 pub record IsOfMen (slots : List Slot) (n : ℕ) (q : Position) : Type 0 where
-  pub same : IsPermutation (told_men slots (without_bit n)) q.men
-  pub move : q.to_move ≡ told_side slots (without_bit n)
-  pub passed : q.passed ≡ passed_behind (has_bit n) (told_side slots (without_bit n)) (told_men slots (without_bit n))
+  pub same : IsPermutation (decoded_men slots (without_bit n)) q.men
+  pub move : q.to_move ≡ decoded_side slots (without_bit n)
+  pub passed : q.passed ≡ passed_behind (has_bit n) (decoded_side slots (without_bit n)) (decoded_men slots (without_bit n))
   pub cell : is_cell slots (without_bit n) ≡ true
 
 pub IsOfMen-decoded : (slots : List Slot) (n : ℕ) (q : Position) → AreSlots slots → IsDecodedAt slots n q → IsOfMen slots n q
@@ -235,13 +235,13 @@ IsOfMen-decoded slots n q a d =
     IsRead-number (slots_have_pawn slots) q.to_move f b a'
     (All-permutation (λ m. m.at < 64) q.men f d.read_off.fills.each_once d.valid.on_board)
     (subst (λ h. number h q.to_move f ≡ Some b) p d.read_off.is) in
-    let men : f ≡ told_men slots b = subst (λ s. f ≡ men_of (slots_have_pawn slots) s b) d.read_off.slots_are r.men in
-    let move : q.to_move ≡ told_side slots b =
+    let men : f ≡ decoded_men slots b = subst (λ s. f ≡ men_of (slots_have_pawn slots) s b) d.read_off.slots_are r.men in
+    let move : q.to_move ≡ decoded_side slots b =
     subst (λ s. q.to_move ≡ side_numbered (head s b / king_places (slots_have_pawn slots))) d.read_off.slots_are r.side_is in
     record {
       same = subst (λ l. IsPermutation l q.men) men (IsPermutation-sym q.men f d.read_off.fills.each_once);
       move = move;
-      passed = d.read_off.passed ∙ ap (λ s. passed_behind (has_bit n) s f) move ∙ ap (λ l. passed_behind (has_bit n) (told_side slots b) l) men;
+      passed = d.read_off.passed ∙ ap (λ s. passed_behind (has_bit n) s f) move ∙ ap (λ l. passed_behind (has_bit n) (decoded_side slots b) l) men;
       cell = subst (λ s. nat_lt (head s b / king_places (slots_have_pawn slots)) 2 ≡ true) d.read_off.slots_are r.cell;
     }
 
@@ -253,22 +253,22 @@ some_fault : (o : Option PositionFault) (f : PositionFault) → o ≡ None → o
 some_fault o f e d = (let no : None ≡ Some f = sym e ∙ d in cc)
 
 -- the men and the passed square that a number encodes have the same fault as those of a decoded position
-pub told_fault : (slots : List Slot) (n : ℕ) (q : Position) → IsOfMen slots n q
-    → first_fault (told_men slots (without_bit n)) (told_side slots (without_bit n))
-    (passed_behind (has_bit n) (told_side slots (without_bit n)) (told_men slots (without_bit n)))
+pub decoded_fault : (slots : List Slot) (n : ℕ) (q : Position) → IsOfMen slots n q
+    → first_fault (decoded_men slots (without_bit n)) (decoded_side slots (without_bit n))
+    (passed_behind (has_bit n) (decoded_side slots (without_bit n)) (decoded_men slots (without_bit n)))
     ≡ first_fault q.men q.to_move q.passed
-told_fault slots n q o =
-    first_fault_same (told_men slots (without_bit n)) q.men o.same (told_side slots (without_bit n))
-    (passed_behind (has_bit n) (told_side slots (without_bit n)) (told_men slots (without_bit n)))
-    ∙ ap (λ s. first_fault q.men s (passed_behind (has_bit n) (told_side slots (without_bit n)) (told_men slots (without_bit n)))) (sym o.move)
+decoded_fault slots n q o =
+    first_fault_same (decoded_men slots (without_bit n)) q.men o.same (decoded_side slots (without_bit n))
+    (passed_behind (has_bit n) (decoded_side slots (without_bit n)) (decoded_men slots (without_bit n)))
+    ∙ ap (λ s. first_fault q.men s (passed_behind (has_bit n) (decoded_side slots (without_bit n)) (decoded_men slots (without_bit n)))) (sym o.move)
     ∙ ap (λ r. first_fault q.men q.to_move r) (sym o.passed)
 
 -- if the men are faulty nothing is decoded
 pub no_position : (slots : List Slot) (n : ℕ) → AreSlots slots
-    → IsFaulty (told_men slots (without_bit n)) (told_side slots (without_bit n))
-    (passed_behind (has_bit n) (told_side slots (without_bit n)) (told_men slots (without_bit n)))
+    → IsFaulty (decoded_men slots (without_bit n)) (decoded_side slots (without_bit n))
+    (passed_behind (has_bit n) (decoded_side slots (without_bit n)) (decoded_men slots (without_bit n)))
     → (q : Position) → IsDecodedAt slots n q → ⊥
-no_position slots n a f q d = some_fault _ f.fault d.valid.faultless (sym (told_fault slots n q (IsOfMen-decoded slots n q a d)) ∙ f.is)
+no_position slots n a f q d = some_fault _ f.fault d.valid.faultless (sym (decoded_fault slots n q (IsOfMen-decoded slots n q a d)) ∙ f.is)
 
 -- valid positions with the same men, the same side to move and the same passed square are equal
 pub same_position : (p q : Position) → IsValid p → IsValid q → IsPermutation p.men q.men → p.to_move ≡ q.to_move → p.passed ≡ q.passed → p ≡ q
@@ -281,12 +281,12 @@ same_position p q v w same move passed = one p.men q.men p.to_move q.to_move p.p
 
 -- if it has this index it is decoded
 pub decoded : (slots : List Slot) (n : ℕ) (p : Position) → AreSlots slots → is_cell slots (without_bit n) ≡ true
-    → IsPlaced (told_men slots (without_bit n)) (told_side slots (without_bit n))
-    (passed_behind (has_bit n) (told_side slots (without_bit n)) (told_men slots (without_bit n))) p → IsIndex p n
+    → IsPlaced (decoded_men slots (without_bit n)) (decoded_side slots (without_bit n))
+    (passed_behind (has_bit n) (decoded_side slots (without_bit n)) (decoded_men slots (without_bit n))) p → IsIndex p n
     → IsDecodedAt slots n p
 decoded slots n p a cell l i =
     let b = without_bit n in
-    let men = told_men slots b in
+    let men = decoded_men slots b in
     let back : IsPermutation p.men men = IsPermutation-sym men p.men l.same_men in
     let h : has_pawn p.men ≡ slots_have_pawn slots = has_pawn-slots p.men men slots back (filled-men_of (slots_have_pawn slots) slots b a) in
     record {

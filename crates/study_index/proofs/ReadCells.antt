@@ -16,18 +16,18 @@ use Rattle.study_moves.specs.EnPassant.{has_legal_en_passant, is_capturable_en_p
 use Rattle.study_material.specs.declared.class.Class.{Class}
 use Rattle.study_index.specs.declared.decoding.Slot.{Slot}
 use Rattle.study_values.specs.Number.{numbers_of, cells_of, with_bit, has_bit, without_bit}
-use Rattle.study_index.specs.Decoded.{slots_of, slots_have_pawn, told_men, told_side, passed_behind, is_cell, IsDecoded, IsPlaced, IsFaulty, HasLeast}
+use Rattle.study_index.specs.Decoded.{slots_of, slots_have_pawn, decoded_men, decoded_side, passed_behind, is_cell, IsDecoded, IsPlaced, IsFaulty, HasLeast}
 use Rattle.study_index.proofs.ClassSlots.{AreSlots-class, is_cell-below, number_below, few_cells}
-use Rattle.study_index.proofs.DecodedNumbers.{IsTold, IsLeastTold, read_decoded, not_least, not_passing}
+use Rattle.study_index.proofs.DecodedNumbers.{IsEncodedBy, IsLeastDecoded, read_decoded, not_least, not_passing}
 use Rattle.study_index.proofs.NumbersReadOff.{no_position}
 
 abbrev pub Read : List Slot → ℕ → Bool → Position → Type 0
-Read s n b q = IsPlaced (told_men s n) (told_side s n) (passed_behind b (told_side s n) (told_men s n)) q
-    × HasLeast (slots_have_pawn s) (told_side s n) n (told_men s n)
+Read s n b q = IsPlaced (decoded_men s n) (decoded_side s n) (passed_behind b (decoded_side s n) (decoded_men s n)) q
+    × HasLeast (slots_have_pawn s) (decoded_side s n) n (decoded_men s n)
 
 abbrev pub Unread : List Slot → ℕ → Bool → Type 0
-Unread s n b = IsFaulty (told_men s n) (told_side s n) (passed_behind b (told_side s n) (told_men s n))
-    ⊎ (HasLeast (slots_have_pawn s) (told_side s n) n (told_men s n) → ⊥)
+Unread s n b = IsFaulty (decoded_men s n) (decoded_side s n) (passed_behind b (decoded_side s n) (decoded_men s n))
+    ⊎ (HasLeast (slots_have_pawn s) (decoded_side s n) n (decoded_men s n) → ⊥)
 
 pub a_cell : (c : Class) (n : ℕ) → n < cells_of c → is_cell (slots_of c) (without_bit n) ≡ true
 a_cell c n l = is_cell-below c (without_bit n) ∙ test (without_bit n) (numbers_of c) (number_below c n l)
@@ -44,7 +44,7 @@ passing c n l m =
 
 -- the position read off the parts of a number
 with_parts : (c : Class) (n m : ℕ) (b : Bool) (s : List Slot) (q : Position) → s ≡ slots_of c → m ≡ without_bit n
-    → b ≡ has_bit n → Read s m b q → IsTold c n q × IsLeastTold c n
+    → b ≡ has_bit n → Read s m b q → IsEncodedBy c n q × IsLeastDecoded c n
 with_parts c n m b s q e f g h = subst (λ d. Read (slots_of c) (without_bit n) d q) g (subst (λ k. Read (slots_of c) k b q) f (subst (λ t. Read t m b q) e h))
 
 not_parts : (c : Class) (n m : ℕ) (b : Bool) (s : List Slot) → s ≡ slots_of c → m ≡ without_bit n → b ≡ has_bit n

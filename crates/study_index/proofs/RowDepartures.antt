@@ -15,7 +15,7 @@ use Rattle.study_index.specs.declared.decoding.Slot.{Slot}
 use Rattle.study_index.specs.declared.row_index_rule.RowIndexTerms.{RowIndexTerms}
 use Rattle.study_index.specs.declared.row_index_rule.RowIndexRule.TheVariants.{Sum, LeastImage, King}
 use Rattle.study_values.specs.Number.{king_places, side_number, without_bit, numbers_of, cells_of}
-use Rattle.study_index.specs.Decoded.{slots_of, slots_have_pawn, AreSlots, head, side_numbered, told_men, told_side}
+use Rattle.study_index.specs.Decoded.{slots_of, slots_have_pawn, AreSlots, head, side_numbered, decoded_men, decoded_side}
 use Rattle.study_index.specs.Stepped.{are_like_slots, square_weight, square_of_slot, IsStepped}
 use Rattle.study_index.specs.Departure.{is_canonical_as_is, StandsOn}
 use Rattle.study_index.specs.LeastImage.{turned_by, least_image, is_on_diagonal, with_head}
@@ -24,7 +24,7 @@ use Rattle.study_index.proofs.ClassSlots.{AreSlots-class, is_cell-below, number_
 use Rattle.study_index.proofs.AddedNumbers.{IsStepped-moved}
 use Rattle.study_index.proofs.KingNumbers.{king_index}
 use Rattle.study_index.proofs.ListedKings.{listed_number}
-use Rattle.study_index.proofs.SteppedNumbers.{added_sum, added_image, told_within, image_kept}
+use Rattle.study_index.proofs.SteppedNumbers.{added_sum, added_image, decoded_within, image_kept}
 
 -- ---- the common part of the numbers of a row
 
@@ -47,7 +47,7 @@ head_in_row (k ∷ b ∷ x ∷ z ∷ w ∷ fs) m y s l = absurd s
 
 -- the man of a slot before the last
 pub man_in_row : (slots : List Slot) (m y i : ℕ) (d : Man) → AreSlots slots → y < 64 → i + 1 < length slots
-    → slice_index_or (told_men slots (64 * m + y)) i d ≡ slice_index_or (told_men slots (64 * m)) i d
+    → slice_index_or (decoded_men slots (64 * m + y)) i d ≡ slice_index_or (decoded_men slots (64 * m)) i d
 man_in_row (k ∷ b ∷ []) m y zero d s l b' = rw (left_of m y l) refl
 man_in_row (k ∷ b ∷ []) m y (suc i) d s l b' = absurd (omega (arith, b'))
 man_in_row (k ∷ b ∷ x ∷ []) m y zero d s l b' = rw (left_of m y l) refl
@@ -125,13 +125,13 @@ sum_in_row pawns (k ∷ b ∷ []) m zero y a s c one few l = absurd (omega (arit
 sum_in_row pawns (k ∷ b ∷ []) m (suc i) y a s c one few l = absurd (omega (arith, few))
 sum_in_row pawns (k ∷ b ∷ x ∷ []) m zero y a s c one few l = absurd (omega (arith, one))
 sum_in_row pawns (k ∷ b ∷ x ∷ []) m (suc zero) y a s c one few l =
-    sum_of_three pawns m y a l (told_within pawns (k ∷ b ∷ x ∷ []) (64 * m) 1 s c one (omega arith))
+    sum_of_three pawns m y a l (decoded_within pawns (k ∷ b ∷ x ∷ []) (64 * m) 1 s c one (omega arith))
 sum_in_row pawns (k ∷ b ∷ x ∷ []) m (suc (suc i)) y a s c one few l = absurd (omega (arith, few))
 sum_in_row pawns (k ∷ b ∷ x ∷ z ∷ []) m zero y a s c one few l = absurd (omega (arith, one))
 sum_in_row pawns (k ∷ b ∷ x ∷ z ∷ []) m (suc zero) y a s c one few l =
-    second_of_four pawns m y a l (told_within pawns (k ∷ b ∷ x ∷ z ∷ []) (64 * m) 1 s c one (omega arith))
+    second_of_four pawns m y a l (decoded_within pawns (k ∷ b ∷ x ∷ z ∷ []) (64 * m) 1 s c one (omega arith))
 sum_in_row pawns (k ∷ b ∷ x ∷ z ∷ []) m (suc (suc zero)) y a s c one few l =
-    third_of_four pawns m y a l (told_within pawns (k ∷ b ∷ x ∷ z ∷ []) (64 * m) 2 s c one (omega arith))
+    third_of_four pawns m y a l (decoded_within pawns (k ∷ b ∷ x ∷ z ∷ []) (64 * m) 2 s c one (omega arith))
 sum_in_row pawns (k ∷ b ∷ x ∷ z ∷ []) m (suc (suc (suc i))) y a s c one few l = absurd (omega (arith, few))
 sum_in_row pawns [] m i y a s c one few l = absurd s
 sum_in_row pawns (k ∷ []) m i y a s c one few l = absurd s
@@ -141,7 +141,7 @@ sum_in_row pawns (k ∷ b ∷ x ∷ z ∷ w ∷ fs) m i y a s c one few l = absu
 
 -- each number of a row encodes its place there as the last man's square
 last_in_row : (slots : List Slot) (m y : ℕ) (d : Man) → AreSlots slots → y < 64
-    → (slice_index_or (told_men slots (64 * m + y)) (length slots - 1) d).at ≡ y
+    → (slice_index_or (decoded_men slots (64 * m + y)) (length slots - 1) d).at ≡ y
 last_in_row (k ∷ b ∷ []) m y d s l = omega (arith, l)
 last_in_row (k ∷ b ∷ x ∷ []) m y d s l = omega (arith, l)
 last_in_row (k ∷ b ∷ x ∷ z ∷ []) m y d s l = omega (arith, l)
@@ -253,13 +253,13 @@ row_below KPKP r y l m = omega (arith, l, m)
 module _ (c : Class) (r : ℕ) where
   -- the man of a slot before the last stands on the square on which the first number of the row puts it
   pub stands_in_row : (i x y : ℕ) → y < 64 → i + 1 < length (slots_of c)
-      → ((d : Man) → (slice_index_or (told_men (slots_of c) (without_bit (64 * r))) i d).at ≡ x) → StandsOn c (64 * r + y) i x
+      → ((d : Man) → (slice_index_or (decoded_men (slots_of c) (without_bit (64 * r))) i d).at ≡ x) → StandsOn c (64 * r + y) i x
   stands_in_row i x y l few h d =
       let slots = slots_of c in
       let m = without_bit (64 * r) / 64 in
-      let same : slice_index_or (told_men slots (without_bit (64 * r + y))) i d ≡ slice_index_or (told_men slots (without_bit (64 * r))) i d =
-      ap (λ (n : ℕ). slice_index_or (told_men slots n) i d) (bit_in_row r y l) ∙ man_in_row slots m y i d (AreSlots-class c) l few
-      ∙ ap (λ (n : ℕ). slice_index_or (told_men slots n) i d) (sym (first_in_row r)) in
+      let same : slice_index_or (decoded_men slots (without_bit (64 * r + y))) i d ≡ slice_index_or (decoded_men slots (without_bit (64 * r))) i d =
+      ap (λ (n : ℕ). slice_index_or (decoded_men slots n) i d) (bit_in_row r y l) ∙ man_in_row slots m y i d (AreSlots-class c) l few
+      ∙ ap (λ (n : ℕ). slice_index_or (decoded_men slots n) i d) (sym (first_in_row r)) in
       ap (λ (z : Man). z.at) same ∙ h d
 
   pub heads_in_row : (y : ℕ) → y < 64 → head (slots_of c) (without_bit (64 * r + y)) ≡ head (slots_of c) (without_bit (64 * r))
@@ -307,7 +307,7 @@ module _ (c : Class) (r : ℕ) where
   -- if no number of the row is mirrored
   pub IsRowSum-terms : (i x : ℕ) (t : RowIndexTerms) → 64 * r < cells_of c → 1 ≤ i → i + 1 < length (slots_of c)
       → is_canonical_as_is (slots_of c) (without_bit (64 * r)) ≡ true
-      → ((d : Man) → (slice_index_or (told_men (slots_of c) (without_bit (64 * r))) i d).at ≡ x) → AreTermsOf i t → IsRowSum c r x t
+      → ((d : Man) → (slice_index_or (decoded_men (slots_of c) (without_bit (64 * r))) i d).at ≡ x) → AreTermsOf i t → IsRowSum c r x t
   IsRowSum-terms i x t below one few keeps stands is a on y p l moved =
       let n = 64 * r + y in
       let short : i < length (slots_of c) = omega (arith, few) in
@@ -317,7 +317,7 @@ module _ (c : Class) (r : ℕ) where
 
   -- and if some may be
   pub IsLeastOfRowSum-terms : (i x : ℕ) (t : RowIndexTerms) → 64 * r < cells_of c → 1 ≤ i → i + 1 < length (slots_of c)
-      → ((d : Man) → (slice_index_or (told_men (slots_of c) (without_bit (64 * r))) i d).at ≡ x) → AreTermsOf i t → IsLeastOfRowSum c r x t
+      → ((d : Man) → (slice_index_or (decoded_men (slots_of c) (without_bit (64 * r))) i d).at ≡ x) → AreTermsOf i t → IsLeastOfRowSum c r x t
   IsLeastOfRowSum-terms i x t below one few stands is a y p on l moved =
       let slots = slots_of c in
       let n = 64 * r + y in
@@ -339,7 +339,7 @@ module _ (c : Class) (r : ℕ) where
       let s = AreSlots-class c in
       let few = last_after_first slots s in
       let stands : StandsOn c n i y =
-      λ d. ap (λ (k : ℕ). (slice_index_or (told_men slots k) i d).at) (bit_in_row r y l) ∙ last_in_row slots m y d s l in
+      λ d. ap (λ (k : ℕ). (slice_index_or (decoded_men slots k) i d).at) (bit_in_row r y l) ∙ last_in_row slots m y d s l in
       added_sum c n i a p (row_below c r y below l) few.0 few.1 on (keeps_in_row y l keeps) (IsStepped-moved c n i y a p few.1 stands moved)
       ∙ ap (λ (k : ℕ). turned_by places count k - square_of_slot count i k * square_weight count i + a * square_weight count i) (bit_in_row r y l)
       ∙ sum_of_last (slots_have_pawn slots) slots m y a s l
@@ -347,9 +347,10 @@ module _ (c : Class) (r : ℕ) where
 
   -- the terms of the white king
   pub IsRowSumOfKing-terms : (x : ℕ) (t : RowIndexTerms) → 1 < length (slots_of c) → are_like_slots (slots_of c) ≡ false
-      → ((d : Man) → (slice_index_or (told_men (slots_of c) (without_bit (64 * r))) 0 d).at ≡ x)
+      → ((d : Man) → (slice_index_or (decoded_men (slots_of c) (without_bit (64 * r))) 0 d).at ≡ x)
       → t.rest
-      ≡ side_number (other_side (told_side (slots_of c) (without_bit (64 * r)))) * king_places (slots_have_pawn (slots_of c)) * 64 ^ (length (slots_of c) - 2)
+      ≡ side_number (other_side (decoded_side (slots_of c) (without_bit (64 * r)))) * king_places (slots_have_pawn (slots_of c)) * 64 ^
+      (length (slots_of c) - 2)
       + without_bit (64 * r) / 64 % 64 ^ (length (slots_of c) - 2)
       → t.weight ≡ 64 ^ (length (slots_of c) - 2) → IsRowSumOfKing c r x t
   IsRowSumOfKing-terms x t few unlike stands e f a k on at y p l moved =
@@ -361,8 +362,8 @@ module _ (c : Class) (r : ℕ) where
       let z : ℕ → ℕ = λ h. side_number (other_side (side_numbered (h / king_places pawns))) * king_places pawns in
       let step : IsStepped c n 0 a p = IsStepped-moved c n 0 x a p (omega (arith, few)) (stands_in_row 0 x y l few stands) moved in
       king_index c n a p (with_head slots (z (head slots (without_bit n)) + q) (without_bit n)) step
-      (sym (listed_number pawns slots (other_side (told_side slots (without_bit n))) (without_bit n) a q (AreSlots-class c) on at.1))
-      ∙ king_kept pawns (are_like_slots slots) slots (side_number (other_side (told_side slots (without_bit n)))) q (without_bit n)
+      (sym (listed_number pawns slots (other_side (decoded_side slots (without_bit n))) (without_bit n) a q (AreSlots-class c) on at.1))
+      ∙ king_kept pawns (are_like_slots slots) slots (side_number (other_side (decoded_side slots (without_bit n)))) q (without_bit n)
       (AreSlots-class c) unlike at.2 at.3
       ∙ ap (λ (h : ℕ). with_head slots (z h + q) (without_bit n)) (heads_in_row y l)
       ∙ ap (λ (b : ℕ). with_head slots (z (head slots (without_bit (64 * r))) + q) b) (bit_in_row r y l)

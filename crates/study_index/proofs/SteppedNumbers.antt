@@ -14,7 +14,7 @@ use Rattle.study_material.specs.declared.class.Class.{Class}
 use Rattle.study_index.specs.declared.decoding.Slot.{Slot}
 use Rattle.study_values.specs.Slots.{man_slot_number, NoneBefore, IsInSlots}
 use Rattle.study_values.specs.Number.{number, side_number, king_places, without_bit, numbers_of, cells_of}
-use Rattle.study_index.specs.Decoded.{slot_filled, slots_of, slots_have_pawn, AreSlots, men_of, head, side_numbered, told_men, told_side}
+use Rattle.study_index.specs.Decoded.{slot_filled, slots_of, slots_have_pawn, AreSlots, men_of, head, side_numbered, decoded_men, decoded_side}
 use Rattle.study_values.specs.Canonical.{canonical_number}
 use Rattle.study_values.specs.Index.{index_of}
 use Rattle.study_index.specs.Stepped.{moved_to, stepped, are_like_slots, IsStepped, NumbersStep, square_weight, square_of_slot}
@@ -22,7 +22,7 @@ use Rattle.study_index.specs.Departure.{is_canonical_as_is}
 use Rattle.study_index.specs.LeastImage.{turned_by, stepped_by, least_image, ascending_if, is_on_diagonal}
 use Rattle.study_index.proofs.NumbersReadOff.{place-king, IsRead-number, filled-men_of, IsInSlots-men_of}
 use Rattle.study_index.proofs.ClassSlots.{AreSlots-class, is_cell-below, number_below}
-use Rattle.study_index.proofs.LeastImages.{least_told}
+use Rattle.study_index.proofs.LeastImages.{least_decoded}
 use Rattle.study_index.proofs.MovedNumbers.{least_index}
 
 -- ---- the number of men, one of which has moved
@@ -85,20 +85,21 @@ within_four : (places n x : ℕ) → IsTurned places (n / 64 / 64 / 64) x
     × (square_of_slot 4 3 n * square_weight 4 3 ≤ turned_by places 4 n)
 within_four places n x h = let t = turned_four places n x h in (omega (arith, t), omega (arith, t), omega (arith, t))
 
-pub told_within : (pawns : Bool) (slots : List Slot) (n i : ℕ) → AreSlots slots → nat_lt (head slots n / king_places pawns) 2 ≡ true → 1 ≤ i → i < length slots
+pub decoded_within : (pawns : Bool) (slots : List Slot) (n i : ℕ) → AreSlots slots → nat_lt (head slots n / king_places pawns) 2 ≡ true → 1 ≤ i
+    → i < length slots
     → square_of_slot (length slots) i n * square_weight (length slots) i ≤ turned_by (king_places pawns) (length slots) n
-told_within pawns (k ∷ b ∷ []) n i s c l m =
+decoded_within pawns (k ∷ b ∷ []) n i s c l m =
     let e : 1 ≡ i = omega arith in
     subst (λ (j : ℕ). square_of_slot 2 j n * square_weight 2 j ≤ turned_by (king_places pawns) 2 n) e
     (within_two (king_places pawns) n _ (head_turned pawns (n / 64) c))
-told_within pawns (k ∷ b ∷ x ∷ []) n i s c l m =
+decoded_within pawns (k ∷ b ∷ x ∷ []) n i s c l m =
     let t = within_three (king_places pawns) n _ (head_turned pawns (n / 64 / 64) c) in
     let P : ℕ → Type 0 = λ j. square_of_slot 3 j n * square_weight 3 j ≤ turned_by (king_places pawns) 3 n in
     elim (one_or i 1 l) [
       | inl e ↦ subst P e t.0
       | inr g ↦ (let e : 2 ≡ i = omega arith in subst P e t.1)
     ]
-told_within pawns (k ∷ b ∷ x ∷ y ∷ []) n i s c l m =
+decoded_within pawns (k ∷ b ∷ x ∷ y ∷ []) n i s c l m =
     let t = within_four (king_places pawns) n _ (head_turned pawns (n / 64 / 64 / 64) c) in
     let P : ℕ → Type 0 = λ j. square_of_slot 4 j n * square_weight 4 j ≤ turned_by (king_places pawns) 4 n in
     elim (one_or i 1 l) [
@@ -108,9 +109,9 @@ told_within pawns (k ∷ b ∷ x ∷ y ∷ []) n i s c l m =
         | inr h ↦ (let e : 3 ≡ i = omega arith in subst P e t.2)
       ]
     ]
-told_within pawns [] n i s c l m = absurd s
-told_within pawns (k ∷ []) n i s c l m = absurd s
-told_within pawns (k ∷ b ∷ x ∷ y ∷ z ∷ fs) n i s c l m = absurd s
+decoded_within pawns [] n i s c l m = absurd s
+decoded_within pawns (k ∷ []) n i s c l m = absurd s
+decoded_within pawns (k ∷ b ∷ x ∷ y ∷ z ∷ fs) n i s c l m = absurd s
 
 -- one square replaced in a number whose head is x
 replaced_two : (places n x a : ℕ) → IsTurned places (n / 64) x → x * 64 + a ≡ stepped_by places 2 n 1 a
@@ -213,7 +214,7 @@ read_least c men side m filled on is =
     let same : men ≡ men_of pawns slots m = subst (λ (ss : List Slot). men ≡ men_of pawns ss m) filled read.men in
     let turned : side ≡ side_numbered (head slots m / king_places pawns) =
     subst (λ (ss : List Slot). side ≡ side_numbered (head ss m / king_places pawns)) filled read.side_is in
-    sym (least_told pawns slots m s there) ∙ sym (as_read pawns side _ men _ turned same)
+    sym (least_decoded pawns slots m s there) ∙ sym (as_read pawns side _ men _ turned same)
   where
     as_read : (w : Bool) (x y : Side) (xs ys : List Man) → x ≡ y → xs ≡ ys → canonical_number w x false xs ≡ canonical_number w y false ys
     as_read w x y xs ys e f = rw (e, f) refl
@@ -226,17 +227,17 @@ stepped_index c n i a p below one few t =
     let slots = slots_of c in
     let pawns = slots_have_pawn slots in
     let b = without_bit n in
-    let told = told_men slots b in
-    let men = moved_to i a told in
+    let decoded_as = decoded_men slots b in
+    let men = moved_to i a decoded_as in
     let s = AreSlots-class c in
-    let side : Side = other_side (told_side slots b) in
+    let side : Side = other_side (decoded_side slots b) in
     let m = stepped_by (king_places pawns) (length slots) b i a in
-    let filled : map slot_filled men ≡ slots = filled_moved i a told ∙ filled-men_of pawns slots b s in
+    let filled : map slot_filled men ≡ slots = filled_moved i a decoded_as ∙ filled-men_of pawns slots b s in
     let cell : nat_lt (head slots b / king_places pawns) 2 ≡ true = is_cell-below c b ∙ below_test b (numbers_of c) (number_below c n below) in
     let is : number pawns side men ≡ Some m = stepped_number pawns slots b i a s cell one few in
     let on : All (λ x. x.at < 64) men = All-permutation (λ x. x.at < 64) p.men men t.men t.valid.on_board in
     sym (the_same _ _
-    (least_index c p men side _ t.valid t.men filled (IsInSlots-moved i a told (IsInSlots-men_of pawns slots b s)) t.to_move t.dead
+    (least_index c p men side _ t.valid t.men filled (IsInSlots-moved i a decoded_as (IsInSlots-men_of pawns slots b s)) t.to_move t.dead
     (read_least c men side m filled on is)))
   where
     below_test : (m k : ℕ) → m < k → nat_lt m k ≡ true
@@ -315,7 +316,8 @@ added_index : (c : Class) (n i a : ℕ) (p : Position) → n < cells_of c → 1 
     → is_canonical_as_is (slots_of c) (without_bit n) ≡ true → IsStepped c n i a p
     → index_of p ≡ stepped_by (king_places (slots_have_pawn (slots_of c))) (length (slots_of c)) (without_bit n) i a
 added_index c n i a p below one few on keeps t =
-    stepped_index c n i a p below one few t ∙ by_pawn (slots_have_pawn (slots_of c)) keeps (is_cell-below c (without_bit n) ∙ below_test (without_bit n) (numbers_of c) (number_below c n below))
+    stepped_index c n i a p below one few t ∙ by_pawn (slots_have_pawn (slots_of c)) keeps (is_cell-below c (without_bit n)
+    ∙ below_test (without_bit n) (numbers_of c) (number_below c n below))
   where
     below_test : (m k : ℕ) → m < k → nat_lt m k ≡ true
     below_test m k l = grind (arith, nat_tests)
@@ -336,7 +338,7 @@ taken_first : (c : Class) (n i a : ℕ) → n < cells_of c → 1 ≤ i → i < l
     - square_of_slot (length (slots_of c)) i (without_bit n) * square_weight (length (slots_of c)) i + a * square_weight (length (slots_of c)) i
 unfolding stepped_by
 taken_first c n i a below one few =
-    as_sum _ _ _ (told_within (slots_have_pawn (slots_of c)) (slots_of c) (without_bit n) i (AreSlots-class c)
+    as_sum _ _ _ (decoded_within (slots_have_pawn (slots_of c)) (slots_of c) (without_bit n) i (AreSlots-class c)
     (is_cell-below c (without_bit n) ∙ below_test (without_bit n) (numbers_of c) (number_below c n below)) one few)
   where
     below_test : (m k : ℕ) → m < k → nat_lt m k ≡ true

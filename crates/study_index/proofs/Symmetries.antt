@@ -110,7 +110,8 @@ chosen-only pawns t s q l a e =
 -- some symmetry brings a square to a listed one
 abbrev pub some_is_listed : Bool → Bool → ℕ → Bool
 some_is_listed pawns c s =
-    is_some (place pawns (turned_square (canonical_symmetry pawns false c s) s)) || (not pawns && is_some (place pawns (turned_square (canonical_symmetry pawns true c s) s)))
+    is_some (place pawns (turned_square (canonical_symmetry pawns false c s) s)) || (not pawns
+    && is_some (place pawns (turned_square (canonical_symmetry pawns true c s) s)))
 
 listed_squares : (pawns c : Bool) → all_below 64 (some_is_listed pawns c) ≡ true
 unfolding turned_square place canonical_symmetry

@@ -12,7 +12,8 @@ use Rattle.study_board.specs.Symmetry.{image}
 use Rattle.study_board.proofs.ImagesValid.{valid_image}
 use Rattle.study_moves.specs.EnPassant.{has_legal_en_passant}
 use Rattle.study_material.proofs.MenBesideKings.{few_men}
-use Rattle.study_values.specs.Number.{number, king_places, side_number, append_squares, with_bit, has_bit, without_bit, has_pawn, IsNumber, IsLeastNumber, IsIndex}
+use Rattle.study_values.specs.Number.{number, king_places, side_number, append_squares, with_bit, has_bit, without_bit, has_pawn, IsNumber}
+use Rattle.study_values.specs.Number.{IsLeastNumber, IsIndex}
 use Rattle.study_index.proofs.NumbersReadOff.{number-parts, listed-place}
 
 pub without-with : (b : Bool) (m : ℕ) → m < 16777216 → without_bit (with_bit b m) ≡ m

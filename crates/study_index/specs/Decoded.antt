@@ -108,11 +108,11 @@ abbrev pub is_cell : List Slot → ℕ → Bool
 is_cell slots n = nat_lt (head slots n / king_places (slots_have_pawn slots)) 2
 
 -- the men and the side to move that a number encodes
-abbrev pub told_men : List Slot → ℕ → List Man
-told_men slots n = men_of (slots_have_pawn slots) slots n
+abbrev pub decoded_men : List Slot → ℕ → List Man
+decoded_men slots n = men_of (slots_have_pawn slots) slots n
 
-abbrev pub told_side : List Slot → ℕ → Side
-told_side slots n = side_numbered (head slots n / king_places (slots_have_pawn slots))
+abbrev pub decoded_side : List Slot → ℕ → Side
+decoded_side slots n = side_numbered (head slots n / king_places (slots_have_pawn slots))
 
 -- the least number of men who stand in the order of their slots
 abbrev pub HasLeast : Bool → Side → ℕ → List Man → Type 0

@@ -8,7 +8,7 @@ use Rattle.study_index.specs.declared.index_rule.IndexTerms.{IndexTerms}
 use Rattle.study_index.specs.declared.index_rule.IndexRule.{IndexRule}
 use Rattle.study_index.specs.declared.index_rule.IndexRule.TheVariants.{Sum, LeastImage, King}
 use Rattle.study_values.specs.Index.{index_of}
-use Rattle.study_index.specs.Decoded.{head, slots_of, slots_have_pawn, told_men}
+use Rattle.study_index.specs.Decoded.{head, slots_of, slots_have_pawn, decoded_men}
 use Rattle.study_index.specs.Moved.{IsMoved}
 use Rattle.study_values.specs.Number.{without_bit}
 use Rattle.study_index.specs.Stepped.{are_like_slots}
@@ -29,7 +29,7 @@ IsLeastOfAdded c n x t =
 
 -- n encodes that the man of the slot stands on x
 abbrev pub StandsOn : Class → ℕ → ℕ → ℕ → Type 0
-StandsOn c n i x = (d : Man) → (slice_index_or (told_men (slots_of c) (without_bit n)) i d).at ≡ x
+StandsOn c n i x = (d : Man) → (slice_index_or (decoded_men (slots_of c) (without_bit n)) i d).at ≡ x
 
 -- the number after the man on x has moved can be computed in this way
 pub record IsFoundBy (c : Class) (n x : ℕ) (way : IndexRule) : Type 0 where

@@ -13,7 +13,7 @@ use Rattle.study_material.specs.Lists.{is_swapped}
 use Rattle.study_material.specs.Class.{lists_of, IsOf}
 use Rattle.study_material.specs.Needs.{LeadsOn}
 use Rattle.study_values.specs.Number.{IsIndex, cells_of, without_bit, has_bit}
-use Rattle.study_index.specs.Decoded.{IsDecoded, slots_of, told_men, told_side, passed_behind}
+use Rattle.study_index.specs.Decoded.{IsDecoded, slots_of, decoded_men, decoded_side, passed_behind}
 use Rattle.study_index.specs.Computed.{position_numbered}
 use Rattle.study_values.specs.Index.{index_of}
 
@@ -69,11 +69,11 @@ abbrev pub AlikeAgree : Type 0
 AlikeAgree = (p q : Position) → AreAlike p q → AgreeAlike p q
 
 -- the men of a position as its number encodes them, one for each slot; the side to move; and the passed square
-pub record IsTold (c : Class) (n : ℕ) (q : Position) : Type 0 where
-  pub men : IsPermutation (told_men (slots_of c) (without_bit n)) q.men
-  pub same : (m : Man) → Contains (told_men (slots_of c) (without_bit n)) m ↔ Contains q.men m
-  pub to_move : q.to_move ≡ told_side (slots_of c) (without_bit n)
-  pub passed : q.passed ≡ passed_behind (has_bit n) (told_side (slots_of c) (without_bit n)) (told_men (slots_of c) (without_bit n))
+pub record IsEncodedBy (c : Class) (n : ℕ) (q : Position) : Type 0 where
+  pub men : IsPermutation (decoded_men (slots_of c) (without_bit n)) q.men
+  pub same : (m : Man) → Contains (decoded_men (slots_of c) (without_bit n)) m ↔ Contains q.men m
+  pub to_move : q.to_move ≡ decoded_side (slots_of c) (without_bit n)
+  pub passed : q.passed ≡ passed_behind (has_bit n) (decoded_side (slots_of c) (without_bit n)) (decoded_men (slots_of c) (without_bit n))
 
 abbrev pub NumbersTell : Type 0
-NumbersTell = (c : Class) (n : ℕ) (q : Position) → position_numbered c n ≡ Some q → IsTold c n q
+NumbersTell = (c : Class) (n : ℕ) (q : Position) → position_numbered c n ≡ Some q → IsEncodedBy c n q

@@ -8,7 +8,7 @@ use Rattle.study_moves.specs.EnPassant.{has_legal_en_passant}
 use Rattle.study_material.specs.declared.class.Class.{Class}
 use Rattle.study_index.specs.declared.decoding.Slot.{Slot}
 use Rattle.study_values.specs.Number.{without_bit, cells_of}
-use Rattle.study_index.specs.Decoded.{slots_of, slots_have_pawn, number_of_slot, told_men, told_side}
+use Rattle.study_index.specs.Decoded.{slots_of, slots_have_pawn, number_of_slot, decoded_men, decoded_side}
 use Rattle.study_values.specs.Index.{index_of}
 
 -- the man at one place of a list, counted from 0, on another square
@@ -44,8 +44,8 @@ are_like_slots slots = false
 -- p is the position of n, with the man of slot i on square a and the other side to move, and without a capture in passing
 pub record IsStepped (c : Class) (n i a : ℕ) (p : Position) : Type 0 where
   pub valid : IsValid p
-  pub men : IsPermutation p.men (moved_to i a (told_men (slots_of c) (without_bit n)))
-  pub to_move : p.to_move ≡ other_side (told_side (slots_of c) (without_bit n))
+  pub men : IsPermutation p.men (moved_to i a (decoded_men (slots_of c) (without_bit n)))
+  pub to_move : p.to_move ≡ other_side (decoded_side (slots_of c) (without_bit n))
   pub dead : has_legal_en_passant p ≡ false
 
 -- for classes with a pawn and no like men, and any man but the white king

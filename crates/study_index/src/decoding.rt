@@ -6,7 +6,7 @@ ghost use Rattle.study_material.specs.Class.{lists_of};
 ghost use Rattle.study_values.specs.Number.{king_places, cells_of};
 ghost use Rattle.study_index.specs.Computed.{position_numbered};
 ghost use Rattle.study_index.specs.Decoded.{IsDecoded, AreSlots, slots_of, listed_square, slots_have_pawn};
-ghost use Rattle.study_index.specs.Decoded.{man, head, told_men, told_side, square_behind_pawn};
+ghost use Rattle.study_index.specs.Decoded.{man, head, decoded_men, decoded_side, square_behind_pawn};
 ghost use Rattle.study_index.specs.Decoded.{passed_behind, is_cell, IsPlaced, IsFaulty, HasLeast};
 ghost use Rattle.study_index.specs.Stepped.{are_like_slots};
 ghost use Rattle.study_board.specs.Men.{other_side};
@@ -132,7 +132,8 @@ fn is_least(slots: &[Slot], pawns: bool, like: bool, n: u32) -> bool
     requires cell { is_cell slots.now n ≡ true }
     requires small { n < 16777216 }
     ensures { IsTrue result
-        ↔ HasLeast (slots_have_pawn slots.now) (told_side slots.now n) n (told_men slots.now n) }
+        ↔ HasLeast (slots_have_pawn slots.now) (decoded_side slots.now n) n
+        (decoded_men slots.now n) }
 {
     least_image(pawns, like, slots, n) == n
 }
@@ -146,13 +147,15 @@ fn decode_slots(slots: &[Slot], pawns: bool, like: bool, n: u32, passed: bool) -
     requires cell { is_cell slots.now n ≡ true }
     requires small { n < 16777216 }
     ensures some { IfSome result
-        (λ q. IsPlaced (told_men slots.now n) (told_side slots.now n)
-        (passed_behind passed (told_side slots.now n) (told_men slots.now n)) q
-        × HasLeast (slots_have_pawn slots.now) (told_side slots.now n) n (told_men slots.now n)) }
+        (λ q. IsPlaced (decoded_men slots.now n) (decoded_side slots.now n)
+        (passed_behind passed (decoded_side slots.now n) (decoded_men slots.now n)) q
+        × HasLeast (slots_have_pawn slots.now) (decoded_side slots.now n) n
+        (decoded_men slots.now n)) }
     ensures none { IfNone result
-        (IsFaulty (told_men slots.now n) (told_side slots.now n)
-        (passed_behind passed (told_side slots.now n) (told_men slots.now n))
-        ⊎ (HasLeast (slots_have_pawn slots.now) (told_side slots.now n) n (told_men slots.now n)
+        (IsFaulty (decoded_men slots.now n) (decoded_side slots.now n)
+        (passed_behind passed (decoded_side slots.now n) (decoded_men slots.now n))
+        ⊎ (HasLeast (slots_have_pawn slots.now) (decoded_side slots.now n) n
+        (decoded_men slots.now n)
         → ⊥)) }
 {
     if !is_least(slots, pawns, like, n) {

@@ -4,7 +4,7 @@ ghost use Rattle.study_board.specs.declared.men.Man.{Man as AMan};
 ghost use Rattle.study_board.specs.Position.{Position as Seen};
 ghost use Rattle.study_values.specs.Index.{index_of};
 ghost use Rattle.study_values.specs.Number.{cells_of, without_bit};
-ghost use Rattle.study_index.specs.Decoded.{AreSlots, slots_of, slots_have_pawn, told_men};
+ghost use Rattle.study_index.specs.Decoded.{AreSlots, slots_of, slots_have_pawn, decoded_men};
 ghost use Rattle.study_index.specs.Moved.{IsMoved};
 ghost use Rattle.study_index.specs.Departure.{IsFoundBy, is_canonical_as_is};
 
@@ -46,7 +46,7 @@ fn way_of(class: Class, number: u32, from: Square, slot: u32) -> IndexRule
     requires after { 1 ≤ slot }
     requires slot { slot < length (slots_of class) }
     requires stands { (d : AMan)
-        → (slice_index_or (told_men (slots_of class) (without_bit number)) slot d).at ≡ from }
+        → (slice_index_or (decoded_men (slots_of class) (without_bit number)) slot d).at ≡ from }
     ensures { IsFoundBy class number from result }
 {
     let (slots, pawns) = (slots(class), class_has_pawn(class));
@@ -71,7 +71,7 @@ pub fn is_slot_square(slots: &[Slot], pawns: bool, n: u32, slot: u32, from: Squa
     requires slots { AreSlots slots.now }
     requires pawns { pawns ≡ slots_have_pawn slots.now }
     ensures { IsTrue result → (slot < length slots.now)
-        × ((d : AMan) → (slice_index_or (told_men slots.now n) slot d).at ≡ from) }
+        × ((d : AMan) → (slice_index_or (decoded_men slots.now n) slot d).at ≡ from) }
 {
     if slot == 0 {
         white_king_of(pawns, &slots[0], head(slots, n)).at == from

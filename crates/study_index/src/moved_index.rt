@@ -4,7 +4,7 @@ ghost use Rattle.study_board.specs.declared.men.Man.{Man as AMan};
 ghost use Rattle.study_board.specs.Men.{other_side, moved_if};
 ghost use Rattle.study_board.specs.Position.{Position as Seen};
 ghost use Rattle.study_values.specs.Canonical.{canonical_number};
-ghost use Rattle.study_index.specs.Decoded.{AreSlots, slots_of, slots_have_pawn, man, told_men, told_side};
+ghost use Rattle.study_index.specs.Decoded.{AreSlots, slots_of, slots_have_pawn, man, decoded_men, decoded_side};
 ghost use Rattle.study_values.specs.Index.{index_of};
 ghost use Rattle.study_values.specs.Number.{cells_of};
 ghost use Rattle.study_index.specs.Stepped.{moved_to, IsStepped};
@@ -39,8 +39,8 @@ fn straight_frame(has_pawns: bool, to_move: Side) -> Frame
 fn least_moved(slots: &[Slot], pawns: bool, n: u32, from: Square, to: Square) -> Option<u32>
     requires slots { AreSlots slots.now }
     requires pawns { pawns ≡ slots_have_pawn slots.now }
-    ensures { result ≡ canonical_number pawns (other_side (told_side slots.now n)) false
-        (map (moved_if from to) (told_men slots.now n)) }
+    ensures { result ≡ canonical_number pawns (other_side (decoded_side slots.now n)) false
+        (map (moved_if from to) (decoded_men slots.now n)) }
 {
     let frame = straight_frame(pawns, side_of_number(pawns, head(slots, n)).other());
     match slots {
@@ -114,9 +114,9 @@ fn number_with_king_on(slots: &[Slot], pawns: bool, n: u32, to: Square) -> Optio
     requires slots { AreSlots slots.now }
     requires pawns { pawns ≡ slots_have_pawn slots.now }
     ensures value { result
-        ≡ number_at pawns (other_side (told_side slots.now n))
+        ≡ number_at pawns (other_side (decoded_side slots.now n))
         (turned_square (king_symmetry pawns to))
-        (squares (moved_to 0 to (told_men slots.now n))) }
+        (squares (moved_to 0 to (decoded_men slots.now n))) }
     ensures small { IfSome result (λ m. m < 16777216) }
 {
     let side = side_of_number(pawns, head(slots, n)).other();
@@ -142,7 +142,7 @@ fn number_with_king_turned(
     requires pawns { pawns ≡ slots_have_pawn slots.now }
     ensures value { result
         ≡ number_at pawns side (turned_square (king_symmetry pawns to))
-        (squares (moved_to 0 to (told_men slots.now n))) }
+        (squares (moved_to 0 to (decoded_men slots.now n))) }
     ensures small { IfSome result (λ m. m < 16777216) }
 {
     let frame = straight_frame(pawns, side);
@@ -187,7 +187,7 @@ pub fn slot_on(slots: &[Slot], pawns: bool, n: u32, from: Square) -> Option<u32>
     requires slots { AreSlots slots.now }
     requires pawns { pawns ≡ slots_have_pawn slots.now }
     ensures { IfSome result (λ i. (i < length slots.now)
-        × ((d : AMan) → (slice_index_or (told_men slots.now n) i d).at ≡ from)) }
+        × ((d : AMan) → (slice_index_or (decoded_men slots.now n) i d).at ≡ from)) }
 {
     let at = u32::from(from.number());
     match slots {

@@ -3,7 +3,7 @@ ghost use Rattle.std.specs.Prelude.{◌≡◌, ◌/◌, ◌%◌, length};
 ghost use Rattle.arrayvec.specs.ArrayVec.{array_vec_len};
 ghost use Rattle.study_values.specs.Number.{king_places, without_bit};
 ghost use Rattle.study_index.specs.Stepped.{are_like_slots};
-ghost use Rattle.study_index.specs.Decoded.{AreSlots, slots_of, slots_have_pawn, man, head, listed_square, side_numbered, told_men, told_side};
+ghost use Rattle.study_index.specs.Decoded.{AreSlots, slots_of, slots_have_pawn, man, head, listed_square, side_numbered, decoded_men, decoded_side};
 
 use crate::decoding::{Slot, listed_square, man, slots};
 use arrayvec::ArrayVec;
@@ -70,9 +70,9 @@ pub fn side_of_number(pawns: bool, head: u32) -> Side
 /// The men and the side to move that the number encodes, by shifts alone.
 #[inline(always)]
 pub fn decode_men(class: Class, number: u32) -> DecodedMen
-    ensures men { result.men.items ≡ told_men (slots_of class) (without_bit number) }
+    ensures men { result.men.items ≡ decoded_men (slots_of class) (without_bit number) }
     ensures many { array_vec_len result.men ≡ length (slots_of class) }
-    ensures to_move { result.to_move ≡ told_side (slots_of class) (without_bit number) }
+    ensures to_move { result.to_move ≡ decoded_side (slots_of class) (without_bit number) }
 {
     let slots = slots(class);
     let pawns = class_has_pawn(class);
@@ -85,9 +85,9 @@ pub fn decode_men(class: Class, number: u32) -> DecodedMen
 pub fn decode_men_in(slots: &[Slot], pawns: bool, n: u32) -> DecodedMen
     requires slots { AreSlots slots.now }
     requires pawns { pawns ≡ slots_have_pawn slots.now }
-    ensures men { result.men.items ≡ told_men slots.now n }
+    ensures men { result.men.items ≡ decoded_men slots.now n }
     ensures many { array_vec_len result.men ≡ length slots.now }
-    ensures to_move { result.to_move ≡ told_side slots.now n }
+    ensures to_move { result.to_move ≡ decoded_side slots.now n }
 {
     let mut men = ArrayVec::new();
     match slots {

@@ -120,8 +120,8 @@ module _ {P : Type 0} where
   -- ---- the promises of the functions of a level
 
   -- a claim that holds if the values outside the class are right and the cells encode which positions are won within k plies
-  abbrev pub WhereWinsAreTold : Numbered P → ℕ → List ℕ → Type 0 → Type 0
-  WhereWinsAreTold g k cells Claim = OutsideIsRight g → TellWins g k cells → Claim
+  abbrev pub WhereWinsAreEncoded : Numbered P → ℕ → List ℕ → Type 0 → Type 0
+  WhereWinsAreEncoded g k cells Claim = OutsideIsRight g → TellWins g k cells → Claim
 
   -- by the cells, no position of n loses within k plies
   abbrev pub NoLossBy : Numbered P → List ℕ → ℕ → ℕ → Type 0

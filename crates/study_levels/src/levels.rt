@@ -3,7 +3,7 @@ ghost use Rattle.std.specs.Prelude.{◌≡◌, ◌+◌, ◌*◌, ◌^◌, ◌<�
 ghost use Rattle.study_levels.specs.Propagation.{AreAdded, AreDropped, AreLowered};
 ghost use Rattle.study_levels.specs.Numbered.{CellsAreRight, CellsHavePositions, EndsRight, HasFarMate, IsNumberedClass};
 ghost use Rattle.study_levels.specs.Numbered.{LossesAreKept, LossesAreTrue, LossesGoBack, RowLossesAreKept, RowLossesAreTrue};
-ghost use Rattle.study_levels.specs.Numbered.{OutsideIsRight, RaisesLevel, StepLeads, WhereWinsAreTold, WinsGoBack};
+ghost use Rattle.study_levels.specs.Numbered.{OutsideIsRight, RaisesLevel, StepLeads, WhereWinsAreEncoded, WinsGoBack};
 
 use crate::cell_blocks::{has_longer_mate, next_block, row_end, row_with};
 use crate::consistency::first_inconsistent;
@@ -72,9 +72,9 @@ fn confirm_row<G: LevelGame>(game: &G, cells: &mut [u8], row: u32, level: u8) ->
     ensures fall { AreDropped level cells.old cells.new }
     ensures other { (i : ℕ) → (i < 64 * row) ⊎ (64 * row + 64 ≤ i)
         → slice_index cells.new i ≡ slice_index cells.old i }
-    ensures lost { WhereWinsAreTold (G.numbered game.now) level cells.old
+    ensures lost { WhereWinsAreEncoded (G.numbered game.now) level cells.old
         (RowLossesAreTrue (G.numbered game.now) level row cells.new) }
-    ensures kept { WhereWinsAreTold (G.numbered game.now) level cells.old
+    ensures kept { WhereWinsAreEncoded (G.numbered game.now) level cells.old
         (RowLossesAreKept (G.numbered game.now) level row cells.old cells.new) }
 {
     let candidates = row_with(cells, row, level + 2);
@@ -91,9 +91,9 @@ pub fn confirm_losses<G: LevelGame>(game: &G, cells: &mut [u8], level: u8) -> u6
     requires cells { length cells.old ≡ (G.numbered game.now).size }
     requires numbered { CellsHavePositions (G.numbered game.now) cells.old }
     ensures fall { AreDropped level cells.old cells.new }
-    ensures lost { WhereWinsAreTold (G.numbered game.now) level cells.old
+    ensures lost { WhereWinsAreEncoded (G.numbered game.now) level cells.old
         (LossesAreTrue (G.numbered game.now) level cells.new) }
-    ensures kept { WhereWinsAreTold (G.numbered game.now) level cells.old
+    ensures kept { WhereWinsAreEncoded (G.numbered game.now) level cells.old
         (LossesAreKept (G.numbered game.now) level cells.old cells.new) }
 {
     let mut examined = 0u64;

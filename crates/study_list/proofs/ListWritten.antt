@@ -1,5 +1,5 @@
 -- A whole list, from the parts written one after the other.
-use Rattle.std.proofs.Common.{◌≡◌, ℕ, List, Option, Some, None, Result, Err, refl, inl, inr}
+use Rattle.std.proofs.Common.{ℕ, List, Option, Some, None, Result, Err, refl, inl, inr}
 use Rattle.std.specs.Prelude.{IfSome}
 use Rattle.std.specs.Io.KnownBytes.{Appends}
 use Rattle.study_text.specs.Taken.{TakesPrefix}
@@ -16,8 +16,8 @@ module _ (left old begun new : Option (List ℕ)) (answer : Result Summary RunFa
   pub whole_list : (first : State) (given : Option (List ℕ)) → Appends old begun head_record
       → IfSome given (λ bytes. Outcome IsRecordOf refusal_record remark_record first bytes left begun new answer)
       → IfSome given (λ bytes. IsList first bytes left old new answer)
-  whole_list first None opened told = tt
-  whole_list first (Some script) opened told = inr (begun, opened, told)
+  whole_list first None opened reported = tt
+  whole_list first (Some script) opened reported = inr (begun, opened, reported)
 
   pub list_fits : (given : Option (List ℕ)) → Appends old begun head_record
       → IfSome given (λ bytes. Fits IsSomeRecord refusal_record remark_record bytes left begun new answer)

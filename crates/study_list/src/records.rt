@@ -26,7 +26,7 @@ impl Report for Records {
     ghost remark = { λ line. remark_record line };
 
     // Nothing is kept.
-    ghost lists = { λ records told. Unit {0} };
+    ghost lists = { λ records reported. Unit {0} };
 
     fn add_study<'a, 'b, A: Allocator, B: Allocator, V: Values, W: Write>(
         &mut self,

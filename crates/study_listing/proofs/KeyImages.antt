@@ -101,12 +101,14 @@ module _ (law : AllAgreeWithBare) (p : Position) (valid : IsValid p) where
 
   through-bare : (f : Filters) (m : Move) → IsLegal p m → is_let_through f (without_idle_passed_square p) m ≡ is_let_through f p m
   through-bare f m l =
-      ap (λ (q : Position). not (f.no_capture && nat_lt (length q.men) (length (without_idle_passed_square p).men)) && not (f.no_check && in_check q.men q.to_move)) (sym (ends-bare m l))
+      ap (λ (q : Position). not (f.no_capture && nat_lt (length q.men) (length (without_idle_passed_square p).men))
+      && not (f.no_check && in_check q.men q.to_move)) (sym (ends-bare m l))
       ∙ ap (λ n. not (f.no_capture && nat_lt (length (after p m).men) n) && not (f.no_check && in_check (after p m).men (after p m).to_move))
       (ap (λ xs. length xs) (bare-men p))
 
   -- the key of the position is that of an image of its bare form
-  let-through : (s : Symmetry) → IsTurnable s (without_idle_passed_square p) → (f : Filters) → HasKeyLetThrough f p → HasKeyLetThrough f (image s (without_idle_passed_square p))
+  let-through : (s : Symmetry) → IsTurnable s (without_idle_passed_square p) → (f : Filters) → HasKeyLetThrough f p
+      → HasKeyLetThrough f (image s (without_idle_passed_square p))
   let-through s t f (m, (o, k), e) =
       let only = only-bare o m k.1 in (
         image_move s m,
@@ -114,5 +116,6 @@ module _ (law : AllAgreeWithBare) (p : Position) (valid : IsValid p) where
         through-image s (without_idle_passed_square p) t m only.legal f ∙ through-bare f m k.1.legal ∙ e,
       )
 
-  pub wanted-image : (s : Symmetry) → IsTurnable s (without_idle_passed_square p) → (f : Filters) → HasWantedKey f p → HasWantedKey f (image s (without_idle_passed_square p))
+  pub wanted-image : (s : Symmetry) → IsTurnable s (without_idle_passed_square p) → (f : Filters) → HasWantedKey f p
+      → HasWantedKey f (image s (without_idle_passed_square p))
   wanted-image s t f h asked = let-through s t f (h asked)

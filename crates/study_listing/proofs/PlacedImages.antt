@@ -17,7 +17,7 @@ use Rattle.study_material.proofs.ClassOfImage.{swapped-image}
 use Rattle.study_values.specs.Index.{index_of}
 use Rattle.study_index.specs.Computed.{position_numbered}
 use Rattle.study_index.proofs.ClassLaws.{entry, numbered, alike_back}
-use Rattle.study_index.proofs.ComputedIndex.{IsIndex-index_of, decoded_told}
+use Rattle.study_index.proofs.ComputedIndex.{IsIndex-index_of, numbered_of_decoded}
 use Rattle.study_listing.specs.declared.filters.Placed.{Placed}
 use Rattle.study_listing.specs.Filters.{are_placed, HasImagePlaced}
 use Rattle.study_listing.specs.Laws.{PlacedAreShown}
@@ -52,7 +52,7 @@ pub record IsKept (p q : Position) : Type 0 where
   pub is : q ≡ image by (without_idle_passed_square p)
 
 module _ (law : AllAgreeWithBare) (c : Class) (p q : Position) (valid : IsValid p) (home : IsOf c p) (unswapped : is_swapped p.men ≡ false)
-    (told : position_numbered c (index_of p) ≡ Some q) where
+    (reported : position_numbered c (index_of p) ≡ Some q) where
   pub kept : IsKept p q
   kept =
       let n = index_of p in
@@ -60,7 +60,7 @@ module _ (law : AllAgreeWithBare) (c : Class) (p q : Position) (valid : IsValid 
       let e = entry c n r.0 r.1 in
       let alike = alike_back c r.0 p r.2 in
       let by = alike.alike.images.by in
-      let same : r.0 ≡ q = same-some r.0 q (sym (decoded_told c n r.0 r.1) ∙ told) in
+      let same : r.0 ≡ q = same-some r.0 q (sym (numbered_of_decoded c n r.0 r.1) ∙ reported) in
       let is : r.0 ≡ image by (without_idle_passed_square p) = sym e.is_bare ∙ alike.alike.images.is in
       let keeps : (lists (without_idle_passed_square p).men).white ≡ (lists (without_idle_passed_square p).men).black → by.colours ≡ false =
       (λ like. alike.kept (ap (λ l. l.white) home ∙ ordered-same (lists p.men) (subst (λ xs. (lists xs).white ≡ (lists xs).black) (bare-men p) like)
@@ -68,7 +68,8 @@ module _ (law : AllAgreeWithBare) (c : Class) (p q : Position) (valid : IsValid 
       record {
         by = by;
         colours =
-            same-flag by.colours (is_swapped (without_idle_passed_square p).men) (sym (swapped-image by (without_idle_passed_square p).men keeps) ∙ sym (ap (λ x. is_swapped x.men) is) ∙ e.in_order)
+            same-flag by.colours (is_swapped (without_idle_passed_square p).men) (sym (swapped-image by (without_idle_passed_square p).men keeps)
+            ∙ sym (ap (λ x. is_swapped x.men) is) ∙ e.in_order)
             ∙ ap (λ xs. is_swapped xs) (bare-men p) ∙ unswapped;
         admitted = alike.alike.images.admitted;
         is = sym same ∙ is;
@@ -79,15 +80,17 @@ module _ (law : AllAgreeWithBare) (c : Class) (p q : Position) (valid : IsValid 
       let k = kept in
       let sound = (law p valid).valid in
       let again : image (back k.by) q ≡ without_idle_passed_square p =
-      ap (λ x. image (back k.by) x) k.is ∙ image_back k.by (without_idle_passed_square p) (IsTurnable-from_valid k.by (without_idle_passed_square p) sound k.admitted) in
+      ap (λ x. image (back k.by) x) k.is ∙ image_back k.by (without_idle_passed_square p)
+      (IsTurnable-from_valid k.by (without_idle_passed_square p) sound k.admitted) in
       record {
         by = back k.by;
         colours = k.colours;
-        admitted = ap (λ x. admits x (back k.by)) k.is ∙ admits_image k.by (back k.by) (without_idle_passed_square p) sound k.admitted ∙ admits_back k.by (without_idle_passed_square p) k.admitted;
+        admitted = ap (λ x. admits x (back k.by)) k.is ∙ admits_image k.by (back k.by) (without_idle_passed_square p) sound k.admitted
+            ∙ admits_back k.by (without_idle_passed_square p) k.admitted;
         placed = ap (λ x. are_placed ws x) again
             ∙ subst (λ (men : List Man). are_placed ws (record { men = men; to_move = p.to_move; passed = p.passed }) ≡ true) (sym (bare-men p)) there;
       }
 
 pub placed-shown : AllAgreeWithBare → PlacedAreShown
-placed-shown law s p q valid home unswapped there told =
-    has-some s q (image-placed law s.search.class p q valid home unswapped told s.filters.men there)
+placed-shown law s p q valid home unswapped there reported =
+    has-some s q (image-placed law s.search.class p q valid home unswapped reported s.filters.men there)

@@ -8,7 +8,7 @@ use Rattle.study_board.specs.declared.men.Kind.TheVariants.{King, Queen, Rook, B
 use Rattle.study_board.specs.declared.men.Side.{Side}
 use Rattle.study_board.specs.declared.men.Side.TheVariants.{White, Black}
 use Rattle.study_board.specs.Geometry.{file_of, rank_of}
-use Rattle.study_command.specs.Parser.{side_told}
+use Rattle.study_command.specs.Parser.{side_parsed}
 use Rattle.study_search.specs.declared.themes.Theme.{Theme}
 use Rattle.study_listing.specs.declared.filters.Placed.{Placed}
 use Rattle.study_listing.specs.declared.filter_words.Behind.{Behind}
@@ -58,11 +58,11 @@ abbrev pub placed_by : ℕ → Option ℕ → Option ℕ → Option Placed
 placed_by letter from to = placed_on (side_lettered letter) (kind_lettered (capital letter)) from to
 
 -- a man's letter and a square, or the two corners of a rectangle with a hyphen between them
-abbrev pub placed_told : List ℕ → Option Placed
-placed_told (letter ∷ file ∷ rank ∷ []) = placed_by letter (square_spelled file rank) (square_spelled file rank)
-placed_told (letter ∷ file ∷ rank ∷ hyphen ∷ last_file ∷ last_rank ∷ []) =
+abbrev pub placed_parsed : List ℕ → Option Placed
+placed_parsed (letter ∷ file ∷ rank ∷ []) = placed_by letter (square_spelled file rank) (square_spelled file rank)
+placed_parsed (letter ∷ file ∷ rank ∷ hyphen ∷ last_file ∷ last_rank ∷ []) =
     if hyphen == 45 then placed_by letter (square_spelled file rank) (square_spelled last_file last_rank) else None
-placed_told _ = None
+placed_parsed _ = None
 
 -- ---- the words after a theme
 
@@ -89,7 +89,7 @@ with_side b side = if is_some b.side then Err NoSuchFilter else Ok (record b { s
 
 abbrev pub with_side_or_man : Behind → List ℕ → Option Side → Result Behind Unread
 with_side_or_man b word (Some side) = with_side b side
-with_side_or_man b word None = with_placed b (placed_told word)
+with_side_or_man b word None = with_placed b (placed_parsed word)
 
 -- a filter on the key needs a theme that has one
 abbrev pub if_key : Theme → Behind → Result Behind Unread
@@ -100,7 +100,7 @@ abbrev pub with_word : Theme → Behind → List ℕ → Result Behind Unread
 with_word t b word =
     if bytes_eq word (codes "no-capture") then if_key t (record b { filters = record b.filters { no_capture = true } })
     else (if bytes_eq word (codes "no-check") then if_key t (record b { filters = record b.filters { no_check = true } })
-    else with_side_or_man b word (side_told word))
+    else with_side_or_man b word (side_parsed word))
 
 -- word by word, up to the first that is refused
 abbrev pub with_words : Theme → Result Behind Unread → List (List ℕ) → Result Behind Unread

@@ -5,7 +5,7 @@ use Rattle.std.specs.Io.KnownBytes.{Appends}
 use Rattle.std.specs.List.{AllByRecursion}
 use Rattle.study_material.specs.declared.class.Class.{Class}
 use Rattle.study_material.specs.Needs.{IsOrder}
-use Rattle.study_notation.specs.Fen.{digits_told}
+use Rattle.study_notation.specs.Fen.{digits_parsed}
 use Rattle.study_values.specs.declared.values.ProbeFault.{ProbeFault}
 use Rattle.study_values.specs.declared.values.ProbeFault.TheVariants.{NoTable, TableRead, PageDamaged}
 use Rattle.study_values.specs.Number.{cells_of}
@@ -23,16 +23,16 @@ use Rattle.study_listing.specs.Requests.{request_of, class_of_request, needs_one
 -- ---- `THEME [FILTER ..] FROM TO`
 
 -- one to nine digits
-abbrev pub number_told : List ℕ → Option ℕ
-number_told word = digits_told 9 word
+abbrev pub number_parsed : List ℕ → Option ℕ
+number_parsed word = digits_parsed 9 word
 
 abbrev pub numbers_of : Option ℕ → Option ℕ → Option Numbers
 numbers_of (Some from) (Some to) = Some (record { from = from; to = to })
 numbers_of _ _ = None
 
-abbrev pub numbers_told : List (List ℕ) → Option Numbers
-numbers_told (from ∷ to ∷ []) = numbers_of (number_told from) (number_told to)
-numbers_told _ = None
+abbrev pub numbers_parsed : List (List ℕ) → Option Numbers
+numbers_parsed (from ∷ to ∷ []) = numbers_of (number_parsed from) (number_parsed to)
+numbers_parsed _ = None
 
 -- the theme and its filters are read before the numbers
 abbrev pub numbered : Result Request Unread → Option Numbers → Result Piece PieceFault
@@ -44,7 +44,7 @@ numbered (Ok request) (Some numbers) = Ok (record { request = request; numbers =
 abbrev pub piece_of : Class → List (List ℕ) → Result Piece PieceFault
 piece_of c ws =
     if nat_le 2 (length ws)
-    then numbered (request_of c (take (length ws - 2) ws)) (numbers_told (drop (length ws - 2) ws))
+    then numbered (request_of c (take (length ws - 2) ws)) (numbers_parsed (drop (length ws - 2) ws))
     else Err fault.NoNumbers
 
 -- ---- the tables

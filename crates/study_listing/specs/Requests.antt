@@ -4,8 +4,8 @@ use Rattle.std.specs.Str.{bytes_eq}
 use Rattle.study_board.specs.declared.men.Side.{Side}
 use Rattle.study_board.specs.declared.men.Side.TheVariants.{White}
 use Rattle.study_material.specs.declared.class.Class.{Class}
-use Rattle.study_command.specs.Paths.{place_told}
-use Rattle.study_command.specs.Parser.{side_told}
+use Rattle.study_command.specs.Paths.{place_parsed}
+use Rattle.study_command.specs.Parser.{side_parsed}
 use Rattle.study_search.specs.declared.only_moves.Outcome.{Outcome}
 use Rattle.study_search.specs.declared.only_moves.Outcome.TheVariants.{Win, Draw}
 use Rattle.study_search.specs.declared.themes.Theme.{Theme}
@@ -42,7 +42,7 @@ few_only_moves o (Some n) = if nat_le n 255 then Some (theme.OnlyMoves o n) else
 
 abbrev pub only_moves_named : Option Outcome → List ℕ → Option Theme
 only_moves_named None word = None
-only_moves_named (Some o) word = few_only_moves o (place_told word)
+only_moves_named (Some o) word = few_only_moves o (place_parsed word)
 
 -- `into win`, `try draw`, `win 5`, with one to three digits
 abbrev pub theme_of_two : List ℕ → List ℕ → Option Theme
@@ -78,7 +78,7 @@ themed c (Some t) rest = positions_of c t rest
 abbrev pub by_two : Class → List ℕ → List (List ℕ) → Result Request Unread
 by_two c first [] = Err NoSuchTheme
 by_two c first (second ∷ rest) =
-    if bytes_eq first (codes "longest") then longest_for c (side_told second) rest
+    if bytes_eq first (codes "longest") then longest_for c (side_parsed second) rest
     else themed c (theme_of_two first second) rest
 
 abbrev pub by_one : Class → Option Theme → List ℕ → List (List ℕ) → Result Request Unread

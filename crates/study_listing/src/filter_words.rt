@@ -1,8 +1,8 @@
 //! The words after a theme.
 ghost use Rattle.std.specs.Prelude.{◌≡◌, map, true, Ok};
-ghost use Rattle.study_command.specs.Parser.{side_told};
+ghost use Rattle.study_command.specs.Parser.{side_parsed};
 ghost use Rattle.study_listing.specs.FilterWords.{side_lettered, capital, kind_lettered, square_spelled, are_corners, placed_by, placed_on};
-ghost use Rattle.study_listing.specs.FilterWords.{placed_told, nothing_behind, put_placed, with_placed, with_side, with_side_or_man};
+ghost use Rattle.study_listing.specs.FilterWords.{placed_parsed, nothing_behind, put_placed, with_placed, with_side, with_side_or_man};
 ghost use Rattle.study_listing.specs.FilterWords.{if_key, with_word, with_words};
 
 use crate::facts::wanted_for;
@@ -134,7 +134,7 @@ fn on_square(letter: u8, file: u8, rank: u8) -> Option<Placed>
 
 /// A man's letter and a square, `Kf7`, or the two corners of a rectangle, `pa2-h4`.
 fn read_placed(word: &[u8]) -> Option<Placed>
-    ensures { result ≡ placed_told word.now }
+    ensures { result ≡ placed_parsed word.now }
 {
     match word {
         [letter, file, rank] => on_square(*letter, *file, *rank),
@@ -204,7 +204,7 @@ fn with_side(behind: Behind, side: Side) -> Result<Behind, Unread>
 }
 
 fn with_side_or_man(behind: Behind, word: &[u8]) -> Result<Behind, Unread>
-    ensures { result ≡ with_side_or_man behind word.now (side_told word.now) }
+    ensures { result ≡ with_side_or_man behind word.now (side_parsed word.now) }
 {
     match read_side(word) {
         Some(side) => with_side(behind, side),

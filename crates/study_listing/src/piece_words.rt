@@ -1,6 +1,6 @@
 //! The words of a piece of a list.
 ghost use Rattle.std.specs.Prelude.{◌≡◌, map};
-ghost use Rattle.study_listing.specs.Pieces.{number_told, numbers_of, numbers_told, numbered, piece_of};
+ghost use Rattle.study_listing.specs.Pieces.{number_parsed, numbers_of, numbers_parsed, numbered, piece_of};
 
 use crate::filter_words::Unread;
 use crate::listing::Numbers;
@@ -24,7 +24,7 @@ pub enum PieceFault {
 
 /// The number that one to nine digits spell.
 fn read_number(text: &[u8]) -> Option<u32>
-    ensures { result ≡ number_told text.now }
+    ensures { result ≡ number_parsed text.now }
 {
     if text.is_empty() || text.len() > 9 {
         return None;
@@ -49,7 +49,7 @@ fn numbers_of(from: Option<u32>, to: Option<u32>) -> Option<Numbers>
 }
 
 fn read_numbers(words: &[&[u8]]) -> Option<Numbers>
-    ensures { result ≡ numbers_told (map (λ word. word.now) words.now) }
+    ensures { result ≡ numbers_parsed (map (λ word. word.now) words.now) }
 {
     match words {
         [from, to] => numbers_of(read_number(from), read_number(to)),

@@ -27,7 +27,7 @@ use Rattle.study_marks.specs.Evaluated.{AllAreEvaluated}
 use Rattle.study_marks.proofs.SameShape.{mapped-mapped, mapped-without, mapped-moved_up, has_node-mapped}
 use Rattle.study_marks.proofs.SameShape.{IsPlayable-mapped, mapped-IsPlayable, AreDistinct-mapped}
 use Rattle.study_marks.proofs.SameShape.{mapped-AreDistinct, IsWithin-mapped, mapped-IsWithin}
-use Rattle.study_marks.proofs.MarksShown.{AllAreTold-right, right-told, AreTold-dropped, AreTold-raised}
+use Rattle.study_marks.proofs.MarksShown.{AllAreEvaluated-right, right-evaluated, AreEvaluated-dropped, AreEvaluated-raised}
 
 abbrev pub bare : {L : Type 0} → Plain L → Plain (Unit {0})
 bare t = mapped_tree (λ _. tt) t
@@ -36,15 +36,15 @@ bare t = mapped_tree (λ _. tt) t
 bare-shown : (a : Aim) (d : ℕ) (q : Evaluation) (f : Forest NodeLabel) → mapped (λ (x : Mark). tt {0}) (shown a d q f) ≡ mapped (λ (l : NodeLabel). tt {0}) f
 bare-shown a d q none = refl
 bare-shown a d q (more m l b r) =
-    ap (λ x. more m tt x (mapped (λ _. tt) (shown a d q r))) (bare-shown a (d + 1) l.told b)
+    ap (λ x. more m tt x (mapped (λ _. tt) (shown a d q r))) (bare-shown a (d + 1) l.evaluated b)
     ∙ ap (more m tt (mapped (λ _. tt) b)) (bare-shown a d q r)
 
 pub bare-marked : (k : BenchState) → (plain_study (marked k)).tree ≡ bare k.study.tree
-bare-marked k = ap (λ f. record { label = tt; below = f }) (bare-shown (aim_of k.study) 0 k.study.tree.label.told k.study.tree.below)
+bare-marked k = ap (λ f. record { label = tt; below = f }) (bare-shown (aim_of k.study) 0 k.study.tree.label.evaluated k.study.tree.below)
 
 -- the evaluations without the faults determine the nodes
-pub bare-told : (t : Plain NodeLabel) → bare (evaluation_tree t) ≡ bare t
-bare-told t = ap (λ f. record { label = tt; below = f }) (mapped-mapped (λ (l : NodeLabel). l.told) (λ (x : Evaluation). tt {0}) t.below)
+pub bare-evaluated : (t : Plain NodeLabel) → bare (evaluation_tree t) ≡ bare t
+bare-evaluated t = ap (λ f. record { label = tt; below = f }) (mapped-mapped (λ (l : NodeLabel). l.evaluated) (λ (x : Evaluation). tt {0}) t.below)
 
 -- edits keep the invariants of a study
 IsPlayable-place : {L : Type 0} (e : ℕ → Forest L → Forest L) → ((p : Position) (k : ℕ) (f : Forest L) → IsPlayable p f → IsPlayable p (e k f))
@@ -149,21 +149,25 @@ fits-moved_up p t (k ∷ ks) h = record {
 
 -- the nodes, from the evaluations
 bare-removed : (t u : Plain NodeLabel) (ks : List ℕ) → evaluation_tree u ≡ without (evaluation_tree t) ks → bare u ≡ without (bare t) ks
-bare-removed t u ks e = sym (bare-told u) ∙ ap bare e ∙ mapped-without (λ (x : Evaluation). tt {0}) (evaluation_tree t) ks ∙ ap (λ x. without x ks) (bare-told t)
+bare-removed t u ks e = sym (bare-evaluated u) ∙ ap bare e ∙ mapped-without (λ (x : Evaluation). tt {0}) (evaluation_tree t) ks
+    ∙ ap (λ x. without x ks) (bare-evaluated t)
 
 bare-raised : (t u : Plain NodeLabel) (ks : List ℕ) → evaluation_tree u ≡ moved_up (evaluation_tree t) ks → bare u ≡ moved_up (bare t) ks
-bare-raised t u ks e = sym (bare-told u) ∙ ap bare e ∙ mapped-moved_up (λ (x : Evaluation). tt {0}) (evaluation_tree t) ks ∙ ap (λ x. moved_up x ks) (bare-told t)
+bare-raised t u ks e = sym (bare-evaluated u) ∙ ap bare e ∙ mapped-moved_up (λ (x : Evaluation). tt {0}) (evaluation_tree t) ks
+    ∙ ap (λ x. moved_up x ks) (bare-evaluated t)
 
 abbrev pub with_tree : Study NodeLabel → Plain NodeLabel → Study NodeLabel
 with_tree s u = record { start = s.start; stipulation = s.stipulation; tags = s.tags; tree = u }
 
-pub removed-study : (s : Study NodeLabel) (u : Plain NodeLabel) (ks : List ℕ) → evaluation_tree u ≡ without (evaluation_tree s.tree) ks → IsStudy s → IsStudy (with_tree s u)
+pub removed-study : (s : Study NodeLabel) (u : Plain NodeLabel) (ks : List ℕ) → evaluation_tree u ≡ without (evaluation_tree s.tree) ks → IsStudy s
+    → IsStudy (with_tree s u)
 removed-study s u ks e h =
     study s u h
     (subst (Fits s.start.position) (sym (bare-removed s.tree u ks e))
     (fits-without s.start.position (bare s.tree) ks (fits s h)))
 
-pub raised-study : (s : Study NodeLabel) (u : Plain NodeLabel) (ks : List ℕ) → evaluation_tree u ≡ moved_up (evaluation_tree s.tree) ks → IsStudy s → IsStudy (with_tree s u)
+pub raised-study : (s : Study NodeLabel) (u : Plain NodeLabel) (ks : List ℕ) → evaluation_tree u ≡ moved_up (evaluation_tree s.tree) ks → IsStudy s
+    → IsStudy (with_tree s u)
 raised-study s u ks e h =
     study s u h
     (subst (Fits s.start.position) (sym (bare-raised s.tree u ks e))
@@ -194,25 +198,27 @@ raised-plain k u n ks e = same-plain k u n
     (bare-raised k.study.tree u ks e ∙ ap (λ x. moved_up x ks) (sym (bare-marked k)))
 
 -- right marks after the edit
-told-without : (p : Position) (t : Plain Evaluation) (ks : List ℕ) → AllAreEvaluated p t → AllAreEvaluated p (without t ks)
-told-without p t [] h = h
-told-without p t (k ∷ ks) h = (h.0, AreTold-dropped p t.below k ks h.1)
+evaluated-without : (p : Position) (t : Plain Evaluation) (ks : List ℕ) → AllAreEvaluated p t → AllAreEvaluated p (without t ks)
+evaluated-without p t [] h = h
+evaluated-without p t (k ∷ ks) h = (h.0, AreEvaluated-dropped p t.below k ks h.1)
 
-told-moved_up : (p : Position) (t : Plain Evaluation) (ks : List ℕ) → AllAreEvaluated p t → AllAreEvaluated p (moved_up t ks)
-told-moved_up p t [] h = h
-told-moved_up p t (k ∷ ks) h = (h.0, AreTold-raised p t.below k ks h.1)
+evaluated-moved_up : (p : Position) (t : Plain Evaluation) (ks : List ℕ) → AllAreEvaluated p t → AllAreEvaluated p (moved_up t ks)
+evaluated-moved_up p t [] h = h
+evaluated-moved_up p t (k ∷ ks) h = (h.0, AreEvaluated-raised p t.below k ks h.1)
 
 pub removed-right : (k : BenchState) (u : Plain NodeLabel) (n : ℕ) (ks : List ℕ)
     → evaluation_tree u ≡ without (evaluation_tree k.study.tree) ks → AllAddUp (aim_of k.study) u → IsKeptRight k
     → IsKeptRight (record { study = with_tree k.study u; relabelled = n })
-removed-right k u n ks e s h = right-told (record { study = with_tree k.study u; relabelled = n }) s
-    (subst (AllAreEvaluated k.study.start.position) (sym e) (told-without k.study.start.position (evaluation_tree k.study.tree) ks (AllAreTold-right k h)))
+removed-right k u n ks e s h = right-evaluated (record { study = with_tree k.study u; relabelled = n }) s
+    (subst (AllAreEvaluated k.study.start.position) (sym e) (evaluated-without k.study.start.position (evaluation_tree k.study.tree) ks
+    (AllAreEvaluated-right k h)))
 
 pub raised-right : (k : BenchState) (u : Plain NodeLabel) (n : ℕ) (ks : List ℕ)
     → evaluation_tree u ≡ moved_up (evaluation_tree k.study.tree) ks → AllAddUp (aim_of k.study) u → IsKeptRight k
     → IsKeptRight (record { study = with_tree k.study u; relabelled = n })
-raised-right k u n ks e s h = right-told (record { study = with_tree k.study u; relabelled = n }) s
-    (subst (AllAreEvaluated k.study.start.position) (sym e) (told-moved_up k.study.start.position (evaluation_tree k.study.tree) ks (AllAreTold-right k h)))
+raised-right k u n ks e s h = right-evaluated (record { study = with_tree k.study u; relabelled = n }) s
+    (subst (AllAreEvaluated k.study.start.position) (sym e) (evaluated-moved_up k.study.start.position (evaluation_tree k.study.tree) ks
+    (AllAreEvaluated-right k h)))
 
 -- refusals
 has_spot-plain : (k : BenchState) (ks : List ℕ) → has_spot (plain_study (marked k)).tree ks ≡ has_spot k.study.tree ks
@@ -272,8 +278,8 @@ match-err : {A : Type 0} (o : Option (Refusal A)) (r : Result (Unit {0}) (Refusa
 match-err o (Ok x) f e h = absurd h
 match-err {A = A} o (Err x) f e h =
     let r : Result (Unit {0}) (Refusal A) = Err x in
-    let told : r ≡ err_of f = ap err_of h in
-    subst (λ (p : Option (Refusal A)). MatchOption p (IsOk r) (λ fault. r ≡ Err fault)) (sym e) told
+    let evaluated : r ≡ err_of f = ap err_of h in
+    subst (λ (p : Option (Refusal A)). MatchOption p (IsOk r) (λ fault. r ≡ Err fault)) (sym e) evaluated
 
 pub delete-err : {A : Type 0} (b k : BenchState) (steps path : List ℕ) (r : Result (Unit {0}) TreeFault) (f : TreeFault)
     (answer : Result (Unit {0}) (Refusal A)) → b ≡ k → steps ≡ path → r ≡ Err f

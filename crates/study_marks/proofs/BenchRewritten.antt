@@ -20,15 +20,15 @@ use Rattle.study_marks.specs.declared.mark.Mark.{Mark}
 use Rattle.study_marks.proofs.SameShape.{IsPlayable-mapped, mapped-IsPlayable}
 use Rattle.study_marks.specs.BenchState.{BenchState, marked, IsStudy, IsKeptRight, AllAddUp, evaluation_tree}
 use Rattle.study_marks.specs.Evaluated.{AllAreEvaluated}
-use Rattle.study_marks.proofs.BenchEdits.{bare, bare-marked, bare-told, Fits, fits, study}
-use Rattle.study_marks.proofs.MarksShown.{AllAreTold-right, right-told}
+use Rattle.study_marks.proofs.BenchEdits.{bare, bare-marked, bare-evaluated, Fits, fits, study}
+use Rattle.study_marks.proofs.MarksShown.{AllAreEvaluated-right, right-evaluated}
 
 -- the study with another stipulation and other labels
 abbrev pub restipulated : Study NodeLabel → Stipulation → Plain NodeLabel → Study NodeLabel
 restipulated s stipulation u = record { start = s.start; stipulation = stipulation; tags = s.tags; tree = u }
 
 same-bare : (t u : Plain NodeLabel) → evaluation_tree u ≡ evaluation_tree t → bare u ≡ bare t
-same-bare t u e = sym (bare-told u) ∙ ap bare e ∙ bare-told t
+same-bare t u e = sym (bare-evaluated u) ∙ ap bare e ∙ bare-evaluated t
 
 pub stipulated-study : (s : Study NodeLabel) (stipulation : Stipulation) (u : Plain NodeLabel)
     → evaluation_tree u ≡ evaluation_tree s.tree → IsStudy s → IsStudy (restipulated s stipulation u)
@@ -46,34 +46,37 @@ pub stipulated-right : (k : BenchState) (stipulation : Stipulation) (u : Plain N
     → evaluation_tree u ≡ evaluation_tree k.study.tree → AllAddUp (aim_of (restipulated k.study stipulation u)) u → IsKeptRight k
     → IsKeptRight (record { study = restipulated k.study stipulation u; relabelled = n })
 stipulated-right k stipulation u n e s h =
-    right-told (record { study = restipulated k.study stipulation u; relabelled = n }) s
-    (subst (AllAreEvaluated k.study.start.position) (sym e) (AllAreTold-right k h))
+    right-evaluated (record { study = restipulated k.study stipulation u; relabelled = n }) s
+    (subst (AllAreEvaluated k.study.start.position) (sym e) (AllAreEvaluated-right k h))
 
 -- an empty list keeps the evaluations
-retold-none : (n : ℕ) (f : Forest Evaluation) → reevaluated [] n f ≡ f
-retold-none n none = refl
-retold-none n (more m t b r) = ap (λ x. more m t x (reevaluated [] (n + 1 + nodes_in b) r)) (retold-none (n + 1) b)
-    ∙ ap (more m t b) (retold-none (n + 1 + nodes_in b) r)
+restated-none : (n : ℕ) (f : Forest Evaluation) → reevaluated [] n f ≡ f
+restated-none n none = refl
+restated-none n (more m t b r) = ap (λ x. more m t x (reevaluated [] (n + 1 + nodes_in b) r)) (restated-none (n + 1) b)
+    ∙ ap (more m t b) (restated-none (n + 1 + nodes_in b) r)
 
-pub told-kept : (t u : Plain NodeLabel) → evaluation_tree u ≡ reevaluated_tree [] (evaluation_tree t) → evaluation_tree u ≡ evaluation_tree t
-told-kept t u e = e ∙ ap (λ f. record { label = t.label.told; below = f }) (retold-none 1 (evaluation_tree t).below)
+pub evaluated-kept : (t u : Plain NodeLabel) → evaluation_tree u ≡ reevaluated_tree [] (evaluation_tree t) → evaluation_tree u ≡ evaluation_tree t
+evaluated-kept t u e = e ∙ ap (λ f. record { label = t.label.evaluated; below = f }) (restated-none 1 (evaluation_tree t).below)
 
 -- no list of evaluations changes a node
-bare-retold : (all : List Evaluation) (n : ℕ) (f : Forest Evaluation) → mapped (λ (x : Evaluation). tt {0}) (reevaluated all n f) ≡ mapped (λ (x : Evaluation). tt {0}) f
-bare-retold all n none = refl
-bare-retold all n (more m t b r) =
+bare-restated : (all : List Evaluation) (n : ℕ) (f : Forest Evaluation) → mapped (λ (x : Evaluation). tt {0}) (reevaluated all n f) ≡ mapped
+    (λ (x : Evaluation). tt {0}) f
+bare-restated all n none = refl
+bare-restated all n (more m t b r) =
     ap (λ x. more m tt x (mapped (λ (y : Evaluation). tt {0}) (reevaluated all (n + 1 + nodes_in b) r)))
-    (bare-retold all (n + 1) b) ∙ ap (more m tt (mapped (λ (y : Evaluation). tt {0}) b))
-    (bare-retold all (n + 1 + nodes_in b) r)
+    (bare-restated all (n + 1) b) ∙ ap (more m tt (mapped (λ (y : Evaluation). tt {0}) b))
+    (bare-restated all (n + 1 + nodes_in b) r)
 
 bare-rewritten : (all : List Evaluation) (t u : Plain NodeLabel) → evaluation_tree u ≡ reevaluated_tree all (evaluation_tree t) → bare u ≡ bare t
-bare-rewritten all t u e = sym (bare-told u) ∙ ap bare e ∙ ap (λ f. record { label = tt; below = f }) (bare-retold all 1 (evaluation_tree t).below) ∙ bare-told t
+bare-rewritten all t u e = sym (bare-evaluated u) ∙ ap bare e ∙ ap (λ f. record { label = tt; below = f }) (bare-restated all 1 (evaluation_tree t).below)
+    ∙ bare-evaluated t
 
 -- the study with another start and other labels
 abbrev pub restarted : Study NodeLabel → Start → Plain NodeLabel → Study NodeLabel
 restarted s start u = record { start = start; stipulation = s.stipulation; tags = s.tags; tree = u }
 
-module _ (all : List Evaluation) (k : BenchState) (start : Start) (u : Plain NodeLabel) (n : ℕ) (e : evaluation_tree u ≡ reevaluated_tree all (evaluation_tree k.study.tree)) where
+module _ (all : List Evaluation) (k : BenchState) (start : Start) (u : Plain NodeLabel) (n : ℕ)
+    (e : evaluation_tree u ≡ reevaluated_tree all (evaluation_tree k.study.tree)) where
   pub shifted-study : IsValid start.position → IsPlayable start.position k.study.tree.below → IsStudy k.study → IsStudy (restarted k.study start u)
   shifted-study valid legal h =
       let x = study k.study u h (subst (Fits k.study.start.position) (sym (bare-rewritten all k.study.tree u e)) (fits k.study h)) in
@@ -96,7 +99,7 @@ module _ (all : List Evaluation) (k : BenchState) (start : Start) (u : Plain Nod
   pub shifted-right : AllAddUp (aim_of (restarted k.study start u)) u
       → AllAreEvaluated start.position (reevaluated_tree all (evaluation_tree k.study.tree))
       → IsKeptRight (record { study = restarted k.study start u; relabelled = n })
-  shifted-right s h = right-told (record { study = restarted k.study start u; relabelled = n }) s (subst (AllAreEvaluated start.position) (sym e) h)
+  shifted-right s h = right-evaluated (record { study = restarted k.study start u; relabelled = n }) s (subst (AllAreEvaluated start.position) (sym e) h)
 
 -- the probes for a study with this start
 asked-mapped : {L M : Type 0} (g : L → M) (p : Position) (f : Forest L) → asked_below p (mapped g f) ≡ asked_below p f

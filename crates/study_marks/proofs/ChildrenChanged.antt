@@ -71,7 +71,7 @@ moved_up-below t (j ∷ js) k = ap (λ f. record { label = t.label; below = f })
 
 -- siblings that add up
 AddUp-with_last : (a : Aim) (d : ℕ) (q : Evaluation) (f : Forest NodeLabel) (m : Move) (x : NodeLabel) → FaultsAddUp a d q f
-    → x.faults ≡ own_fault a d q x.told.value → FaultsAddUp a d q (with_last m x f)
+    → x.faults ≡ own_fault a d q x.evaluated.value → FaultsAddUp a d q (with_last m x f)
 AddUp-with_last a d q none m x h e = (omega (arith, e), tt, tt)
 AddUp-with_last a d q (more n l b r) m x h e = (h.0, h.1, AddUp-with_last a d q r m x h.2 e)
 
@@ -81,7 +81,7 @@ AddUp-dropped_at a d q zero (more n l b r) h = h.2
 AddUp-dropped_at a d q (suc k) (more n l b r) h = (h.0, h.1, AddUp-dropped_at a d q k r h.2)
 
 AddUp-second : (a : Aim) (d : ℕ) (q : Evaluation) (m : Move) (l : NodeLabel) (b r : Forest NodeLabel)
-    → l.faults ≡ own_fault a d q l.told.value + faults_below (hero_moves a (d + 1)) b → FaultsAddUp a (d + 1) l.told b
+    → l.faults ≡ own_fault a d q l.evaluated.value + faults_below (hero_moves a (d + 1)) b → FaultsAddUp a (d + 1) l.evaluated b
     → FaultsAddUp a d q r → FaultsAddUp a d q (second m l b r)
 AddUp-second a d q m l b none e h k = (e, h, tt)
 AddUp-second a d q m l b (more n x c r) e h k = (k.0, k.1, (e, h, k.2))
@@ -161,13 +161,14 @@ sum-raised false (suc (suc k)) (more m l b r) =
 
 -- an edit of the forest below the path's node: then the faults of that node are off
 pub IsOff-edited : (a : Aim) (t : Plain NodeLabel) (e : Forest NodeLabel → Forest NodeLabel) (ks : List ℕ) (minus plus : ℕ)
-    → ((s : Forest NodeLabel) → FaultsAddUp a (length ks) (evaluation_at t.label.told t.below ks) s → FaultsAddUp a (length ks) (evaluation_at t.label.told t.below ks) (e s))
+    → ((s : Forest NodeLabel) → FaultsAddUp a (length ks) (evaluation_at t.label.evaluated t.below ks) s
+    → FaultsAddUp a (length ks) (evaluation_at t.label.evaluated t.below ks) (e s))
     → faults_below (hero_moves a (length ks)) (e (below_at t.below ks)) + minus ≡ faults_below (hero_moves a (length ks)) (below_at t.below ks) + plus
     → AllAddUp a t → FaultsAreOffBy a (record { label = t.label; below = below_edited e t.below ks }) ks minus plus
 IsOff-edited a t e [] minus plus keeps sum h = (omega (arith, h.0, sum), keeps t.below h.1)
 IsOff-edited a t e (k ∷ ks) minus plus keeps sum h = (
   h.0 ∙ sym (top k ks t.below),
-  AddUpBut-edited a e (hero_moves a (length (k ∷ ks))) 0 (length (k ∷ ks)) t.label.told t.below (k ∷ ks) minus plus
+  AddUpBut-edited a e (hero_moves a (length (k ∷ ks))) 0 (length (k ∷ ks)) t.label.evaluated t.below (k ∷ ks) minus plus
       (let z : length (k ∷ ks) ≡ 0 + length (k ∷ ks) = omega arith in z) refl keeps sum h.1,
 )
   where
@@ -182,10 +183,10 @@ IsOff-edited a t e (k ∷ ks) minus plus keeps sum h = (
     top (suc k) ks (more m l b r) = ap (λ s. l.faults + (if hero_moves a 0 then 0 else s)) (all k ks r)
 
 pub off-added : (a : Aim) (t : Plain NodeLabel) (ks : List ℕ) (m : Move) (x : NodeLabel) → AllAddUp a t
-    → x.faults ≡ own_fault a (length ks) (evaluation_at t.label.told t.below ks) x.told.value
+    → x.faults ≡ own_fault a (length ks) (evaluation_at t.label.evaluated t.below ks) x.evaluated.value
     → FaultsAreOffBy a (with_child t ks m x) ks 0 (counted_faults (hero_moves a (length ks)) (children_at t.below ks) x.faults)
 off-added a t ks m x h e = IsOff-edited a t (with_last m x) ks 0 (counted_faults (hero_moves a (length ks)) (children_at t.below ks) x.faults)
-    (λ s k. AddUp-with_last a (length ks) (evaluation_at t.label.told t.below ks) s m x k e)
+    (λ s k. AddUp-with_last a (length ks) (evaluation_at t.label.evaluated t.below ks) s m x k e)
     (let sum = sum-with_last (hero_moves a (length ks)) m x (below_at t.below ks) in
     let same : counted_faults (hero_moves a (length ks)) (width (below_at t.below ks)) x.faults
     ≡ counted_faults (hero_moves a (length ks)) (children_at t.below ks) x.faults =
@@ -214,7 +215,7 @@ off-removed a t front k there h =
     (faults_newly_first g k (nth_faults k (dropped_at k (below_at t.below front)))) =
     IsOff-edited a t (dropped_at k) front (counted_faults g k (nth_faults k (below_at t.below front)))
     (faults_newly_first g k (nth_faults k (dropped_at k (below_at t.below front))))
-    (λ s x. AddUp-dropped_at a (length front) (evaluation_at t.label.told t.below front) k s x) (sum-dropped g k (below_at t.below front)) h in
+    (λ s x. AddUp-dropped_at a (length front) (evaluation_at t.label.evaluated t.below front) k s x) (sum-dropped g k (below_at t.below front)) h in
     subst (λ (u : Plain NodeLabel). FaultsAreOffBy a u front (counted_faults g k (faults_of (spot_at t (front ++ k ∷ []))))
     (faults_newly_first g k (faults_of (spot_at u (front ++ k ∷ []))))) (sym (without-below t front k))
     (subst (λ n. FaultsAreOffBy a new front (counted_faults g k (faults_of (spot_at t (front ++ k ∷ [])))) (faults_newly_first g k n)) next
@@ -236,7 +237,7 @@ off-raised a t front k there h =
     (faults_of_first g k (nth_faults k (below_at t.below front))) =
     IsOff-edited a t (raised_at k) front (faults_of_first g k (nth_faults k (raised_at k (below_at t.below front))))
     (faults_of_first g k (nth_faults k (below_at t.below front)))
-    (λ s x. AddUp-raised_at a (length front) (evaluation_at t.label.told t.below front) k s x) (sum-raised g k (below_at t.below front)) h in
+    (λ s x. AddUp-raised_at a (length front) (evaluation_at t.label.evaluated t.below front) k s x) (sum-raised g k (below_at t.below front)) h in
     subst (λ (u : Plain NodeLabel). FaultsAreOffBy a u front (faults_of_first g k (faults_of (spot_at u (front ++ k ∷ []))))
     (faults_of_first g k (faults_of (spot_at t (front ++ k ∷ []))))) (sym (moved_up-below t front k))
     (subst (λ n. FaultsAreOffBy a new front (faults_of_first g k n) (faults_of_first g k (faults_of (spot_at t (front ++ k ∷ []))))) now
@@ -283,7 +284,8 @@ removed-off a t new steps front k gone next minus plus path e eg en em ep h s =
     let three =
     subst (λ (u : Plain NodeLabel). FaultsAreOffBy a u front (counted_faults g k (faults_of (spot_at t steps)))
     (faults_newly_first g k (faults_of (spot_at u steps)))) (sym e) two in
-    let four = subst (λ n. FaultsAreOffBy a new front n (faults_newly_first g k (faults_of (spot_at new steps)))) (ap (counted_faults g k) (sym eg) ∙ sym em) three in
+    let four = subst (λ n. FaultsAreOffBy a new front n (faults_newly_first g k (faults_of (spot_at new steps)))) (ap (counted_faults g k) (sym eg) ∙ sym em)
+    three in
     subst (λ n. FaultsAreOffBy a new front minus n) (ap (faults_newly_first g k) (sym en) ∙ sym ep) four
 
 pub raised-off : (a : Aim) (t new : Plain NodeLabel) (steps front : List ℕ) (k raised lowered minus plus : ℕ)
@@ -301,20 +303,26 @@ raised-off a t new steps front k raised lowered minus plus path e er el em ep h 
     let three =
     subst (λ (u : Plain NodeLabel). FaultsAreOffBy a u front (faults_of_first g k (faults_of (spot_at u steps)))
     (faults_of_first g k (faults_of (spot_at t steps)))) (sym e) two in
-    let four = subst (λ n. FaultsAreOffBy a new front n (faults_of_first g k (faults_of (spot_at t steps)))) (ap (faults_of_first g k) (sym el) ∙ sym em) three in
+    let four = subst (λ n. FaultsAreOffBy a new front n (faults_of_first g k (faults_of (spot_at t steps)))) (ap (faults_of_first g k) (sym el) ∙ sym em)
+    three in
     subst (λ n. FaultsAreOffBy a new front minus n) (ap (faults_of_first g k) (sym er) ∙ sym ep) four
 
 -- the evaluation at the path's node is the one shown there
-told-spot-in : (q : Evaluation) (f : Forest NodeLabel) (k : ℕ) (ks : List ℕ) (w : Twig NodeLabel) → node_in f k ks ≡ Some w → evaluation_at q f (k ∷ ks) ≡ w.label.told
-told-spot-in q none k ks w e = let no : ⊥ = cc in absurd no
-told-spot-in q (more m l b r) zero [] w e = ap (λ (u : Twig NodeLabel). u.label.told) (let s : record { played = m; label = l; below = b } ≡ w = cc in s)
-told-spot-in q (more m l b r) zero (j ∷ js) w e = told-spot-in l.told b j js w e
-told-spot-in q (more m l b r) (suc k) [] w e = told-spot-in q r k [] w e
-told-spot-in q (more m l b r) (suc k) (j ∷ js) w e = told-spot-in q r k (j ∷ js) w e
+evaluated-spot-in : (q : Evaluation) (f : Forest NodeLabel) (k : ℕ) (ks : List ℕ) (w : Twig NodeLabel) → node_in f k ks ≡ Some w
+    → evaluation_at q f (k ∷ ks) ≡ w.label.evaluated
+evaluated-spot-in q none k ks w e = let no : ⊥ = cc in absurd no
+evaluated-spot-in q (more m l b r) zero [] w e = ap (λ (u : Twig NodeLabel). u.label.evaluated)
+    (let s : record { played = m; label = l; below = b } ≡ w = cc in s)
+evaluated-spot-in q (more m l b r) zero (j ∷ js) w e = evaluated-spot-in l.evaluated b j js w e
+evaluated-spot-in q (more m l b r) (suc k) [] w e = evaluated-spot-in q r k [] w e
+evaluated-spot-in q (more m l b r) (suc k) (j ∷ js) w e = evaluated-spot-in q r k (j ∷ js) w e
 
-pub told-spot : (t : Plain NodeLabel) (ks : List ℕ) (s : Spot NodeLabel) → spot_at t ks ≡ Some s → evaluation_at t.label.told t.below ks ≡ s.label.told
-told-spot t [] s e = ap (λ (u : Spot NodeLabel). u.label.told) (let x : record { played = None; label = t.label; children = width t.below } ≡ s = cc in x)
-told-spot t (k ∷ ks) s e = let w = twig-of (node_in t.below k ks) s e in told-spot-in t.label.told t.below k ks w.0 w.1 ∙ ap (λ (l : NodeLabel). l.told) w.2
+pub evaluated-spot : (t : Plain NodeLabel) (ks : List ℕ) (s : Spot NodeLabel) → spot_at t ks ≡ Some s
+    → evaluation_at t.label.evaluated t.below ks ≡ s.label.evaluated
+evaluated-spot t [] s e = ap (λ (u : Spot NodeLabel). u.label.evaluated)
+    (let x : record { played = None; label = t.label; children = width t.below } ≡ s = cc in x)
+evaluated-spot t (k ∷ ks) s e = let w = twig-of (node_in t.below k ks) s e in evaluated-spot-in t.label.evaluated t.below k ks w.0 w.1
+    ∙ ap (λ (l : NodeLabel). l.evaluated) w.2
 
 -- an edit that was not refused found its node
 pub removal-there : {L : Type 0} (t : Plain L) (steps : List ℕ) (r : Result (Unit {0}) TreeFault) (u : Unit {0})
@@ -350,10 +358,11 @@ child-there t steps h = go (has_spot t steps) h
 pub added-off : (a : Aim) (t new : Plain NodeLabel) (ks : List ℕ) (m : Move) (x : NodeLabel) (place plus : ℕ)
     → new ≡ with_child t ks m x → place ≡ children_at t.below ks
     → plus ≡ counted_faults (hero_moves a (length ks)) place x.faults
-    → x.faults ≡ own_fault a (length ks) (evaluation_at t.label.told t.below ks) x.told.value → AllAddUp a t → FaultsAreOffBy a new ks 0 plus
+    → x.faults ≡ own_fault a (length ks) (evaluation_at t.label.evaluated t.below ks) x.evaluated.value → AllAddUp a t → FaultsAreOffBy a new ks 0 plus
 added-off a t new ks m x place plus e ep es eo h =
     let g = hero_moves a (length ks) in
-    let one = subst (λ (u : Plain NodeLabel). FaultsAreOffBy a u ks 0 (counted_faults g (children_at t.below ks) x.faults)) (sym e) (off-added a t ks m x h eo) in
+    let one = subst (λ (u : Plain NodeLabel). FaultsAreOffBy a u ks 0 (counted_faults g (children_at t.below ks) x.faults)) (sym e)
+    (off-added a t ks m x h eo) in
     subst (λ n. FaultsAreOffBy a new ks 0 n) (ap (λ n. counted_faults g n x.faults) (sym ep) ∙ sym es) one
 
 pub count-two : (n old mid new : ℕ) → mid ≡ counted old → new ≡ counted_up_by (n + 1) mid → new ≡ counted_up_by (n + 2) old

@@ -10,7 +10,8 @@ use Rattle.study_marks.specs.Goals.{hero_moves}
 use Rattle.study_marks.specs.BenchState.{own_fault, all_faults, faults_below, FaultsAddUp}
 use Rattle.study_marks.specs.FaultSums.{evaluation_at, FaultsAddUpExceptOnPath, below_at}
 
-all-edited : (edit : Forest NodeLabel → Forest NodeLabel) (f : Forest NodeLabel) (k : ℕ) (ks : List ℕ) → all_faults (below_edited edit f (k ∷ ks)) ≡ all_faults f
+all-edited : (edit : Forest NodeLabel → Forest NodeLabel) (f : Forest NodeLabel) (k : ℕ) (ks : List ℕ)
+    → all_faults (below_edited edit f (k ∷ ks)) ≡ all_faults f
 all-edited edit none k ks = refl
 all-edited edit (more m l b r) zero ks = refl
 all-edited edit (more m l b r) (suc k) ks = ap (λ s. l.faults + s) (all-edited edit r k ks)
@@ -35,12 +36,15 @@ module _ (a : Aim) where
   AddUpBut-edited edit hero d at q (more m l b r) (zero ∷ []) minus plus e eh keeps s h =
       let same : at ≡ d + 1 = e ∙ (let z : d + length (zero ∷ []) ≡ d + 1 = omega arith in z) in
       let sum : faults_below (hero_moves a (d + 1)) (edit b) + minus ≡ faults_below (hero_moves a (d + 1)) b + plus =
-      subst (λ g. faults_below g (edit b) + minus ≡ faults_below g b + plus) (eh ∙ ap (hero_moves a) same) s in
-      (omega (arith, h.0, sum), subst (λ n. FaultsAddUp a n l.told (edit b)) same (keeps b (subst (λ n. FaultsAddUp a n l.told b) (sym same) h.1)), h.2)
+      subst (λ g. faults_below g (edit b) + minus ≡ faults_below g b + plus) (eh ∙ ap (hero_moves a) same) s in (
+        omega (arith, h.0, sum),
+        subst (λ n. FaultsAddUp a n l.evaluated (edit b)) same (keeps b (subst (λ n. FaultsAddUp a n l.evaluated b) (sym same) h.1)),
+        h.2,
+      )
   AddUpBut-edited edit hero d at q (more m l b r) (zero ∷ j ∷ js) minus plus e eh keeps s h =
       let down : at ≡ d + 1 + length (j ∷ js) = e ∙ (let z : d + length (zero ∷ j ∷ js) ≡ d + 1 + length (j ∷ js) = omega arith in z) in (
-        h.0 ∙ ap (λ s. own_fault a d q l.told.value + s) (sym (below-edited (hero_moves a (d + 1)) edit b j js)),
-        AddUpBut-edited edit hero (d + 1) at l.told b (j ∷ js) minus plus down eh keeps s h.1,
+        h.0 ∙ ap (λ s. own_fault a d q l.evaluated.value + s) (sym (below-edited (hero_moves a (d + 1)) edit b j js)),
+        AddUpBut-edited edit hero (d + 1) at l.evaluated b (j ∷ js) minus plus down eh keeps s h.1,
         h.2,
       )
   AddUpBut-edited edit hero d at q (more m l b r) (suc k ∷ ks) minus plus e eh keeps s h =

@@ -48,7 +48,8 @@ within-child (suc n) (more m l b r) (suc k) t e h = within-child (suc n) r k t e
 pub fewer-below : (f : Forest NodeLabel) (k : ℕ) (t : Twig NodeLabel) → node_in f k [] ≡ Some t → nodes_in t.below < nodes_in f
 fewer-below none k t e = let no : ⊥ = cc in absurd no
 fewer-below (more m l b r) zero t e =
-    let same : nodes_in b ≡ nodes_in t.below = ap (λ (u : Twig NodeLabel). nodes_in u.below) (let s : record { played = m; label = l; below = b } ≡ t = cc in s) in
+    let same : nodes_in b ≡ nodes_in t.below = ap (λ (u : Twig NodeLabel). nodes_in u.below) (let s : record { played = m; label = l; below = b } ≡ t = cc in
+    s) in
     omega (arith, same)
 fewer-below (more m l b r) (suc k) t e = omega (arith, fewer-below r k t e)
 
@@ -61,19 +62,22 @@ module _ (p : Position) (f : Forest NodeLabel) (k : ℕ) (t : Twig NodeLabel) (e
   -- the move is not legal
   pub broken-here : is_legal p t.played ≡ false → first_illegal_from 0 p f ≡ Some (k ∷ [])
   broken-here foul = from-here
-      ∙ ap (λ b. if b then first_path k (first_illegal_from 0 (after p t.played) t.below) (first_illegal_from (suc k) p (skipped (suc k) f)) else Some (k ∷ [])) foul
+      ∙ ap (λ b. if b then first_path k (first_illegal_from 0 (after p t.played) t.below) (first_illegal_from (suc k) p (skipped (suc k) f)) else Some (k
+      ∷ [])) foul
 
   -- one below it is not
   pub broken-below : (next : Position) (path : List ℕ) → is_legal p t.played ≡ true → next ≡ after p t.played → first_illegal_from 0 next t.below ≡ Some path
       → first_illegal_from 0 p f ≡ Some (k ∷ path)
   broken-below next path fair en under = from-here
-      ∙ ap (λ b. if b then first_path k (first_illegal_from 0 (after p t.played) t.below) (first_illegal_from (suc k) p (skipped (suc k) f)) else Some (k ∷ [])) fair
+      ∙ ap (λ b. if b then first_path k (first_illegal_from 0 (after p t.played) t.below) (first_illegal_from (suc k) p (skipped (suc k) f)) else Some (k
+      ∷ [])) fair
       ∙ ap (λ o. first_path k o (first_illegal_from (suc k) p (skipped (suc k) f))) (ap (λ x. first_illegal_from 0 x t.below) (sym en) ∙ under)
 
   -- all are legal
   pub whole-next : (next : Position) → is_legal p t.played ≡ true → next ≡ after p t.played → first_illegal_from 0 next t.below ≡ None → IsWhole p f (k + 1)
   whole-next next fair en under = subst (IsWhole p f) (let z : suc k ≡ k + 1 = omega arith in z) (from-here
-      ∙ ap (λ b. if b then first_path k (first_illegal_from 0 (after p t.played) t.below) (first_illegal_from (suc k) p (skipped (suc k) f)) else Some (k ∷ [])) fair
+      ∙ ap (λ b. if b then first_path k (first_illegal_from 0 (after p t.played) t.below) (first_illegal_from (suc k) p (skipped (suc k) f)) else Some (k
+      ∷ [])) fair
       ∙ ap (λ o. first_path k o (first_illegal_from (suc k) p (skipped (suc k) f))) (ap (λ x. first_illegal_from 0 x t.below) (sym en) ∙ under))
 
 pub whole-all : (p : Position) (f : Forest NodeLabel) (k : ℕ) → width f ≤ k → IsWhole p f k → first_illegal_from 0 p f ≡ None
@@ -89,11 +93,14 @@ whole-playable k p none h = tt
 whole-playable k p (more m l b r) h = go (is_legal p m) refl h (λ eb. whole-playable 0 (after p m) b eb) (λ er. whole-playable (suc k) p r er)
   where
     under : is_legal p m ≡ true → (o : Option (List ℕ)) → first_illegal_from 0 (after p m) b ≡ o → first_path k o (first_illegal_from (suc k) p r) ≡ None
-        → (first_illegal_from 0 (after p m) b ≡ None → IsPlayable (after p m) b) → (first_illegal_from (suc k) p r ≡ None → IsPlayable p r) → IsPlayable p (more m l b r)
+        → (first_illegal_from 0 (after p m) b ≡ None → IsPlayable (after p m) b) → (first_illegal_from (suc k) p r ≡ None → IsPlayable p r)
+        → IsPlayable p (more m l b r)
     under e None eb h first later = (e, first eb, later h)
     under e (Some path) eb h first later = let no : ⊥ = cc in absurd no
 
-    go : (c : Bool) → is_legal p m ≡ c → (if c then first_path k (first_illegal_from 0 (after p m) b) (first_illegal_from (suc k) p r) else Some (k ∷ [])) ≡ None
-        → (first_illegal_from 0 (after p m) b ≡ None → IsPlayable (after p m) b) → (first_illegal_from (suc k) p r ≡ None → IsPlayable p r) → IsPlayable p (more m l b r)
+    go : (c : Bool) → is_legal p m ≡ c → (if c then first_path k (first_illegal_from 0 (after p m) b) (first_illegal_from (suc k) p r) else Some (k
+        ∷ [])) ≡ None
+        → (first_illegal_from 0 (after p m) b ≡ None → IsPlayable (after p m) b) → (first_illegal_from (suc k) p r ≡ None → IsPlayable p r)
+        → IsPlayable p (more m l b r)
     go false e h first later = let no : ⊥ = cc in absurd no
     go true e h first later = under e (first_illegal_from 0 (after p m) b) refl h first later

@@ -31,8 +31,8 @@ use Rattle.study_marks.proofs.SameShape.{has_node-mapped, moves_to-mapped, place
 use Rattle.study_marks.proofs.PathRenewed.{spot-there, there-spot}
 use Rattle.study_marks.proofs.SameShape.{children_at-mapped, mapped-with_child}
 use Rattle.study_marks.proofs.StudyEdits.{IsPlayable-add_last, AreDistinct-add_last}
-use Rattle.study_marks.proofs.MarksShown.{AllAreTold-right, right-told, AreTold-add_last}
-use Rattle.study_marks.proofs.BenchEdits.{bare, bare-marked, bare-told, Fits, fits, study, with_tree, same-plain, counted-later}
+use Rattle.study_marks.proofs.MarksShown.{AllAreEvaluated-right, right-evaluated, AreEvaluated-add_last}
+use Rattle.study_marks.proofs.BenchEdits.{bare, bare-marked, bare-evaluated, Fits, fits, study, with_tree, same-plain, counted-later}
 
 -- no node is deeper than the limit of the study
 pub deep-none : {L : Type 0} (n : ℕ) (f : Forest L) (ks : List ℕ) → IsWithin n f → n < length ks → has_node f ks ≡ false
@@ -189,26 +189,26 @@ refused-before {A = A} {U = U} k steps path m r f answer P way e h a =
     subst (λ p. MatchOption (insert_refusal {A = A} (plain_study (marked k)) p m) P (λ g. answer ≡ Err g)) way
     (go (insert_refusal {A = A} (plain_study (marked k)) steps m) h)
   where
-    told : (x : Refusal A) (q : Result U (Refusal A)) → IsErrAnd q (λ y. y ≡ x) → q ≡ Err x
-    told x (Ok u) h = absurd h
-    told x (Err y) h = ap Err h
+    evaluated : (x : Refusal A) (q : Result U (Refusal A)) → IsErrAnd q (λ y. y ≡ x) → q ≡ Err x
+    evaluated x (Ok u) h = absurd h
+    evaluated x (Err y) h = ap Err h
 
     go : (o : Option (Refusal A)) → MatchOption o (IsOk r) (λ g. r ≡ Err g) → MatchOption o P (λ g. answer ≡ Err g)
     go None h = absurd (false≢true (sym (ap is_ok e) ∙ h))
-    go (Some g) h = let one : f ≡ g = (let two : Err f ≡ Err g = sym e ∙ h in cc) in told f answer a ∙ ap Err one
+    go (Some g) h = let one : f ≡ g = (let two : Err f ≡ Err g = sym e ∙ h in cc) in evaluated f answer a ∙ ap Err one
 
 -- a value that could not be read
-pub outside-told : (A : Type 0) (held : Class → Bool) (asked : List Position) (f : ProbeFault)
+pub outside-evaluated : (A : Type 0) (held : Class → Bool) (asked : List Position) (f : ProbeFault)
     → IsProbeFaultOf held asked f → IsOutside {A = A} held asked (refused_by f)
-outside-told A held asked (probe.NoTable c) h = h
-outside-told A held asked (probe.TableRead x) h = h
-outside-told A held asked (probe.PageDamaged c n) h = h
+outside-evaluated A held asked (probe.NoTable c) h = h
+outside-evaluated A held asked (probe.TableRead x) h = h
+outside-evaluated A held asked (probe.PageDamaged c n) h = h
 
 pub outside-answer : {A T : Type 0} (held : Class → Bool) (asked : List Position) (f : ProbeFault)
     (r : Result T (Refusal A)) → IsErrAnd r (λ x. x ≡ refused_by f) → IsProbeFaultOf held asked f
     → IfErr r (IsOutside {A = A} held asked)
 outside-answer held asked f (Ok x) e h = absurd e
-outside-answer {A = A} held asked f (Err x) e h = subst (IsOutside {A = A} held asked) (sym e) (outside-told A held asked f h)
+outside-answer {A = A} held asked f (Err x) e h = subst (IsOutside {A = A} held asked) (sym e) (outside-evaluated A held asked f h)
 
 pub tables-answer : {A T : Type 0} (f : ProbeFault) (r : Result T (Refusal A)) → IsErrAnd r (λ x. x ≡ refused_by f) → IfErr r (λ x. is_of_tables x ≡ true)
 tables-answer f (Ok x) e = absurd e
@@ -233,7 +233,8 @@ asked-answer {A = A} n old new f (Err x) e h = subst (λ (y : Refusal A). HasSto
 pub children-marked : (b k : BenchState) (steps path : List ℕ) → b ≡ k → steps ≡ path → children_at b.study.tree.below steps
     ≡ children_at (marked k).tree.below path
 children-marked b k steps path same way =
-    sym (children_at-mapped (λ (l : NodeLabel). tt {0}) b.study.tree.below steps) ∙ ap (λ (t : Plain (Unit {0})). children_at t.below steps) (sym (bare-marked b))
+    sym (children_at-mapped (λ (l : NodeLabel). tt {0}) b.study.tree.below steps)
+    ∙ ap (λ (t : Plain (Unit {0})). children_at t.below steps) (sym (bare-marked b))
     ∙ children_at-mapped (λ (x : Mark). tt {0}) (marked b).tree.below steps
     ∙ ap (λ (x : BenchState). children_at (marked x).tree.below steps) same ∙ ap (children_at (marked k).tree.below) way
 
@@ -246,9 +247,10 @@ position-marked b k steps path same way =
     ∙ ap (λ (x : BenchState). position_at (marked x) steps) same ∙ ap (position_at (marked k)) way
 
 -- the nodes after the edit
-bare-inserted : (t u : Plain NodeLabel) (ks : List ℕ) (m : Move) (x : Evaluation) → evaluation_tree u ≡ with_child (evaluation_tree t) ks m x → bare u ≡ with_child (bare t) ks m tt
-bare-inserted t u ks m x e = sym (bare-told u) ∙ ap bare e ∙ mapped-with_child (λ (y : Evaluation). tt {0}) (evaluation_tree t)
-    ks m x ∙ ap (λ y. with_child y ks m tt) (bare-told t)
+bare-inserted : (t u : Plain NodeLabel) (ks : List ℕ) (m : Move) (x : Evaluation) → evaluation_tree u ≡ with_child (evaluation_tree t) ks m x
+    → bare u ≡ with_child (bare t) ks m tt
+bare-inserted t u ks m x e = sym (bare-evaluated u) ∙ ap bare e ∙ mapped-with_child (λ (y : Evaluation). tt {0}) (evaluation_tree t)
+    ks m x ∙ ap (λ y. with_child y ks m tt) (bare-evaluated t)
 
 fits-with_child : (p : Position) (t : Plain (Unit {0})) (ks : List ℕ) (m : Move)
     → is_legal (position_after p (moves_to t.below ks)) m ≡ true → place_at t.below ks m ≡ None → length ks < 256
@@ -267,7 +269,8 @@ inserted-study s u ks m x e o h =
     (ap (λ ms. is_legal (position_after s.start.position ms) m) (moves_to-mapped (λ (l : NodeLabel). tt {0}) s.tree.below ks) ∙ o.legal)
     (place_at-mapped (λ (l : NodeLabel). tt {0}) s.tree.below ks m ∙ o.place) o.depth (fits s h)))
 
-pub inserted-plain : (k : BenchState) (u : Plain NodeLabel) (n : ℕ) (ks : List ℕ) (m : Move) (x : Evaluation) → evaluation_tree u ≡ with_child (evaluation_tree k.study.tree) ks m x
+pub inserted-plain : (k : BenchState) (u : Plain NodeLabel) (n : ℕ) (ks : List ℕ) (m : Move) (x : Evaluation)
+    → evaluation_tree u ≡ with_child (evaluation_tree k.study.tree) ks m x
     → plain_study (marked (record { study = with_tree k.study u; relabelled = n })) ≡ with_insertion (plain_study (marked k)) ks m
 inserted-plain k u n ks m x e = same-plain k u n
     ∙ ap (λ y. record { start = k.study.start; stipulation = k.study.stipulation; tags = k.study.tags; tree = y })
@@ -278,12 +281,12 @@ pub inserted-right : (k : BenchState) (u : Plain NodeLabel) (n : ℕ) (ks : List
     → IsEvaluationOf (after (position_at k.study ks) m) x → IsKeptRight k → IsKeptRight (record { study = with_tree k.study u; relabelled = n })
 inserted-right k u n ks m x e s g h =
     let p = k.study.start.position in
-    let old = AllAreTold-right k h in
+    let old = AllAreEvaluated-right k h in
     let here : IsEvaluationOf (after (position_after p (moves_to (evaluation_tree k.study.tree).below ks)) m) x =
     subst (λ ms. IsEvaluationOf (after (position_after p ms) m) x)
-    (sym (moves_to-mapped (λ (l : NodeLabel). l.told) k.study.tree.below ks)) g in
-    right-told (record { study = with_tree k.study u; relabelled = n }) s
-    (subst (AllAreEvaluated p) (sym e) (old.0, AreTold-add_last p (evaluation_tree k.study.tree).below ks m x old.1 here))
+    (sym (moves_to-mapped (λ (l : NodeLabel). l.evaluated) k.study.tree.below ks)) g in
+    right-evaluated (record { study = with_tree k.study u; relabelled = n }) s
+    (subst (AllAreEvaluated p) (sym e) (old.0, AreEvaluated-add_last p (evaluation_tree k.study.tree).below ks m x old.1 here))
 
 -- the number of labels written
 pub inserted-count : (n old mid new : ℕ) → mid ≡ old → new ≡ counted_up_by n mid → counted new ≡ counted_up_by n (counted old)

@@ -13,7 +13,7 @@ use Rattle.study_marks.specs.BenchState.{own_fault, all_faults, faults_below, Al
 use Rattle.study_marks.specs.FaultSums.{counted_faults}
 use Rattle.study_marks.specs.Relabelled.{evaluation_in, reevaluated_tree, refreshed, refreshing}
 use Rattle.study_marks.proofs.PathRenewed.{own≤1}
-use Rattle.study_marks.proofs.LabelsWritten.{told-refreshed, adds-refreshed, few-refreshed}
+use Rattle.study_marks.proofs.LabelsWritten.{evaluated-refreshed, adds-refreshed, few-refreshed}
 
 -- the faults that nodes from place k on count for their parent
 abbrev counts_from : Bool → ℕ → Forest NodeLabel → ℕ
@@ -38,43 +38,45 @@ counted≤ false (suc k) n = omega arith
 
 module _ (all : List Evaluation) (a : Aim) where
   -- the evaluation of the node and of those below it, and their faults for the parent
-  step : (d k n : ℕ) (q : Evaluation) (x : ℕ) (m : Move) (l : NodeLabel) (b r : Forest NodeLabel) (t : Evaluation) (below later : Forest NodeLabel) (own_count : ℕ)
+  step : (d k n : ℕ) (q : Evaluation) (x : ℕ) (m : Move) (l : NodeLabel) (b r : Forest NodeLabel) (t : Evaluation) (below later : Forest NodeLabel)
+      (own_count : ℕ)
       → x + 1 + nodes_in b + nodes_in r ≤ 4096 → own_count ≤ 1
       → faults_below (hero_moves a (d + 1)) below ≤ nodes_in b
-      → t ≡ evaluation_in all n l.told → own_count ≡ own_fault a d q t.value
-      → rewritten (refreshing all a) (d + 1) 0 (n + 1) (record { told = t; faults = own_count }) b
-      ≡ (record { told = t; faults = own_count + faults_below (hero_moves a (d + 1)) below }, below)
-      → ((y : ℕ) → y + nodes_in r ≤ 4096 → rewritten (refreshing all a) d (suc k) (n + 1 + nodes_in b) (record { told = q; faults = y }) r
-      ≡ (record { told = q; faults = y + counts_from (hero_moves a d) (suc k) later }, later))
-      → rewritten (refreshing all a) d k n (record { told = q; faults = x }) (more m l b r)
+      → t ≡ evaluation_in all n l.evaluated → own_count ≡ own_fault a d q t.value
+      → rewritten (refreshing all a) (d + 1) 0 (n + 1) (record { evaluated = t; faults = own_count }) b
+      ≡ (record { evaluated = t; faults = own_count + faults_below (hero_moves a (d + 1)) below }, below)
+      → ((y : ℕ) → y + nodes_in r ≤ 4096 → rewritten (refreshing all a) d (suc k) (n + 1 + nodes_in b) (record { evaluated = q; faults = y }) r
+      ≡ (record { evaluated = q; faults = y + counts_from (hero_moves a d) (suc k) later }, later))
+      → rewritten (refreshing all a) d k n (record { evaluated = q; faults = x }) (more m l b r)
       ≡ (
         record {
-          told = q;
+          evaluated = q;
           faults = x + counts_from (hero_moves a d) k
-              (more m (record { told = t; faults = own_count + faults_below (hero_moves a (d + 1)) below }) below later);
+              (more m (record { evaluated = t; faults = own_count + faults_below (hero_moves a (d + 1)) below }) below later);
         },
-        more m (record { told = t; faults = own_count + faults_below (hero_moves a (d + 1)) below }) below later,
+        more m (record { evaluated = t; faults = own_count + faults_below (hero_moves a (d + 1)) below }) below later,
       )
   step d k n q x m l b r t below later own_count few one small et eo under rest =
-      ap whole (ap (λ (y : Evaluation). rewritten (refreshing all a) (d + 1) 0 (n + 1) (record { told = y; faults = own_fault a d q y.value }) b) (sym et)
-      ∙ ap (λ y. rewritten (refreshing all a) (d + 1) 0 (n + 1) (record { told = t; faults = y }) b) (sym eo) ∙ under)
+      ap whole (ap (λ (y : Evaluation). rewritten (refreshing all a) (d + 1) 0 (n + 1) (record { evaluated = y; faults = own_fault a d q y.value }) b) (sym et)
+      ∙ ap (λ y. rewritten (refreshing all a) (d + 1) 0 (n + 1) (record { evaluated = t; faults = y }) b) (sym eo) ∙ under)
       ∙ ap (λ y. (
-        (rewritten (refreshing all a) d (suc k) (n + 1 + nodes_in b) (record { told = q; faults = y }) r).0,
-        more m child below (rewritten (refreshing all a) d (suc k) (n + 1 + nodes_in b) (record { told = q; faults = y }) r).1,
+        (rewritten (refreshing all a) d (suc k) (n + 1 + nodes_in b) (record { evaluated = q; faults = y }) r).0,
+        more m child below (rewritten (refreshing all a) d (suc k) (n + 1 + nodes_in b) (record { evaluated = q; faults = y }) r).1,
       )) joined
       ∙ ap (λ (s : NodeLabel × Forest NodeLabel). (s.0, more m child below s.1)) (rest (x + share) (omega (arith, few, one, small, fewer)))
-      ∙ ap (λ y. (record { told = q; faults = y }, more m child below later)) sum
+      ∙ ap (λ y. (record { evaluated = q; faults = y }, more m child below later)) sum
     where
       child : NodeLabel
-      child = record { told = t; faults = own_count + faults_below (hero_moves a (d + 1)) below }
+      child = record { evaluated = t; faults = own_count + faults_below (hero_moves a (d + 1)) below }
 
       share : ℕ
       share = counted_faults (hero_moves a d) k child.faults
 
       whole : NodeLabel × Forest NodeLabel → NodeLabel × Forest NodeLabel
       whole c = (
-        (rewritten (refreshing all a) d (suc k) (n + 1 + nodes_in b) ((refreshing all a).joined d k (record { told = q; faults = x }) c.0) r).0,
-        more m c.0 c.1 (rewritten (refreshing all a) d (suc k) (n + 1 + nodes_in b) ((refreshing all a).joined d k (record { told = q; faults = x }) c.0) r).1,
+        (rewritten (refreshing all a) d (suc k) (n + 1 + nodes_in b) ((refreshing all a).joined d k (record { evaluated = q; faults = x }) c.0) r).0,
+        more m c.0 c.1 (rewritten (refreshing all a) d (suc k) (n + 1 + nodes_in b) ((refreshing all a).joined d k (record { evaluated = q; faults = x }) c.0)
+            r).1,
       )
 
       fewer : share ≤ child.faults
@@ -87,18 +89,18 @@ module _ (all : List Evaluation) (a : Aim) where
       sum = omega (arith, counts-more (hero_moves a d) k m child below later)
 
   are-refreshed : (d k n : ℕ) (q : Evaluation) (x : ℕ) (f : Forest NodeLabel) → x + nodes_in f ≤ 4096
-      → rewritten (refreshing all a) d k n (record { told = q; faults = x }) f
-      ≡ (record { told = q; faults = x + counts_from (hero_moves a d) k (refreshed all a d n q f) }, refreshed all a d n q f)
+      → rewritten (refreshing all a) d k n (record { evaluated = q; faults = x }) f
+      ≡ (record { evaluated = q; faults = x + counts_from (hero_moves a d) k (refreshed all a d n q f) }, refreshed all a d n q f)
   are-refreshed d k n q x none few =
-      ap (λ y. (record { told = q; faults = y }, none))
+      ap (λ y. (record { evaluated = q; faults = y }, none))
       (let same : x ≡ x + counts_from (hero_moves a d) k none = omega (arith, counts-none (hero_moves a d) k) in same)
   are-refreshed d k n q x (more m l b r) few =
-      step d k n q x m l b r (evaluation_in all n l.told) (refreshed all a (d + 1) (n + 1) (evaluation_in all n l.told) b)
-      (refreshed all a d (n + 1 + nodes_in b) q r) (own_fault a d q (evaluation_in all n l.told).value)
-      (omega (arith, few)) (own≤1 a d q (evaluation_in all n l.told).value)
-      (few-refreshed all a (d + 1) (n + 1) (hero_moves a (d + 1)) (evaluation_in all n l.told) b) refl refl
-      (are-refreshed (d + 1) 0 (n + 1) (evaluation_in all n l.told) (own_fault a d q (evaluation_in all n l.told).value) b
-      (omega (arith, few, own≤1 a d q (evaluation_in all n l.told).value)))
+      step d k n q x m l b r (evaluation_in all n l.evaluated) (refreshed all a (d + 1) (n + 1) (evaluation_in all n l.evaluated) b)
+      (refreshed all a d (n + 1 + nodes_in b) q r) (own_fault a d q (evaluation_in all n l.evaluated).value)
+      (omega (arith, few)) (own≤1 a d q (evaluation_in all n l.evaluated).value)
+      (few-refreshed all a (d + 1) (n + 1) (hero_moves a (d + 1)) (evaluation_in all n l.evaluated) b) refl refl
+      (are-refreshed (d + 1) 0 (n + 1) (evaluation_in all n l.evaluated) (own_fault a d q (evaluation_in all n l.evaluated).value) b
+      (omega (arith, few, own≤1 a d q (evaluation_in all n l.evaluated).value)))
       (λ y h. are-refreshed d (suc k) (n + 1 + nodes_in b) q y r (omega (arith, h)))
 
   -- the whole tree
@@ -106,23 +108,28 @@ module _ (all : List Evaluation) (a : Aim) where
       → rewritten_tree (refreshing all a) t
       ≡ record {
         label = record {
-          told = evaluation_in all 0 t.label.told;
-          faults = faults_below (hero_moves a 0) (refreshed all a 0 1 (evaluation_in all 0 t.label.told) t.below);
+          evaluated = evaluation_in all 0 t.label.evaluated;
+          faults = faults_below (hero_moves a 0) (refreshed all a 0 1 (evaluation_in all 0 t.label.evaluated) t.below);
         };
-        below = refreshed all a 0 1 (evaluation_in all 0 t.label.told) t.below;
+        below = refreshed all a 0 1 (evaluation_in all 0 t.label.evaluated) t.below;
       }
   tree-refreshed t few =
-      ap (λ (s : NodeLabel × Forest NodeLabel). record { label = s.0; below = s.1 }) (are-refreshed 0 0 1 (evaluation_in all 0 t.label.told) 0 t.below (omega (arith, few)))
-      ∙ ap (λ n. record { label = record { told = evaluation_in all 0 t.label.told; faults = n }; below = refreshed all a 0 1 (evaluation_in all 0 t.label.told) t.below })
-      (let sum : 0 + counts_from (hero_moves a 0) 0 (refreshed all a 0 1 (evaluation_in all 0 t.label.told) t.below)
-      ≡ faults_below (hero_moves a 0) (refreshed all a 0 1 (evaluation_in all 0 t.label.told) t.below) = omega arith in sum)
+      ap (λ (s : NodeLabel × Forest NodeLabel). record { label = s.0; below = s.1 })
+      (are-refreshed 0 0 1 (evaluation_in all 0 t.label.evaluated) 0 t.below (omega (arith, few)))
+      ∙ ap (λ n. record {
+        label = record { evaluated = evaluation_in all 0 t.label.evaluated; faults = n };
+        below = refreshed all a 0 1 (evaluation_in all 0 t.label.evaluated) t.below;
+      })
+      (let sum : 0 + counts_from (hero_moves a 0) 0 (refreshed all a 0 1 (evaluation_in all 0 t.label.evaluated) t.below)
+      ≡ faults_below (hero_moves a 0) (refreshed all a 0 1 (evaluation_in all 0 t.label.evaluated) t.below) = omega arith in sum)
 
   pub right-refreshed : (t new : Plain NodeLabel) → size_of t ≤ 4096 → new ≡ rewritten_tree (refreshing all a) t → AllAddUp a new
   right-refreshed t new few e =
-      subst (AllAddUp a) (sym (e ∙ tree-refreshed t few)) (refl, adds-refreshed all a 0 1 (evaluation_in all 0 t.label.told) t.below)
+      subst (AllAddUp a) (sym (e ∙ tree-refreshed t few)) (refl, adds-refreshed all a 0 1 (evaluation_in all 0 t.label.evaluated) t.below)
 
-  pub told-retold : (t new : Plain NodeLabel) → size_of t ≤ 4096 → new ≡ rewritten_tree (refreshing all a) t
+  pub evaluated-restated : (t new : Plain NodeLabel) → size_of t ≤ 4096 → new ≡ rewritten_tree (refreshing all a) t
       → evaluation_tree new ≡ reevaluated_tree all (evaluation_tree t)
-  told-retold t new few e =
+  evaluated-restated t new few e =
       ap evaluation_tree (e ∙ tree-refreshed t few)
-      ∙ ap (λ x. record { label = evaluation_in all 0 t.label.told; below = x }) (told-refreshed all a 0 1 (evaluation_in all 0 t.label.told) t.below)
+      ∙ ap (λ x. record { label = evaluation_in all 0 t.label.evaluated; below = x })
+      (evaluated-refreshed all a 0 1 (evaluation_in all 0 t.label.evaluated) t.below)

@@ -24,27 +24,31 @@ module _ {L : Type 0} where
 
 module _ (all : List Evaluation) (a : Aim) where
   -- the evaluations come from the list
-  pub told-refreshed : (d n : ℕ) (q : Evaluation) (f : Forest NodeLabel)
-      → mapped (λ (l : NodeLabel). l.told) (refreshed all a d n q f) ≡ reevaluated all n (mapped (λ l. l.told) f)
-  told-refreshed d n q none = refl
-  told-refreshed d n q (more m l b r) =
+  pub evaluated-refreshed : (d n : ℕ) (q : Evaluation) (f : Forest NodeLabel)
+      → mapped (λ (l : NodeLabel). l.evaluated) (refreshed all a d n q f) ≡ reevaluated all n (mapped (λ l. l.evaluated) f)
+  evaluated-refreshed d n q none = refl
+  evaluated-refreshed d n q (more m l b r) =
       ap
-      (λ x. more m (evaluation_in all n l.told) x
-      (mapped (λ (y : NodeLabel). y.told) (refreshed all a d (n + 1 + nodes_in b) q r)))
-      (told-refreshed (d + 1) (n + 1) (evaluation_in all n l.told) b)
-      ∙ ap (more m (evaluation_in all n l.told) (reevaluated all (n + 1) (mapped (λ (y : NodeLabel). y.told) b)))
-      (told-refreshed d (n + 1 + nodes_in b) q r
-      ∙ ap (λ x. reevaluated all (n + 1 + x) (mapped (λ (y : NodeLabel). y.told) r))
-      (sym (nodes_in-mapped (λ (y : NodeLabel). y.told) b)))
+      (λ x. more m (evaluation_in all n l.evaluated) x
+      (mapped (λ (y : NodeLabel). y.evaluated) (refreshed all a d (n + 1 + nodes_in b) q r)))
+      (evaluated-refreshed (d + 1) (n + 1) (evaluation_in all n l.evaluated) b)
+      ∙ ap (more m (evaluation_in all n l.evaluated) (reevaluated all (n + 1) (mapped (λ (y : NodeLabel). y.evaluated) b)))
+      (evaluated-refreshed d (n + 1 + nodes_in b) q r
+      ∙ ap (λ x. reevaluated all (n + 1 + x) (mapped (λ (y : NodeLabel). y.evaluated) r))
+      (sym (nodes_in-mapped (λ (y : NodeLabel). y.evaluated) b)))
 
   -- the faults add up
   pub adds-refreshed : (d n : ℕ) (q : Evaluation) (f : Forest NodeLabel) → FaultsAddUp a d q (refreshed all a d n q f)
   adds-refreshed d n q none = tt
-  adds-refreshed d n q (more m l b r) = (refl, adds-refreshed (d + 1) (n + 1) (evaluation_in all n l.told) b, adds-refreshed d (n + 1 + nodes_in b) q r)
+  adds-refreshed d n q (more m l b r) = (refl, adds-refreshed (d + 1) (n + 1) (evaluation_in all n l.evaluated) b, adds-refreshed d (n + 1 + nodes_in b) q r)
 
   nodes-refreshed : (d n : ℕ) (q : Evaluation) (f : Forest NodeLabel) → nodes_in (refreshed all a d n q f) ≡ nodes_in f
   nodes-refreshed d n q none = refl
-  nodes-refreshed d n q (more m l b r) = omega (arith, nodes-refreshed (d + 1) (n + 1) (evaluation_in all n l.told) b, nodes-refreshed d (n + 1 + nodes_in b) q r)
+  nodes-refreshed d n q (more m l b r) = omega (
+    arith,
+    nodes-refreshed (d + 1) (n + 1) (evaluation_in all n l.evaluated) b,
+    nodes-refreshed d (n + 1 + nodes_in b) q r,
+  )
 
   pub few-refreshed : (d n : ℕ) (hero : Bool) (q : Evaluation) (f : Forest NodeLabel) → faults_below hero (refreshed all a d n q f) ≤ nodes_in f
   few-refreshed d n hero q f =

@@ -24,6 +24,6 @@ pub mod OneEdit
 pub mod EditLists
 pub mod FaultsOfBlocks
 pub mod DualCounts
-pub mod FaultsTold
+pub mod FaultsReported
 pub mod TrialMoves
 pub mod PathWalks

@@ -26,63 +26,65 @@ use Rattle.study_marks.specs.BenchState.{own_fault, all_faults, faults_below, Fa
 use Rattle.study_marks.specs.Evaluated.{IsEvaluationOf, AreEvaluated, AllAreEvaluated}
 
 -- edits keep the evaluations
-AreTold-with_last : (p : Position) (f : Forest Evaluation) (m : Move) (x : Evaluation) → AreEvaluated p f → IsEvaluationOf (after p m) x → AreEvaluated p (with_last m x f)
-AreTold-with_last p none m x h k = (k, tt, tt)
-AreTold-with_last p (more n t b r) m x h k = (h.0, h.1, AreTold-with_last p r m x h.2 k)
+AreEvaluated-with_last : (p : Position) (f : Forest Evaluation) (m : Move) (x : Evaluation) → AreEvaluated p f → IsEvaluationOf (after p m) x
+    → AreEvaluated p (with_last m x f)
+AreEvaluated-with_last p none m x h k = (k, tt, tt)
+AreEvaluated-with_last p (more n t b r) m x h k = (h.0, h.1, AreEvaluated-with_last p r m x h.2 k)
 
-pub AreTold-add_last : (p : Position) (f : Forest Evaluation) (ks : List ℕ) (m : Move) (x : Evaluation) → AreEvaluated p f
+pub AreEvaluated-add_last : (p : Position) (f : Forest Evaluation) (ks : List ℕ) (m : Move) (x : Evaluation) → AreEvaluated p f
     → IsEvaluationOf (after (position_after p (moves_to f ks)) m) x → AreEvaluated p (add_last f ks m x)
-AreTold-add_last p f [] m x h k = AreTold-with_last p f m x h k
-AreTold-add_last p none (j ∷ js) m x h k = tt
-AreTold-add_last p (more n t b r) (zero ∷ js) m x h k = (h.0, AreTold-add_last (after p n) b js m x h.1 k, h.2)
-AreTold-add_last p (more n t b r) (suc j ∷ js) m x h k = (h.0, h.1, AreTold-add_last p r (j ∷ js) m x h.2 k)
+AreEvaluated-add_last p f [] m x h k = AreEvaluated-with_last p f m x h k
+AreEvaluated-add_last p none (j ∷ js) m x h k = tt
+AreEvaluated-add_last p (more n t b r) (zero ∷ js) m x h k = (h.0, AreEvaluated-add_last (after p n) b js m x h.1 k, h.2)
+AreEvaluated-add_last p (more n t b r) (suc j ∷ js) m x h k = (h.0, h.1, AreEvaluated-add_last p r (j ∷ js) m x h.2 k)
 
-AreTold-place_edited : (e : ℕ → Forest Evaluation → Forest Evaluation) → ((p : Position) (k : ℕ) (f : Forest Evaluation) → AreEvaluated p f → AreEvaluated p (e k f))
+AreEvaluated-place_edited : (e : ℕ → Forest Evaluation → Forest Evaluation)
+    → ((p : Position) (k : ℕ) (f : Forest Evaluation) → AreEvaluated p f → AreEvaluated p (e k f))
     → (p : Position) (f : Forest Evaluation) (k : ℕ) (ks : List ℕ) → AreEvaluated p f → AreEvaluated p (place_edited e f k ks)
-AreTold-place_edited e keeps p f k [] h = keeps p k f h
-AreTold-place_edited e keeps p none k (j ∷ js) h = tt
-AreTold-place_edited e keeps p (more m t b r) zero (j ∷ js) h = (h.0, AreTold-place_edited e keeps (after p m) b j js h.1, h.2)
-AreTold-place_edited e keeps p (more m t b r) (suc k) (j ∷ js) h = (h.0, h.1, AreTold-place_edited e keeps p r k (j ∷ js) h.2)
+AreEvaluated-place_edited e keeps p f k [] h = keeps p k f h
+AreEvaluated-place_edited e keeps p none k (j ∷ js) h = tt
+AreEvaluated-place_edited e keeps p (more m t b r) zero (j ∷ js) h = (h.0, AreEvaluated-place_edited e keeps (after p m) b j js h.1, h.2)
+AreEvaluated-place_edited e keeps p (more m t b r) (suc k) (j ∷ js) h = (h.0, h.1, AreEvaluated-place_edited e keeps p r k (j ∷ js) h.2)
 
-AreTold-dropped_at : (p : Position) (k : ℕ) (f : Forest Evaluation) → AreEvaluated p f → AreEvaluated p (dropped_at k f)
-AreTold-dropped_at p k none h = h
-AreTold-dropped_at p zero (more n t b r) h = h.2
-AreTold-dropped_at p (suc k) (more n t b r) h = (h.0, h.1, AreTold-dropped_at p k r h.2)
+AreEvaluated-dropped_at : (p : Position) (k : ℕ) (f : Forest Evaluation) → AreEvaluated p f → AreEvaluated p (dropped_at k f)
+AreEvaluated-dropped_at p k none h = h
+AreEvaluated-dropped_at p zero (more n t b r) h = h.2
+AreEvaluated-dropped_at p (suc k) (more n t b r) h = (h.0, h.1, AreEvaluated-dropped_at p k r h.2)
 
-AreTold-second : (p : Position) (m : Move) (t : Evaluation) (b r : Forest Evaluation) → IsEvaluationOf (after p m) t
+AreEvaluated-second : (p : Position) (m : Move) (t : Evaluation) (b r : Forest Evaluation) → IsEvaluationOf (after p m) t
     → AreEvaluated (after p m) b → AreEvaluated p r → AreEvaluated p (second m t b r)
-AreTold-second p m t b none e h k = (e, h, tt)
-AreTold-second p m t b (more n x d r) e h k = (k.0, k.1, (e, h, k.2))
+AreEvaluated-second p m t b none e h k = (e, h, tt)
+AreEvaluated-second p m t b (more n x d r) e h k = (k.0, k.1, (e, h, k.2))
 
-AreTold-raised_at : (p : Position) (k : ℕ) (f : Forest Evaluation) → AreEvaluated p f → AreEvaluated p (raised_at k f)
-AreTold-raised_at p k none h = h
-AreTold-raised_at p zero (more n t b r) h = h
-AreTold-raised_at p (suc zero) (more n t b r) h = AreTold-second p n t b r h.0 h.1 h.2
-AreTold-raised_at p (suc (suc k)) (more n t b r) h = (h.0, h.1, AreTold-raised_at p (suc k) r h.2)
+AreEvaluated-raised_at : (p : Position) (k : ℕ) (f : Forest Evaluation) → AreEvaluated p f → AreEvaluated p (raised_at k f)
+AreEvaluated-raised_at p k none h = h
+AreEvaluated-raised_at p zero (more n t b r) h = h
+AreEvaluated-raised_at p (suc zero) (more n t b r) h = AreEvaluated-second p n t b r h.0 h.1 h.2
+AreEvaluated-raised_at p (suc (suc k)) (more n t b r) h = (h.0, h.1, AreEvaluated-raised_at p (suc k) r h.2)
 
-pub AreTold-dropped : (p : Position) (f : Forest Evaluation) (k : ℕ) (ks : List ℕ) → AreEvaluated p f → AreEvaluated p (place_edited dropped_at f k ks)
-AreTold-dropped = AreTold-place_edited dropped_at AreTold-dropped_at
+pub AreEvaluated-dropped : (p : Position) (f : Forest Evaluation) (k : ℕ) (ks : List ℕ) → AreEvaluated p f → AreEvaluated p (place_edited dropped_at f k ks)
+AreEvaluated-dropped = AreEvaluated-place_edited dropped_at AreEvaluated-dropped_at
 
-pub AreTold-raised : (p : Position) (f : Forest Evaluation) (k : ℕ) (ks : List ℕ) → AreEvaluated p f → AreEvaluated p (place_edited raised_at f k ks)
-AreTold-raised = AreTold-place_edited raised_at AreTold-raised_at
+pub AreEvaluated-raised : (p : Position) (f : Forest Evaluation) (k : ℕ) (ks : List ℕ) → AreEvaluated p f → AreEvaluated p (place_edited raised_at f k ks)
+AreEvaluated-raised = AreEvaluated-place_edited raised_at AreEvaluated-raised_at
 
 -- from right marks to right evaluations
-AreTold-annotated : (a : Aim) (d : ℕ) (p : Position) (v : Value) (q : Evaluation) (f : Forest NodeLabel)
-    → AreAnnotated a d p v (shown a d q f) → AreTallied p f → AreEvaluated p (mapped (λ l. l.told) f)
-AreTold-annotated a d p v q none h t = tt
-AreTold-annotated a d p v q (more m l b r) h t =
-    ((h.0, t.0), AreTold-annotated a (d + 1) (after p m) l.told.value l.told b h.3 t.1, AreTold-annotated a d p v q r h.4 t.2)
+AreEvaluated-annotated : (a : Aim) (d : ℕ) (p : Position) (v : Value) (q : Evaluation) (f : Forest NodeLabel)
+    → AreAnnotated a d p v (shown a d q f) → AreTallied p f → AreEvaluated p (mapped (λ l. l.evaluated) f)
+AreEvaluated-annotated a d p v q none h t = tt
+AreEvaluated-annotated a d p v q (more m l b r) h t =
+    ((h.0, t.0), AreEvaluated-annotated a (d + 1) (after p m) l.evaluated.value l.evaluated b h.3 t.1, AreEvaluated-annotated a d p v q r h.4 t.2)
 
-pub AllAreTold-right : (k : BenchState) → IsKeptRight k → AllAreEvaluated k.study.start.position (evaluation_tree k.study.tree)
-AllAreTold-right k h = (
+pub AllAreEvaluated-right : (k : BenchState) → IsKeptRight k → AllAreEvaluated k.study.start.position (evaluation_tree k.study.tree)
+AllAreEvaluated-right k h = (
   (h.marks.value, h.root),
-  AreTold-annotated (aim_of k.study) 0 k.study.start.position
-      k.study.tree.label.told.value k.study.tree.label.told k.study.tree.below h.marks.below h.tallies,
+  AreEvaluated-annotated (aim_of k.study) 0 k.study.start.position
+      k.study.tree.label.evaluated.value k.study.tree.label.evaluated k.study.tree.below h.marks.below h.tallies,
 )
 
-AreTallied-told : (p : Position) (f : Forest NodeLabel) → AreEvaluated p (mapped (λ l. l.told) f) → AreTallied p f
-AreTallied-told p none h = tt
-AreTallied-told p (more m l b r) h = (h.0.1, AreTallied-told (after p m) b h.1, AreTallied-told p r h.2)
+AreTallied-evaluated : (p : Position) (f : Forest NodeLabel) → AreEvaluated p (mapped (λ l. l.evaluated) f) → AreTallied p f
+AreTallied-evaluated p none h = tt
+AreTallied-evaluated p (more m l b r) h = (h.0.1, AreTallied-evaluated (after p m) b h.1, AreTallied-evaluated p r h.2)
 
 -- the hero does not move twice
 odd_after : (d : ℕ) (c : Bool) → (d % 2 == 0) ≡ c → ((d + 1) % 2 == 0) ≡ not c
@@ -213,29 +215,31 @@ sums-shown false n later counted r e h = let two : all_faults r ≡ counted = sy
 faults-shown : (a : Aim) (d : ℕ) (q : Evaluation) (f : Forest NodeLabel) → FaultsAddUp a d q f → faults_below (hero_moves a d) f ≡ faults_in a d (shown a d q f)
 faults-shown a d q none h = refl
 faults-shown a d q (more m l b r) h =
-    sums-shown (hero_moves a d) l.faults (own_fault a d q l.told.value + faults_in a (d + 1) (shown a (d + 1) l.told b)) (faults_in a d (shown a d q r)) r
-    (faults-shown a d q r h.2) (h.0 ∙ ap (λ n. own_fault a d q l.told.value + n) (faults-shown a (d + 1) l.told b h.1))
+    sums-shown (hero_moves a d) l.faults (own_fault a d q l.evaluated.value + faults_in a (d + 1) (shown a (d + 1) l.evaluated b))
+    (faults_in a d (shown a d q r)) r
+    (faults-shown a d q r h.2) (h.0 ∙ ap (λ n. own_fault a d q l.evaluated.value + n) (faults-shown a (d + 1) l.evaluated b h.1))
 
-AreAnnotated-told : (a : Aim) (d : ℕ) (p : Position) (q : Evaluation) (f : Forest NodeLabel) → FaultsAddUp a d q f → IsEvaluationOf p q
-    → AreEvaluated p (mapped (λ l. l.told) f) → AreAnnotated a d p q.value (shown a d q f)
-AreAnnotated-told a d p q none s h t = tt
-AreAnnotated-told a d p q (more m l b r) s h t = (
+AreAnnotated-evaluated : (a : Aim) (d : ℕ) (p : Position) (q : Evaluation) (f : Forest NodeLabel) → FaultsAddUp a d q f → IsEvaluationOf p q
+    → AreEvaluated p (mapped (λ l. l.evaluated) f) → AreAnnotated a d p q.value (shown a d q f)
+AreAnnotated-evaluated a d p q none s h t = tt
+AreAnnotated-evaluated a d p q (more m l b r) s h t = (
   t.0.0,
-  (mark_by_label a d q l.told.value, refl, (h.1.0, h.1.1, kept-move a d q h.1.0 l.told.value h.1.2)),
-  s.0 ∙ ap (λ n. own_fault a d q l.told.value + n) (faults-shown a (d + 1) l.told b s.1),
-  AreAnnotated-told a (d + 1) (after p m) l.told b s.1 t.0 t.1,
-  AreAnnotated-told a d p q r s.2 h t.2,
+  (mark_by_label a d q l.evaluated.value, refl, (h.1.0, h.1.1, kept-move a d q h.1.0 l.evaluated.value h.1.2)),
+  s.0 ∙ ap (λ n. own_fault a d q l.evaluated.value + n) (faults-shown a (d + 1) l.evaluated b s.1),
+  AreAnnotated-evaluated a (d + 1) (after p m) l.evaluated b s.1 t.0 t.1,
+  AreAnnotated-evaluated a d p q r s.2 h t.2,
 )
 
 -- from right evaluations, and faults that add up, to right marks
-pub right-told : (k : BenchState) → AllAddUp (aim_of k.study) k.study.tree → AllAreEvaluated k.study.start.position (evaluation_tree k.study.tree) → IsKeptRight k
-right-told k s t = record {
+pub right-evaluated : (k : BenchState) → AllAddUp (aim_of k.study) k.study.tree → AllAreEvaluated k.study.start.position (evaluation_tree k.study.tree)
+    → IsKeptRight k
+right-evaluated k s t = record {
   marks = record {
     value = t.0.0;
     no_move = refl;
-    faults = s.0 ∙ faults-shown (aim_of k.study) 0 k.study.tree.label.told k.study.tree.below s.1;
-    below = AreAnnotated-told (aim_of k.study) 0 k.study.start.position k.study.tree.label.told k.study.tree.below s.1 t.0 t.1;
+    faults = s.0 ∙ faults-shown (aim_of k.study) 0 k.study.tree.label.evaluated k.study.tree.below s.1;
+    below = AreAnnotated-evaluated (aim_of k.study) 0 k.study.start.position k.study.tree.label.evaluated k.study.tree.below s.1 t.0 t.1;
   };
   root = t.0.1;
-  tallies = AreTallied-told k.study.start.position k.study.tree.below t.1;
+  tallies = AreTallied-evaluated k.study.start.position k.study.tree.below t.1;
 }

@@ -1,5 +1,5 @@
 -- One edit of a bench, as a value.
-use Rattle.std.proofs.Common.{◌≡◌, ℕ, ◌+◌, List, length, Bool, true, Option, Some, None, refl, sym, ap, ◌∙◌, subst}
+use Rattle.std.proofs.Common.{◌≡◌, ℕ, ◌+◌, List, length, true, Option, Some, None, refl, sym, ap, ◌∙◌, subst}
 use Rattle.std.specs.Prelude.{if◌then◌else◌, MatchOption, Result, Ok, Err, IfErr, OnOk, OnErr, IsErrAnd}
 use Rattle.study_material.specs.declared.class.Class.{Class}
 use Rattle.study_moves.specs.declared.moves.Move.{Move}
@@ -82,10 +82,11 @@ module _ {A V : Type 0} (source : ValueSource V) (values values_now : V) (old ne
       → AllHeld (source.held values) (asked_at (after (position_at (marked old) steps) m))
       → plain_study (marked new) ≡ with_insertion (plain_study (marked old)) steps m
       → (source.is_honest values → IsKeptRight old → IsKeptRight new)
-      → ((told : Evaluation) × (evaluation_tree new.study.tree ≡ with_child (evaluation_tree old.study.tree) steps m told))
+      → ((evaluated : Evaluation) × (evaluation_tree new.study.tree ≡ with_child (evaluation_tree old.study.tree) steps m evaluated))
       → new.relabelled ≡ counted_up_by (length steps + 2) old.relabelled
       → source.asked_of values_now ≡ counted_up_by (length (asked_at (after (position_at (marked old) steps) m))) (source.asked_of values)
-      → source.failed_of values_now ≡ source.failed_of values → (source.is_honest values → source.is_honest values_now) → ((c : Class) → source.held values_now c ≡ source.held values c)
+      → source.failed_of values_now ≡ source.failed_of values → (source.is_honest values → source.is_honest values_now)
+      → ((c : Class) → source.held values_now c ≡ source.held values c)
       → IsApplied source values values_now old new e (Ok tt)
   insert-accepted e steps m k P is refusal place found edit right kept labels counts failures stays tables =
       applied-as e (edits.Insert steps m) (Ok tt) is (record {
@@ -109,11 +110,13 @@ module _ {A V : Type 0} (source : ValueSource V) (values values_now : V) (old ne
   -- another start
   pub shift-applied : (e : Edit A) (start copied : Start) (r : Result (Unit {0}) (Refusal A)) → e ≡ edits.Shift start → copied ≡ start
       → OnOk r (first_illegal_from 0 copied.position (marked old).tree.below ≡ None)
-      → IfErr r (IsShiftRefusal (source.held values) (positions_asked (with_start (plain_study (marked old)) copied)) (shift_refusal (plain_study (marked old)) copied))
+      → IfErr r (IsShiftRefusal (source.held values) (positions_asked (with_start (plain_study (marked old)) copied))
+      (shift_refusal (plain_study (marked old)) copied))
       → OnOk r (AllHeld (source.held values) (positions_asked (with_start (plain_study (marked old)) copied)))
       → OnOk r (plain_study (marked new) ≡ with_start (plain_study (marked old)) copied) → (source.is_honest values → OnOk r (IsKeptRight new))
       → OnOk r (new.relabelled ≡ counted_up_by (size_of (marked old).tree) old.relabelled)
-      → HasAsked (length (positions_asked (with_start (plain_study (marked old)) copied))) r (source.asked_of values) (source.asked_of values_now) → source.failed_of values_now ≡ failures_after r (source.failed_of values)
+      → HasAsked (length (positions_asked (with_start (plain_study (marked old)) copied))) r (source.asked_of values) (source.asked_of values_now)
+      → source.failed_of values_now ≡ failures_after r (source.failed_of values)
       → (source.is_honest values → source.is_honest values_now) → ((c : Class) → source.held values_now c ≡ source.held values c) → OnErr r (new ≡ old)
       → IsApplied source values values_now old new e r
   shift-applied e start copied r is e2 shift_broken_at refusal found edit right labels counts failures stays tables same =
@@ -153,7 +156,8 @@ module _ {A V : Type 0} (source : ValueSource V) (values values_now : V) (old ne
       → IfErr r (IsOutside (source.held values) (asked_at copied.position)) → IfErr r (λ f. is_of_tables f ≡ true)
       → OnOk r (AllHeld (source.held values) (asked_at copied.position)) → OnOk r (plain_study (marked new) ≡ with_position (plain_study (marked old)) copied)
       → (source.is_honest values → OnOk r (IsKeptRight new)) → OnOk r (new.relabelled ≡ 1)
-      → HasAsked (length (asked_at copied.position)) r (source.asked_of values) (source.asked_of values_now) → source.failed_of values_now ≡ failures_after r (source.failed_of values)
+      → HasAsked (length (asked_at copied.position)) r (source.asked_of values) (source.asked_of values_now)
+      → source.failed_of values_now ≡ failures_after r (source.failed_of values)
       → (source.is_honest values → source.is_honest values_now) → ((c : Class) → source.held values_now c ≡ source.held values c) → OnErr r (new ≡ old)
       → IsApplied source values values_now old new e r
   position-applied e start copied r is e2 refusal of_tables found edit right labels counts failures stays tables same =
@@ -190,7 +194,8 @@ module _ {A V : Type 0} (source : ValueSource V) (values values_now : V) (old ne
       → plain_study (marked new) ≡ with_stipulation (plain_study (marked old)) stipulation
       → (IsKeptRight old → IsKeptRight new) → evaluation_tree new.study.tree ≡ evaluation_tree old.study.tree
       → new.relabelled ≡ counted_up_by (size_of (marked old).tree) old.relabelled
-      → source.asked_of values_now ≡ source.asked_of values → source.failed_of values_now ≡ source.failed_of values → (source.is_honest values → source.is_honest values_now)
+      → source.asked_of values_now ≡ source.asked_of values → source.failed_of values_now ≡ source.failed_of values
+      → (source.is_honest values → source.is_honest values_now)
       → ((c : Class) → source.held values_now c ≡ source.held values c) → IsApplied source values values_now old new e (Ok tt)
   stipulation-applied e stipulation is edit right kept labels counts failures stays tables =
       applied-as e (edits.Stipulate stipulation) (Ok tt) is (record {

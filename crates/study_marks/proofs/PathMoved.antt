@@ -95,17 +95,17 @@ module _ (a : Aim) (from minus plus : ℕ) where
   moved-here : (d right : ℕ) (l : NodeLabel) → from ≤ d → l.faults + plus ≡ right + minus → right ≤ 4096
       → (move d l).faults ≡ right
   moved-here d right l near sum few =
-      ap (λ (b : Bool). (if b then record { told = l.told; faults = faults_after_change minus plus l.faults } else l).faults) (le-leb from d near)
+      ap (λ (b : Bool). (if b then record { evaluated = l.evaluated; faults = faults_after_change minus plus l.faults } else l).faults) (le-leb from d near)
       ∙ omega (arith, sum, few)
 
   moved-beyond : (d : ℕ) (l : NodeLabel) → d < from → move d l ≡ l
   moved-beyond d l far =
-      ap (λ (b : Bool). if b then record { told = l.told; faults = faults_after_change minus plus l.faults } else l) (lt-leb from d far)
+      ap (λ (b : Bool). if b then record { evaluated = l.evaluated; faults = faults_after_change minus plus l.faults } else l) (lt-leb from d far)
 
-  moved-told : (d : ℕ) (l : NodeLabel) → (move d l).told ≡ l.told
-  moved-told d l = go (nat_le from d)
+  moved-evaluated : (d : ℕ) (l : NodeLabel) → (move d l).evaluated ≡ l.evaluated
+  moved-evaluated d l = go (nat_le from d)
     where
-      go : (b : Bool) → (if b then record { told = l.told; faults = faults_after_change minus plus l.faults } else l).told ≡ l.told
+      go : (b : Bool) → (if b then record { evaluated = l.evaluated; faults = faults_after_change minus plus l.faults } else l).evaluated ≡ l.evaluated
       go true = refl
       go false = refl
 
@@ -115,36 +115,38 @@ module _ (a : Aim) (from minus plus : ℕ) where
   nodes-moved d (more m l b r) (zero ∷ ks) = omega (arith, nodes-moved (d + 1) b ks)
   nodes-moved d (more m l b r) (suc k ∷ ks) = omega (arith, nodes-moved d r (k ∷ ks))
 
-  pub told-moved : (d : ℕ) (f : Forest NodeLabel) (ks : List ℕ)
-      → mapped (λ (l : NodeLabel). l.told) (changed_along move d f ks) ≡ mapped (λ l. l.told) f
-  told-moved d f [] = refl
-  told-moved d none (k ∷ ks) = refl
-  told-moved d (more m l b r) (zero ∷ ks) =
-      ap (λ x. more m x (mapped (λ (y : NodeLabel). y.told) (changed_along move (d + 1) b ks)) (mapped (λ (y : NodeLabel). y.told) r)) (moved-told d l)
-      ∙ ap (λ x. more m l.told x (mapped (λ (y : NodeLabel). y.told) r)) (told-moved (d + 1) b ks)
-  told-moved d (more m l b r) (suc k ∷ ks) =
-      ap (more m l.told (mapped (λ (y : NodeLabel). y.told) b)) (told-moved d r (k ∷ ks))
+  pub evaluated-moved : (d : ℕ) (f : Forest NodeLabel) (ks : List ℕ)
+      → mapped (λ (l : NodeLabel). l.evaluated) (changed_along move d f ks) ≡ mapped (λ l. l.evaluated) f
+  evaluated-moved d f [] = refl
+  evaluated-moved d none (k ∷ ks) = refl
+  evaluated-moved d (more m l b r) (zero ∷ ks) =
+      ap (λ x. more m x (mapped (λ (y : NodeLabel). y.evaluated) (changed_along move (d + 1) b ks)) (mapped (λ (y : NodeLabel). y.evaluated) r))
+      (moved-evaluated d l)
+      ∙ ap (λ x. more m l.evaluated x (mapped (λ (y : NodeLabel). y.evaluated) r)) (evaluated-moved (d + 1) b ks)
+  evaluated-moved d (more m l b r) (suc k ∷ ks) =
+      ap (more m l.evaluated (mapped (λ (y : NodeLabel). y.evaluated) b)) (evaluated-moved d r (k ∷ ks))
 
   -- siblings at depth d + 1, of which one and the nodes on the path below it are changed
   record AreMoved (d : ℕ) (q : Evaluation) (f new : Forest NodeLabel) : Type 0 where
     pub adds : FaultsAddUp a d q new
     pub all : IsMoved (d + 1) (all_faults f) (all_faults new)
 
-  adds-told : (d : ℕ) (q p : Evaluation) (f : Forest NodeLabel) → q ≡ p → FaultsAddUp a d q f → FaultsAddUp a d p f
-  adds-told d q p f e h = subst (λ (x : Evaluation). FaultsAddUp a d x f) e h
+  adds-evaluated : (d : ℕ) (q p : Evaluation) (f : Forest NodeLabel) → q ≡ p → FaultsAddUp a d q f → FaultsAddUp a d p f
+  adds-evaluated d q p f e h = subst (λ (x : Evaluation). FaultsAddUp a d x f) e h
 
   -- one node and the forest below it
   moved-node : (d right : ℕ) (q : Evaluation) (m : Move) (l : NodeLabel) (b new r : Forest NodeLabel)
-      → FaultsAddUp a (d + 1) l.told new → FaultsAddUp a d q r → nodes_in new ≤ 4095 → right ≤ 1
-      → right ≡ own_fault a d q l.told.value
+      → FaultsAddUp a (d + 1) l.evaluated new → FaultsAddUp a d q r → nodes_in new ≤ 4095 → right ≤ 1
+      → right ≡ own_fault a d q l.evaluated.value
       → ((from ≤ d + 1 → l.faults + plus ≡ right + faults_below (hero_moves a (d + 1)) new + minus))
       → (d + 1 < from → l.faults ≡ right + faults_below (hero_moves a (d + 1)) new)
       → AreMoved d q (more m l b r) (more m (move (d + 1) l) new r)
   moved-node d right q m l b new r under later few one is_own near far =
       record {
         adds = (
-          faults ∙ ap (λ x. x + faults_below (hero_moves a (d + 1)) new) (is_own ∙ ap (λ (t : Evaluation). own_fault a d q t.value) (sym (moved-told (d + 1) l))),
-          adds-told (d + 1) l.told (move (d + 1) l).told new (sym (moved-told (d + 1) l)) under,
+          faults ∙ ap (λ x. x + faults_below (hero_moves a (d + 1)) new) (is_own
+              ∙ ap (λ (t : Evaluation). own_fault a d q t.value) (sym (moved-evaluated (d + 1) l))),
+          adds-evaluated (d + 1) l.evaluated (move (d + 1) l).evaluated new (sym (moved-evaluated (d + 1) l)) under,
           later,
         );
         all = record {
@@ -154,7 +156,7 @@ module _ (a : Aim) (from minus plus : ℕ) where
       }
     where
       small : right + faults_below (hero_moves a (d + 1)) new ≤ 4096
-      small = omega (arith, one, few, below≤all (hero_moves a (d + 1)) new, all≤nodes a (d + 1) l.told new under)
+      small = omega (arith, one, few, below≤all (hero_moves a (d + 1)) new, all≤nodes a (d + 1) l.evaluated new under)
 
       go : (b : Bool) → nat_le from (d + 1) ≡ b → (move (d + 1) l).faults ≡ right + faults_below (hero_moves a (d + 1)) new
       go true e = moved-here (d + 1) (right + faults_below (hero_moves a (d + 1)) new) l (leb-true from (d + 1) e) (near (leb-true from (d + 1) e)) small
@@ -188,14 +190,14 @@ module _ (a : Aim) (from minus plus : ℕ) where
       → AreMoved d q f (changed_along move (d + 1) f (k ∷ ks))
   are-moved d q none k ks found h few e = let no : ⊥ = cc in absurd no
   are-moved d q (more m l b r) zero [] found h few e =
-      moved-node d (own_fault a d q l.told.value) q m l b b r h.1 h.2 (omega (arith, few)) (own≤1 a d q l.told.value) refl
+      moved-node d (own_fault a d q l.evaluated.value) q m l b b r h.1 h.2 (omega (arith, few)) (own≤1 a d q l.evaluated.value) refl
       (λ near. omega (arith, h.0)) (λ far. absurd (omega (arith, e, far)))
   are-moved d q (more m l b r) zero (j ∷ js) found h few e =
       let n = next-from a from (d + 1) j js e in
-      let i = are-moved (d + 1) l.told b j js found h.1 (omega (arith, few)) n.rest in
+      let i = are-moved (d + 1) l.evaluated b j js found h.1 (omega (arith, few)) n.rest in
       let below = below-moved (hero_moves a (d + 1)) (d + 1) b j js found n.here n.beyond i.all in
-      moved-node d (own_fault a d q l.told.value) q m l b (changed_along move (d + 1 + 1) b (j ∷ js)) r i.adds h.2
-      (omega (arith, few, nodes-moved (d + 1 + 1) b (j ∷ js))) (own≤1 a d q l.told.value) refl
+      moved-node d (own_fault a d q l.evaluated.value) q m l b (changed_along move (d + 1 + 1) b (j ∷ js)) r i.adds h.2
+      (omega (arith, few, nodes-moved (d + 1 + 1) b (j ∷ js))) (own≤1 a d q l.evaluated.value) refl
       (λ near. omega (arith, h.0, below.here near)) (λ far. omega (arith, h.0, below.beyond far))
   are-moved d q (more m l b r) (suc k) ks found h few e =
       let i = are-moved d q r k ks found h.2 (omega (arith, few)) e in
@@ -217,30 +219,33 @@ module _ (a : Aim) (from minus plus : ℕ) where
       → from ≡ counted_from_depth a 0 ks → AllAddUp a (with_changes (label_moved from minus plus) t ks)
   all-moved t [] found off few e = (
     moved-here 0 (faults_below (hero_moves a 0) t.below) t.label (omega (arith, e)) off.0
-        (omega (arith, few, below≤all (hero_moves a 0) t.below, all≤nodes a 0 t.label.told t.below off.1)),
-    adds-told 0 t.label.told (move 0 t.label).told t.below (sym (moved-told 0 t.label)) off.1,
+        (omega (arith, few, below≤all (hero_moves a 0) t.below, all≤nodes a 0 t.label.evaluated t.below off.1)),
+    adds-evaluated 0 t.label.evaluated (move 0 t.label).evaluated t.below (sym (moved-evaluated 0 t.label)) off.1,
   )
-  all-moved t (k ∷ ks) found off few e = (go (nat_le from 0) refl, adds-told 0 t.label.told (move 0 t.label).told new (sym (moved-told 0 t.label)) i.adds)
+  all-moved t (k ∷ ks) found off few e = (
+    go (nat_le from 0) refl,
+    adds-evaluated 0 t.label.evaluated (move 0 t.label).evaluated new (sym (moved-evaluated 0 t.label)) i.adds,
+  )
     where
       new : Forest NodeLabel
       new = changed_along move (0 + 1) t.below (k ∷ ks)
 
-      i : IsDone 0 t.label.told t.below new
-      i = is-done 0 t.label.told t.below k ks found off.1 (omega (arith, few)) (omega (arith, e))
+      i : IsDone 0 t.label.evaluated t.below new
+      i = is-done 0 t.label.evaluated t.below k ks found off.1 (omega (arith, few)) (omega (arith, e))
 
       go : (b : Bool) → nat_le from 0 ≡ b → (move 0 t.label).faults ≡ faults_below (hero_moves a 0) new
       go true en =
           moved-here 0 (faults_below (hero_moves a 0) new) t.label (leb-true from 0 en)
           (omega (arith, off.0, i.below.here (leb-true from 0 en)))
-          (omega (arith, few, below≤all (hero_moves a 0) new, all≤nodes a 0 t.label.told new i.adds, nodes-moved (0 + 1) t.below (k ∷ ks)))
+          (omega (arith, few, below≤all (hero_moves a 0) new, all≤nodes a 0 t.label.evaluated new i.adds, nodes-moved (0 + 1) t.below (k ∷ ks)))
       go false en =
           ap (λ (x : NodeLabel). x.faults) (moved-beyond 0 t.label (leb-false from 0 en))
           ∙ omega (arith, off.0, i.below.beyond (leb-false from 0 en))
 
-  pub all-told : (t : Plain NodeLabel) (ks : List ℕ) → evaluation_tree (with_changes (label_moved from minus plus) t ks) ≡ evaluation_tree t
-  all-told t ks =
-      ap (λ x. record { label = x; below = mapped (λ (l : NodeLabel). l.told) (changed_along move 1 t.below ks) }) (moved-told 0 t.label)
-      ∙ ap (λ x. record { label = t.label.told; below = x }) (told-moved 1 t.below ks)
+  pub all-evaluated : (t : Plain NodeLabel) (ks : List ℕ) → evaluation_tree (with_changes (label_moved from minus plus) t ks) ≡ evaluation_tree t
+  all-evaluated t ks =
+      ap (λ x. record { label = x; below = mapped (λ (l : NodeLabel). l.evaluated) (changed_along move 1 t.below ks) }) (moved-evaluated 0 t.label)
+      ∙ ap (λ x. record { label = t.label.evaluated; below = x }) (evaluated-moved 1 t.below ks)
 
 -- the change at a node that exists
 pub changed-there : (t : Plain NodeLabel) (ks : List ℕ) (r : Result (Unit {0}) TreeFault) (P : Type 0)

@@ -52,7 +52,7 @@ own≤1 a d q v = go (hero_moves a d) (mark_by_label a d q v)
 pub all≤nodes : (a : Aim) (d : ℕ) (q : Evaluation) (f : Forest NodeLabel) → FaultsAddUp a d q f → all_faults f ≤ nodes_in f
 all≤nodes a d q none h = omega arith
 all≤nodes a d q (more m l b r) h =
-    omega (arith, h.0, own≤1 a d q l.told.value, below≤all (hero_moves a (d + 1)) b, all≤nodes a (d + 1) l.told b h.1, all≤nodes a d q r h.2)
+    omega (arith, h.0, own≤1 a d q l.evaluated.value, below≤all (hero_moves a (d + 1)) b, all≤nodes a (d + 1) l.evaluated b h.1, all≤nodes a d q r h.2)
 
 -- a prefix of a path leads to a node, too
 has_node-front : {L : Type 0} (f : Forest L) (front rest : List ℕ) → IsTrue (has_node f (front ++ rest)) → IsTrue (has_node f front)

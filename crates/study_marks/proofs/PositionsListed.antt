@@ -17,7 +17,7 @@ use Rattle.study_marks.specs.Study.{mapped, IsPlayable}
 use Rattle.study_marks.specs.Queries.{asked_at, asked_below, AreTablesHeld, IsFirstMissing, IsFirstUnread, counted_up_by}
 use Rattle.study_marks.specs.Evaluated.{IsEvaluationOf, AreEvaluated, AllAreEvaluated, IsProbeFaultOf, ProbeCount}
 use Rattle.study_marks.specs.BenchState.{evaluation_tree}
-use Rattle.study_marks.specs.Relabelled.{evaluation_in, reevaluated, reevaluated_tree, firsts, positions_in, asked_each, AreToldOf}
+use Rattle.study_marks.specs.Relabelled.{evaluation_in, reevaluated, reevaluated_tree, firsts, positions_in, asked_each, AreEvaluationsOf}
 use Rattle.study_marks.proofs.ValuesAsked.{missing-same, unread-same}
 use Rattle.study_marks.proofs.LabelsWritten.{firsts-all, counted_times-sum}
 
@@ -40,7 +40,8 @@ positions-next : (p : Position) (f : Forest NodeLabel) (k : ℕ) (u : Twig NodeL
 positions-next p none k u e = let no : ⊥ = cc in absurd no
 positions-next p (more m l b r) zero u e =
     ap (λ x. after p m ∷ x) (append-none (positions_in (after p m) b))
-    ∙ ap (λ (x : Twig NodeLabel). after p x.played ∷ positions_in (after p x.played) x.below) (let s : record { played = m; label = l; below = b } ≡ u = cc in s)
+    ∙ ap (λ (x : Twig NodeLabel). after p x.played ∷ positions_in (after p x.played) x.below) (let s : record { played = m; label = l; below = b } ≡ u = cc in
+    s)
 positions-next p (more m l b r) (suc k) u e =
     ap (λ x. after p m ∷ (positions_in (after p m) b ++ x)) (positions-next p r k u e)
     ∙ ap (λ x. after p m ∷ x)
@@ -111,22 +112,23 @@ unread-back : (held : Class → Bool) (xs ys : List Position) (f : ProbeFault) �
 unread-back held [] ys f h k = k
 unread-back held (x ∷ xs) ys f h k = (h.0, inr (unread-back held xs ys f h.1 k))
 
-untold-middle : (held now : Class → Bool) (xs ys zs : List Position) (f : ProbeFault)
+no_value-middle : (held now : Class → Bool) (xs ys zs : List Position) (f : ProbeFault)
     → ((d : Class) → now d ≡ held d) → AreTablesHeld held xs → IsProbeFaultOf now ys f → IsProbeFaultOf held (xs ++ (ys ++ zs)) f
-untold-middle held now xs ys zs (probe.NoTable c) same h k =
+no_value-middle held now xs ys zs (probe.NoTable c) same h k =
     missing-back held xs (ys ++ zs) c h (missing-front held ys zs c (missing-same held now ys c same k))
-untold-middle held now xs ys zs (probe.TableRead x) same h k =
+no_value-middle held now xs ys zs (probe.TableRead x) same h k =
     let f = probe.TableRead x in
     unread-back held xs (ys ++ zs) f h (unread-front held ys zs f (unread-same held now ys f same k))
-untold-middle held now xs ys zs (probe.PageDamaged c n) same h k =
+no_value-middle held now xs ys zs (probe.PageDamaged c n) same h k =
     let f = probe.PageDamaged c n in
     unread-back held xs (ys ++ zs) f h (unread-front held ys zs f (unread-same held now ys f same k))
 
-AreToldOf-append : (ps qs : List Position) (ts us : List Evaluation) → AreToldOf ps ts → AreToldOf qs us → AreToldOf (ps ++ qs) (ts ++ us)
-AreToldOf-append [] qs [] us h k = k
-AreToldOf-append [] qs (t ∷ ts) us h k = absurd h
-AreToldOf-append (p ∷ ps) qs [] us h k = absurd h
-AreToldOf-append (p ∷ ps) qs (t ∷ ts) us h k = (h.0, AreToldOf-append ps qs ts us h.1 k)
+AreEvaluationsOf-append : (ps qs : List Position) (ts us : List Evaluation) → AreEvaluationsOf ps ts → AreEvaluationsOf qs us
+    → AreEvaluationsOf (ps ++ qs) (ts ++ us)
+AreEvaluationsOf-append [] qs [] us h k = k
+AreEvaluationsOf-append [] qs (t ∷ ts) us h k = absurd h
+AreEvaluationsOf-append (p ∷ ps) qs [] us h k = absurd h
+AreEvaluationsOf-append (p ∷ ps) qs (t ∷ ts) us h k = (h.0, AreEvaluationsOf-append ps qs ts us h.1 k)
 
 -- The results when all these positions were probed: loaded tables, and the counts of probes and of failures, before and after.
 pub record IsAsked (held now : Class → Bool) (asked asked_now failed failed_now : ℕ) (honest honest_now : Type 0)
@@ -136,7 +138,7 @@ pub record IsAsked (held now : Class → Bool) (asked asked_now failed failed_no
   pub counts : asked_now ≡ counted_up_by (length (asked_each ps)) asked
   pub failures : failed_now ≡ failed
   pub stays : honest → honest_now
-  pub told : honest → (ts : List Evaluation) × AreToldOf ps ts × (all ≡ was ++ ts)
+  pub evaluated : honest → (ts : List Evaluation) × AreEvaluationsOf ps ts × (all ≡ was ++ ts)
 
 pub asked-next : (held mid now : Class → Bool) (asked asked_mid asked_now failed failed_mid failed_now : ℕ)
     (honest honest_mid honest_now : Type 0) (ps : List Position) (p : Position) (was all new : List Evaluation)
@@ -147,7 +149,7 @@ pub asked-next : (held mid now : Class → Bool) (asked asked_mid asked_now fail
     → (honest_mid → (t : Evaluation) × IsEvaluationOf p t × (new ≡ all ++ t ∷ []))
     → IsAsked held now asked asked_now failed failed_now honest honest_now (ps ++ p ∷ []) was new
 asked-next held mid now asked asked_mid asked_now failed failed_mid failed_now honest honest_mid honest_now ps p was
-    all new h tables found counts failures stays told = record {
+    all new h tables found counts failures stays evaluated = record {
       tables = λ c. tables c ∙ h.tables c;
       found = subst (AreTablesHeld held) (sym one)
           (AreTablesHeld-append held (asked_each ps) (asked_at p) h.found (AreTablesHeld-same held mid (asked_at p) h.tables found));
@@ -155,8 +157,12 @@ asked-next held mid now asked asked_mid asked_now failed failed_mid failed_now h
           ∙ ap (λ n. counted_up_by n asked) (sym (ap length one ∙ length-append (asked_each ps) (asked_at p)));
       failures = failures ∙ h.failures;
       stays = λ k. stays (h.stays k);
-      told = λ k. let x = h.told k in let y = told (h.stays k) in
-          (x.0 ++ y.0 ∷ [], AreToldOf-append ps (p ∷ []) x.0 (y.0 ∷ []) x.1 (y.1, tt), y.2 ∙ ap (λ z. z ++ y.0 ∷ []) x.2 ∙ append_assoc was x.0 (y.0 ∷ []));
+      evaluated = λ k. let x = h.evaluated k in let y = evaluated (h.stays k) in (
+        x.0 ++ y.0 ∷ [],
+        AreEvaluationsOf-append ps (p ∷ []) x.0 (y.0 ∷ []) x.1 (y.1, tt),
+        y.2 ∙ ap (λ z. z ++ y.0 ∷ []) x.2
+            ∙ append_assoc was x.0 (y.0 ∷ []),
+      );
     }
   where
     one : asked_each (ps ++ p ∷ []) ≡ asked_each ps ++ asked_at p
@@ -183,10 +189,10 @@ module _ (held mid : Class → Bool) (asked asked_mid failed failed_mid : ℕ) (
   middle : asked_each xs ≡ asked_each (take i xs) ++ (asked_at p ++ asked_each (drop (suc i) xs))
   middle = ap asked_each (split-at xs i p short is) ∙ asked_each-append (take i xs) (p ∷ drop (suc i) xs)
 
-  pub untold-at : (f : ProbeFault) → IsProbeFaultOf mid (asked_at p) f → IsProbeFaultOf held (asked_each xs) f
-  untold-at f k =
+  pub no_value-at : (f : ProbeFault) → IsProbeFaultOf mid (asked_at p) f → IsProbeFaultOf held (asked_each xs) f
+  no_value-at f k =
       subst (λ ps. IsProbeFaultOf held ps f) (sym middle)
-      (untold-middle held mid (asked_each (take i xs)) (asked_at p) (asked_each (drop (suc i) xs)) f h.tables
+      (no_value-middle held mid (asked_each (take i xs)) (asked_at p) (asked_each (drop (suc i) xs)) f h.tables
       h.found k)
 
   pub asked-at : (new : ℕ) → ProbeCount (length (asked_at p)) false asked_mid new → ProbeCount (length (asked_each xs)) false asked new
@@ -219,11 +225,11 @@ unfolding AreAt
 at-later t all n [] h = tt
 at-later t all n (p ∷ ps) h = (h.0, at-later t all (suc n) ps h.1)
 
-at-told : (ps : List Position) (ts : List Evaluation) → AreToldOf ps ts → AreAt ts 0 ps
+at-evaluated : (ps : List Position) (ts : List Evaluation) → AreEvaluationsOf ps ts → AreAt ts 0 ps
 unfolding AreAt
-at-told [] ts h = tt
-at-told (p ∷ ps) [] h = absurd h
-at-told (p ∷ ps) (t ∷ ts) h = ((λ d. h.0), at-later t ts 0 ps (at-told ps ts h.1))
+at-evaluated [] ts h = tt
+at-evaluated (p ∷ ps) [] h = absurd h
+at-evaluated (p ∷ ps) (t ∷ ts) h = ((λ d. h.0), at-later t ts 0 ps (at-evaluated ps ts h.1))
 
 at-append : (all : List Evaluation) (n j : ℕ) (ps qs : List Position) → AreAt all n (ps ++ qs) → j ≡ n + length ps → AreAt all n ps × AreAt all j qs
 unfolding AreAt
@@ -246,23 +252,27 @@ positions-mapped g p (more m l b r) =
     ap (λ x. after p m ∷ (x ++ positions_in p (mapped g r))) (positions-mapped g (after p m) b)
     ∙ ap (λ x. after p m ∷ (positions_in (after p m) b ++ x)) (positions-mapped g p r)
 
-retold-told : (all : List Evaluation) (p : Position) (n : ℕ) (f : Forest Evaluation) → AreAt all n (positions_in p f) → AreEvaluated p (reevaluated all n f)
+restated-evaluated : (all : List Evaluation) (p : Position) (n : ℕ) (f : Forest Evaluation) → AreAt all n (positions_in p f)
+    → AreEvaluated p (reevaluated all n f)
 unfolding AreAt
-retold-told all p n none h = tt
-retold-told all p n (more m t b r) h =
+restated-evaluated all p n none h = tt
+restated-evaluated all p n (more m t b r) h =
     let e : n + 1 + nodes_in b ≡ suc n + length (positions_in (after p m) b) = omega (arith, length-positions (after p m) b) in
     let x = at-append all (suc n) (n + 1 + nodes_in b) (positions_in (after p m) b) (positions_in p r) h.1 e in (
       h.0 t,
-      retold-told all (after p m) (n + 1) b
+      restated-evaluated all (after p m) (n + 1) b
           (subst (λ i. AreAt all i (positions_in (after p m) b)) (let z : suc n ≡ n + 1 = omega arith in z) x.0),
-      retold-told all p (n + 1 + nodes_in b) r x.1,
+      restated-evaluated all p (n + 1 + nodes_in b) r x.1,
     )
 
-pub told-everywhere : (p : Position) (t : Plain NodeLabel) (ps : List Position) (all : List Evaluation)
-    → ps ≡ p ∷ positions_in p t.below → ((ts : List Evaluation) × AreToldOf ps ts × (all ≡ [] ++ ts))
+pub evaluated-everywhere : (p : Position) (t : Plain NodeLabel) (ps : List Position) (all : List Evaluation)
+    → ps ≡ p ∷ positions_in p t.below → ((ts : List Evaluation) × AreEvaluationsOf ps ts × (all ≡ [] ++ ts))
     → AllAreEvaluated p (reevaluated_tree all (evaluation_tree t))
 unfolding AreAt
-told-everywhere p t ps all e h =
-    let told : AreToldOf (p ∷ positions_in p t.below) all = subst (λ x. AreToldOf x all) e (subst (AreToldOf ps) (sym h.2) h.1) in
-    let at = at-told (p ∷ positions_in p t.below) all told in
-    (at.0 t.label.told, retold-told all p 1 (evaluation_tree t).below (subst (AreAt all 1) (sym (positions-mapped (λ (l : NodeLabel). l.told) p t.below)) at.1))
+evaluated-everywhere p t ps all e h =
+    let evaluated : AreEvaluationsOf (p ∷ positions_in p t.below) all = subst (λ x. AreEvaluationsOf x all) e (subst (AreEvaluationsOf ps) (sym h.2) h.1) in
+    let at = at-evaluated (p ∷ positions_in p t.below) all evaluated in (
+      at.0 t.label.evaluated,
+      restated-evaluated all p 1 (evaluation_tree t).below
+          (subst (AreAt all 1) (sym (positions-mapped (λ (l : NodeLabel). l.evaluated) p t.below)) at.1),
+    )

@@ -31,7 +31,8 @@ pub broken-shown : (b k : BenchState) (p : Position) → b ≡ k
     → first_illegal_from 0 p b.study.tree.below ≡ first_illegal_from 0 p (plain_study (marked k)).tree.below
 broken-shown b k p same =
     sym (broken-mapped (λ (l : NodeLabel). tt {0}) 0 p b.study.tree.below)
-    ∙ ap (λ (t : Plain (Unit {0})). first_illegal_from 0 p t.below) (sym (bare-marked b)) ∙ ap (λ (x : BenchState). first_illegal_from 0 p (plain_study (marked x)).tree.below) same
+    ∙ ap (λ (t : Plain (Unit {0})). first_illegal_from 0 p t.below) (sym (bare-marked b))
+    ∙ ap (λ (x : BenchState). first_illegal_from 0 p (plain_study (marked x)).tree.below) same
 
 pub broken-marked : (k : BenchState) (p : Position) → first_illegal_from 0 p (plain_study (marked k)).tree.below ≡ first_illegal_from 0 p (marked k).tree.below
 broken-marked k p = broken-mapped (λ (x : Mark). tt {0}) 0 p (marked k).tree.below

@@ -26,8 +26,8 @@ use Rattle.study_marks.specs.FaultSums.{evaluation_at}
 use Rattle.study_marks.specs.Trial.{trial_refusal, IsMarkOf}
 use Rattle.study_marks.proofs.SameShape.{has_node-mapped, moves_to-mapped}
 use Rattle.study_marks.proofs.BenchEdits.{bare-marked}
-use Rattle.study_marks.proofs.MarksShown.{AllAreTold-right, kept-move}
-use Rattle.study_marks.proofs.ChildrenChanged.{told-spot}
+use Rattle.study_marks.proofs.MarksShown.{AllAreEvaluated-right, kept-move}
+use Rattle.study_marks.proofs.ChildrenChanged.{evaluated-spot}
 use Rattle.study_marks.proofs.PathRenewed.{there-spot}
 use Rattle.study_marks.proofs.Readers.{shown-spot}
 use Rattle.study_marks.proofs.InsertedMoves.{position-marked, chosen}
@@ -57,13 +57,13 @@ pub refused-first : {A T U : Type 0} (reason : List ℕ → Option (Refusal A)) 
 refused-first {A = A} {U = U} reason steps path r f answer P way e h a =
     subst (λ p. MatchOption (reason p) P (λ g. answer ≡ Err g)) way (go (reason steps) h)
   where
-    told : (x : Refusal A) (q : Result U (Refusal A)) → IsErrAnd q (λ y. y ≡ x) → q ≡ Err x
-    told x (Ok u) h = absurd h
-    told x (Err y) h = ap Err h
+    evaluated : (x : Refusal A) (q : Result U (Refusal A)) → IsErrAnd q (λ y. y ≡ x) → q ≡ Err x
+    evaluated x (Ok u) h = absurd h
+    evaluated x (Err y) h = ap Err h
 
     go : (o : Option (Refusal A)) → MatchOption o (IsOk r) (λ g. r ≡ Err g) → MatchOption o P (λ g. answer ≡ Err g)
     go None h = absurd (false≢true (sym (ap is_ok e) ∙ h))
-    go (Some g) h = let one : f ≡ g = (let two : Err f ≡ Err g = sym e ∙ h in cc) in told f answer a ∙ ap Err one
+    go (Some g) h = let one : f ≡ g = (let two : Err f ≡ Err g = sym e ∙ h in cc) in evaluated f answer a ∙ ap Err one
 
 pub not-refused : {A T : Type 0} (reason : List ℕ → Option (Refusal A)) (steps path : List ℕ) (r : Result T (Refusal A)) (x : T) → steps ≡ path
     → r ≡ Ok x → MatchOption (reason steps) (IsOk r) (λ g. r ≡ Err g) → reason path ≡ None
@@ -90,40 +90,41 @@ pub refused-next : {A T U : Type 0} (reason next : Option (Refusal A)) (r : Resu
 refused-next {A = A} {U = U} None next r f answer P on e h a = absurd (false≢true (sym (ap is_ok e) ∙ h))
 refused-next {A = A} {U = U} (Some g) next r f answer P on e h a =
     subst (λ o. MatchOption o P (λ x. answer ≡ Err x)) (sym (on g refl))
-    (let one : f ≡ g = (let two : Err f ≡ Err g = sym e ∙ h in cc) in told f answer a ∙ ap Err one)
+    (let one : f ≡ g = (let two : Err f ≡ Err g = sym e ∙ h in cc) in evaluated f answer a ∙ ap Err one)
   where
-    told : (x : Refusal A) (q : Result U (Refusal A)) → IsErrAnd q (λ y. y ≡ x) → q ≡ Err x
-    told x (Ok u) k = absurd k
-    told x (Err y) k = ap Err k
+    evaluated : (x : Refusal A) (q : Result U (Refusal A)) → IsErrAnd q (λ y. y ≡ x) → q ≡ Err x
+    evaluated x (Ok u) k = absurd k
+    evaluated x (Err y) k = ap Err k
 
 -- the evaluation at a node is that of its position
-told-node : (p : Position) (q : Evaluation) (f : Forest NodeLabel) (ks : List ℕ) → IsEvaluationOf p q → AreEvaluated p (mapped (λ l. l.told) f) → IsTrue (has_node f ks)
+evaluated-node : (p : Position) (q : Evaluation) (f : Forest NodeLabel) (ks : List ℕ) → IsEvaluationOf p q → AreEvaluated p (mapped (λ l. l.evaluated) f)
+    → IsTrue (has_node f ks)
     → IsEvaluationOf (position_after p (moves_to f ks)) (evaluation_at q f ks)
-told-node p q f [] h t n = h
-told-node p q none (k ∷ ks) h t n = absurd (false≢true n)
-told-node p q (more m l b r) (zero ∷ ks) h t n = told-node (after p m) l.told b ks t.0 t.1 n
-told-node p q (more m l b r) (suc k ∷ ks) h t n = told-node p q r (k ∷ ks) h t.2 n
+evaluated-node p q f [] h t n = h
+evaluated-node p q none (k ∷ ks) h t n = absurd (false≢true n)
+evaluated-node p q (more m l b r) (zero ∷ ks) h t n = evaluated-node (after p m) l.evaluated b ks t.0 t.1 n
+evaluated-node p q (more m l b r) (suc k ∷ ks) h t n = evaluated-node p q r (k ∷ ks) h t.2 n
 
 -- the mark of the move, from the evaluation of the node
 pub tried-mark : (k : BenchState) (steps : List ℕ) (m : Move) (w : Value) (mark : Mark) (s : Spot NodeLabel) → spot_at k.study.tree steps ≡ Some s
-    → mark ≡ mark_of_new_node (aim_of k.study) (length steps) s.label.told w → IsValueOf (after (position_at (marked k) steps) m) w → IsKeptRight k
+    → mark ≡ mark_of_new_node (aim_of k.study) (length steps) s.label.evaluated w → IsValueOf (after (position_at (marked k) steps) m) w → IsKeptRight k
     → IsMarkOf (marked k) steps m mark
 tried-mark k steps m w mark s there is game right = λ x seen.
     let t = k.study.tree in
     let a = aim_of k.study in
-    let q = s.label.told in
+    let q = s.label.evaluated in
     let d = length steps in
     let p = position_at (marked k) steps in
-    let old = AllAreTold-right k right in
-    let kept : IsEvaluationOf (position_at k.study steps) (evaluation_at t.label.told t.below steps) =
-    told-node k.study.start.position t.label.told t.below steps old.0 old.1 (there-spot t steps s there) in
-    let told : IsEvaluationOf p q = subst (λ (y : Position). IsEvaluationOf y q) (position-marked k k steps steps refl refl)
-    (subst (λ (u : Evaluation). IsEvaluationOf (position_at k.study steps) u) (told-spot t steps s there) kept) in
+    let old = AllAreEvaluated-right k right in
+    let kept : IsEvaluationOf (position_at k.study steps) (evaluation_at t.label.evaluated t.below steps) =
+    evaluated-node k.study.start.position t.label.evaluated t.below steps old.0 old.1 (there-spot t steps s there) in
+    let evaluated : IsEvaluationOf p q = subst (λ (y : Position). IsEvaluationOf y q) (position-marked k k steps steps refl refl)
+    (subst (λ (u : Evaluation). IsEvaluationOf (position_at k.study steps) u) (evaluated-spot t steps s there) kept) in
     let value : q.value ≡ x.label.value = same-value _ x (shown-spot k steps s (on_move_of (spot_at (marked k).tree steps)) there refl ∙ seen) in
     let none_more : own_fault a d q w ≡ own_fault a d q w + 0 = omega arith in
     subst (λ (y : Mark). AreAnnotated a d p x.label.value (more m y none none)) (sym is)
     (subst (λ (v : Value). AreAnnotated a d p v (more m (mark_of_new_node a d q w) none none)) value
-    (game, (mark_by_label a d q w, refl, (told.1.0, told.1.1, kept-move a d q told.1.0 w told.1.2)), none_more, tt, tt))
+    (game, (mark_by_label a d q w, refl, (evaluated.1.0, evaluated.1.1, kept-move a d q evaluated.1.0 w evaluated.1.2)), none_more, tt, tt))
   where
     same-value : (y x : Spot Mark) → Some y ≡ Some x → y.label.value ≡ x.label.value
     same-value y x e = ap (λ (z : Spot Mark). z.label.value) (let one : y ≡ x = cc in one)

@@ -1,5 +1,5 @@
 -- Values probed one after the other.
-use Rattle.std.proofs.Common.{◌≡◌, ℕ, ◌+◌, ◌≤◌, ◌<◌, ◌/◌, List, [], ◌∷◌, ◌++◌, map, length, Bool, true}
+use Rattle.std.proofs.Common.{◌≡◌, ℕ, ◌+◌, ◌≤◌, ◌<◌, List, [], ◌∷◌, ◌++◌, map, length, Bool, true}
 use Rattle.std.proofs.Common.{false, inl, inr, Result, Ok, Err, refl, sym, ap, ◌∙◌, arith, suc, subst}
 use Rattle.std.proofs.Common.{is_ok, OnOk, IfErr, IsErrOf, ◌↔◌, append_assoc, length-append}
 use Rattle.std.specs.List.{All}
@@ -42,9 +42,9 @@ counted-more p m ms rest v old mid new (Ok x) e g t h =
 counted-more p m ms rest v old mid new (Err f) e g t h = tt
 
 -- tables that are loaded
-pub held-told : {V : Type 0} (held : Class → Bool) (p : Position) (r : Result V ProbeFault) (v : V) → r ≡ Ok v
+pub held-evaluated : {V : Type 0} (held : Class → Bool) (p : Position) (r : Result V ProbeFault) (v : V) → r ≡ Ok v
     → ((c : Class) → IsErrOf r (probe.NoTable c) ↔ (IsOf c p × (held c ≡ false))) → IsTableHeld held p
-held-told held p r v e h c o = go (held c) refl
+held-evaluated held p r v e h c o = go (held c) refl
   where
     go : (b : Bool) → held c ≡ b → held c ≡ true
     go true k = k
@@ -81,29 +81,29 @@ unread-held held p r f e other h c o = go (held c) refl
         let three : f ≡ probe.NoTable c = cc in absurd (other c three)
 
 -- the first of some values could not be read
-pub untold-here : {V : Type 0} (held : Class → Bool) (p : Position) (ps : List Position) (r : Result V ProbeFault)
+pub no_value-here : {V : Type 0} (held : Class → Bool) (p : Position) (ps : List Position) (r : Result V ProbeFault)
     (f : ProbeFault) → r ≡ Err f → ((c : Class) → IsErrOf r (probe.NoTable c) ↔ (IsOf c p × (held c ≡ false)))
     → ((c : Class) (n : ℕ) → IsErrOf r (probe.PageDamaged c n) → IsOf c p × (n ≡ page_number p))
     → IsProbeFaultOf held (p ∷ ps) f
-untold-here held p ps r (probe.NoTable c) e h d = inl ((h c).0 e)
-untold-here held p ps r (probe.TableRead x) e h d =
+no_value-here held p ps r (probe.NoTable c) e h d = inl ((h c).0 e)
+no_value-here held p ps r (probe.TableRead x) e h d =
     (unread-held held p r (probe.TableRead x) e (λ c is. let no : ⊥ = cc in no) h, inl tt)
-untold-here held p ps r (probe.PageDamaged c n) e h d =
+no_value-here held p ps r (probe.PageDamaged c n) e h d =
     (unread-held held p r (probe.PageDamaged c n) e (λ b is. let no : ⊥ = cc in no) h, inl (d c n e))
 
-pub untold-later : (held now : Class → Bool) (p : Position) (ps : List Position) (f : ProbeFault) → IsTableHeld held p
+pub no_value-later : (held now : Class → Bool) (p : Position) (ps : List Position) (f : ProbeFault) → IsTableHeld held p
     → ((d : Class) → now d ≡ held d) → IsProbeFaultOf now ps f → IsProbeFaultOf held (p ∷ ps) f
-untold-later held now p ps (probe.NoTable c) k same h = inr (k, missing-same held now ps c same h)
-untold-later held now p ps (probe.TableRead x) k same h = (k, inr (unread-same held now ps (probe.TableRead x) same h))
-untold-later held now p ps (probe.PageDamaged c n) k same h =
+no_value-later held now p ps (probe.NoTable c) k same h = inr (k, missing-same held now ps c same h)
+no_value-later held now p ps (probe.TableRead x) k same h = (k, inr (unread-same held now ps (probe.TableRead x) same h))
+no_value-later held now p ps (probe.PageDamaged c n) k same h =
     (k, inr (unread-same held now ps (probe.PageDamaged c n) same h))
 
-pub untold-more : {T V : Type 0} (held now : Class → Bool) (p : Position) (ps : List Position)
+pub no_value-more : {T V : Type 0} (held now : Class → Bool) (p : Position) (ps : List Position)
     (a : Result V ProbeFault) (v : V) (r : Result T ProbeFault) → a ≡ Ok v
     → ((c : Class) → IsErrOf a (probe.NoTable c) ↔ (IsOf c p × (held c ≡ false))) → ((d : Class) → now d ≡ held d)
     → IfErr r (IsProbeFaultOf now ps) → IfErr r (IsProbeFaultOf held (p ∷ ps))
-untold-more held now p ps a v (Ok x) e k same h = tt
-untold-more held now p ps a v (Err f) e k same h = untold-later held now p ps f (held-told held p a v e k) same h
+no_value-more held now p ps a v (Ok x) e k same h = tt
+no_value-more held now p ps a v (Err f) e k same h = no_value-later held now p ps f (held-evaluated held p a v e k) same h
 
 -- the number of probes
 pub asked-more : (n : ℕ) (b : Bool) (old mid new : ℕ) → mid ≡ counted old → ProbeCount n b mid new → ProbeCount (suc n) b old new

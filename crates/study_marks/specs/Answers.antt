@@ -1,5 +1,5 @@
 -- The answers of values, probe after probe.
-use Rattle.std.specs.Prelude.{◌≡◌, ℕ, ◌⊎◌, List, [], ◌∷◌, Ok, Err, IsErrOf}
+use Rattle.std.specs.Prelude.{◌≡◌, ◌⊎◌, List, [], ◌∷◌, Ok, Err, IsErrOf}
 use Rattle.study_board.specs.Position.{Position, IsValid}
 use Rattle.study_text.specs.Counts.{counted}
 use Rattle.study_material.specs.declared.class.Class.{Class}
@@ -25,10 +25,10 @@ module _ {V : Type 0} where
     pub fails_as_before : (c : Class) (f : SourceFault) → source.may_fail new c f → source.may_fail old c f
 
   -- these positions were probed in order, and each value was read
-  abbrev pub WereTold : ValueSource V → V → List Position → V → Type 0
-  WereTold source old [] new = new ≡ old
-  WereTold source old (p ∷ ps) new = (v : Value) × (mid : V) × Answers source old p (Ok v) mid
-      × WereTold source mid ps new
+  abbrev pub WereEvaluated : ValueSource V → V → List Position → V → Type 0
+  WereEvaluated source old [] new = new ≡ old
+  WereEvaluated source old (p ∷ ps) new = (v : Value) × (mid : V) × Answers source old p (Ok v) mid
+      × WereEvaluated source mid ps new
 
   -- these positions were probed in order, up to the first whose value could not be read; its answer was this fault
   abbrev pub IsFirstFault : ValueSource V → V → List Position → ProbeFault → V → Type 0

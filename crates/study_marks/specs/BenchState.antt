@@ -29,7 +29,7 @@ pub record BenchState : Type 0 where
 
 -- the labels of the nodes without the faults: the evaluations
 abbrev pub evaluation_tree : Plain NodeLabel → Plain Evaluation
-evaluation_tree t = mapped_tree (λ l. l.told) t
+evaluation_tree t = mapped_tree (λ l. l.evaluated) t
 
 -- the number of tallied moves that lead to a position at depth d that holds, if the hero makes them
 abbrev pub count_holding : Goal → Bool → ℕ → MoveOutcomes → ℕ
@@ -43,17 +43,17 @@ mark_by_label a d q w = mark_of (hero_moves a d) (holds a d q.value) (holds a (d
 
 -- the marks that a bench shows: of sibling nodes, whose moves are made at depth d at the node with the evaluation q
 abbrev pub shown_mark : Aim → ℕ → Evaluation → NodeLabel → Mark
-shown_mark a d q l = record { value = l.told.value; on_move = Some (mark_by_label a d q l.told.value); faults = l.faults }
+shown_mark a d q l = record { value = l.evaluated.value; on_move = Some (mark_by_label a d q l.evaluated.value); faults = l.faults }
 
 abbrev pub shown : Aim → ℕ → Evaluation → Forest NodeLabel → Forest Mark
 shown a d q none = none
-shown a d q (more m l b r) = more m (shown_mark a d q l) (shown a (d + 1) l.told b) (shown a d q r)
+shown a d q (more m l b r) = more m (shown_mark a d q l) (shown a (d + 1) l.evaluated b) (shown a d q r)
 
 abbrev pub shown_root : NodeLabel → Mark
-shown_root l = record { value = l.told.value; on_move = None; faults = l.faults }
+shown_root l = record { value = l.evaluated.value; on_move = None; faults = l.faults }
 
 abbrev pub shown_tree : Aim → Plain NodeLabel → Plain Mark
-shown_tree a t = record { label = shown_root t.label; below = shown a 0 t.label.told t.below }
+shown_tree a t = record { label = shown_root t.label; below = shown a 0 t.label.evaluated t.below }
 
 -- the study with the marks that the readers show
 abbrev pub marked : BenchState → Study Mark
@@ -65,12 +65,12 @@ IsTallied p t = (all : List Value) × AreValuesAfter p (legal_list p) all × (t 
 
 abbrev pub AreTallied : Position → Forest NodeLabel → Type 0
 AreTallied p none = Unit {0}
-AreTallied p (more m l b r) = IsTallied (after p m) l.told.tally × AreTallied (after p m) b × AreTallied p r
+AreTallied p (more m l b r) = IsTallied (after p m) l.evaluated.tally × AreTallied (after p m) b × AreTallied p r
 
 -- The marks are those of annotating from scratch, and the evaluations from which they are computed are right.
 pub record IsKeptRight (k : BenchState) : Type 0 where
   pub marks : IsAnnotated (marked k)
-  pub root : IsTallied k.study.start.position k.study.tree.label.told.tally
+  pub root : IsTallied k.study.start.position k.study.tree.label.evaluated.tally
   pub tallies : AreTallied k.study.start.position k.study.tree.below
 
 -- Faults that add up: each node's are its own and those that its children count for it.
@@ -93,10 +93,10 @@ mark_of_new_node a d q v = record { value = v; on_move = Some (mark_by_label a d
 abbrev pub FaultsAddUp : Aim → ℕ → Evaluation → Forest NodeLabel → Type 0
 FaultsAddUp a d q none = Unit {0}
 FaultsAddUp a d q (more m l b r) =
-    (l.faults ≡ own_fault a d q l.told.value + faults_below (hero_moves a (d + 1)) b) × FaultsAddUp a (d + 1) l.told b × FaultsAddUp a d q r
+    (l.faults ≡ own_fault a d q l.evaluated.value + faults_below (hero_moves a (d + 1)) b) × FaultsAddUp a (d + 1) l.evaluated b × FaultsAddUp a d q r
 
 abbrev pub AllAddUp : Aim → Plain NodeLabel → Type 0
-AllAddUp a t = (t.label.faults ≡ faults_below (hero_moves a 0) t.below) × FaultsAddUp a 0 t.label.told t.below
+AllAddUp a t = (t.label.faults ≡ faults_below (hero_moves a 0) t.below) × FaultsAddUp a 0 t.label.evaluated t.below
 
 abbrev pub IsTag : Option (List ℕ) → Type 0
 IsTag None = Unit {0}

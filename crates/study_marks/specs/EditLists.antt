@@ -76,7 +76,7 @@ module _ {A : Type 0} where
   IsKeptAfter old (edits.Position start) new = Unit {0}
   IsKeptAfter old (edits.Shift start) new = Unit {0}
   IsKeptAfter old (edits.Stipulate stipulation) new = new ≡ old
-  IsKeptAfter old (edits.Insert steps m) new = (told : Evaluation) × (new ≡ with_child old steps m told)
+  IsKeptAfter old (edits.Insert steps m) new = (evaluated : Evaluation) × (new ≡ with_child old steps m evaluated)
   IsKeptAfter old (edits.Delete steps) new = new ≡ without old steps
   IsKeptAfter old (edits.Promote steps) new = new ≡ moved_up old steps
   IsKeptAfter old (edits.Tag name text) new = new ≡ old

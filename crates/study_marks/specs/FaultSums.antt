@@ -12,7 +12,7 @@ use Rattle.study_marks.specs.BenchState.{own_fault, faults_below, FaultsAddUp}
 abbrev pub evaluation_at : Evaluation → Forest NodeLabel → List ℕ → Evaluation
 evaluation_at q f [] = q
 evaluation_at q none (k ∷ ks) = q
-evaluation_at q (more m l b r) (zero ∷ ks) = evaluation_at l.told b ks
+evaluation_at q (more m l b r) (zero ∷ ks) = evaluation_at l.evaluated b ks
 evaluation_at q (more m l b r) (suc k ∷ ks) = evaluation_at q r (k ∷ ks)
 
 -- the faults that a child at place k with n faults counts for its parent; `hero`: the hero moves there
@@ -37,7 +37,7 @@ faults_after_change minus plus n = min (n + plus - minus) (2 ^ 32 - 1)
 
 -- the new label of a path's node at depth d, if the change counts from depth `from` on
 abbrev pub label_moved : ℕ → ℕ → ℕ → ℕ → NodeLabel → NodeLabel
-label_moved from minus plus d l = if nat_le from d then record { told = l.told; faults = faults_after_change minus plus l.faults } else l
+label_moved from minus plus d l = if nat_le from d then record { evaluated = l.evaluated; faults = faults_after_change minus plus l.faults } else l
 
 -- the faults of a node are right, except at the path's node: there `minus` is still counted and `plus` is not yet
 abbrev pub FaultAddsUp : ℕ → ℕ → List ℕ → ℕ → ℕ → Type 0
@@ -48,15 +48,15 @@ abbrev pub FaultsAddUpExceptOnPath : Aim → ℕ → Evaluation → Forest NodeL
 FaultsAddUpExceptOnPath a d q f [] minus plus = FaultsAddUp a d q f
 FaultsAddUpExceptOnPath a d q none (k ∷ ks) minus plus = Unit {0}
 FaultsAddUpExceptOnPath a d q (more m l b r) (zero ∷ ks) minus plus =
-    FaultAddsUp l.faults (own_fault a d q l.told.value + faults_below (hero_moves a (d + 1)) b) ks minus plus
-    × FaultsAddUpExceptOnPath a (d + 1) l.told b ks minus plus × FaultsAddUp a d q r
+    FaultAddsUp l.faults (own_fault a d q l.evaluated.value + faults_below (hero_moves a (d + 1)) b) ks minus plus
+    × FaultsAddUpExceptOnPath a (d + 1) l.evaluated b ks minus plus × FaultsAddUp a d q r
 FaultsAddUpExceptOnPath a d q (more m l b r) (suc k ∷ ks) minus plus =
-    (l.faults ≡ own_fault a d q l.told.value + faults_below (hero_moves a (d + 1)) b)
-    × FaultsAddUp a (d + 1) l.told b × FaultsAddUpExceptOnPath a d q r (k ∷ ks) minus plus
+    (l.faults ≡ own_fault a d q l.evaluated.value + faults_below (hero_moves a (d + 1)) b)
+    × FaultsAddUp a (d + 1) l.evaluated b × FaultsAddUpExceptOnPath a d q r (k ∷ ks) minus plus
 
 abbrev pub FaultsAreOffBy : Aim → Plain NodeLabel → List ℕ → ℕ → ℕ → Type 0
 FaultsAreOffBy a t ks minus plus =
-    FaultAddsUp t.label.faults (faults_below (hero_moves a 0) t.below) ks minus plus × FaultsAddUpExceptOnPath a 0 t.label.told t.below ks minus plus
+    FaultAddsUp t.label.faults (faults_below (hero_moves a 0) t.below) ks minus plus × FaultsAddUpExceptOnPath a 0 t.label.evaluated t.below ks minus plus
 
 -- the faults of a node, 0 if it does not exist
 abbrev pub faults_of : Option (Spot NodeLabel) → ℕ

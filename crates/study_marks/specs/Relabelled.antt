@@ -33,18 +33,18 @@ refreshed all a d n q none = none
 refreshed all a d n q (more m l b r) =
     more m
     (record {
-      told = evaluation_in all n l.told;
-      faults = own_fault a d q (evaluation_in all n l.told).value + faults_below
-          (hero_moves a (d + 1)) (refreshed all a (d + 1) (n + 1) (evaluation_in all n l.told) b);
+      evaluated = evaluation_in all n l.evaluated;
+      faults = own_fault a d q (evaluation_in all n l.evaluated).value + faults_below
+          (hero_moves a (d + 1)) (refreshed all a (d + 1) (n + 1) (evaluation_in all n l.evaluated) b);
     })
-    (refreshed all a (d + 1) (n + 1) (evaluation_in all n l.told) b) (refreshed all a d (n + 1 + nodes_in b) q r)
+    (refreshed all a (d + 1) (n + 1) (evaluation_in all n l.evaluated) b) (refreshed all a d (n + 1 + nodes_in b) q r)
 
 -- `refreshed`, as labels are written one after the other: a node begins with its own faults, and each child adds its count
 abbrev pub refreshing : List Evaluation → Aim → Pass NodeLabel
 refreshing all a = record {
-  begun = λ l. record { told = evaluation_in all 0 l.told; faults = 0 };
-  entered = λ d n q l. record { told = evaluation_in all n l.told; faults = own_fault a d q.told (evaluation_in all n l.told).value };
-  joined = λ d k q l. record { told = q.told; faults = min (q.faults + counted_faults (hero_moves a d) k l.faults) (2 ^ 32 - 1) };
+  begun = λ l. record { evaluated = evaluation_in all 0 l.evaluated; faults = 0 };
+  entered = λ d n q l. record { evaluated = evaluation_in all n l.evaluated; faults = own_fault a d q.evaluated (evaluation_in all n l.evaluated).value };
+  joined = λ d k q l. record { evaluated = q.evaluated; faults = min (q.faults + counted_faults (hero_moves a d) k l.faults) (2 ^ 32 - 1) };
 }
 
 -- the first k siblings
@@ -64,8 +64,8 @@ asked_each [] = []
 asked_each (p ∷ ps) = asked_at p ++ asked_each ps
 
 -- the evaluation of each of these positions
-abbrev pub AreToldOf : List Position → List Evaluation → Type 0
-AreToldOf [] [] = Unit {0}
-AreToldOf [] (t ∷ ts) = ⊥
-AreToldOf (p ∷ ps) [] = ⊥
-AreToldOf (p ∷ ps) (t ∷ ts) = IsEvaluationOf p t × AreToldOf ps ts
+abbrev pub AreEvaluationsOf : List Position → List Evaluation → Type 0
+AreEvaluationsOf [] [] = Unit {0}
+AreEvaluationsOf [] (t ∷ ts) = ⊥
+AreEvaluationsOf (p ∷ ps) [] = ⊥
+AreEvaluationsOf (p ∷ ps) (t ∷ ts) = IsEvaluationOf p t × AreEvaluationsOf ps ts

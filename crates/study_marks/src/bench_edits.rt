@@ -10,7 +10,7 @@ ghost use Rattle.study_tree.specs.Tree.{size_of};
 ghost use Rattle.study_marks.specs.Bench.{text_of};
 ghost use Rattle.study_marks.specs.Study.{plain_study, position_at, tag_index, IsPlayable};
 ghost use Rattle.study_tree.specs.Tree.{with_child, without, moved_up};
-ghost use Rattle.study_marks.specs.declared.node_label.Evaluation.{Evaluation as ATold};
+ghost use Rattle.study_marks.specs.declared.node_label.Evaluation.{Evaluation as AnEvaluation};
 ghost use Rattle.study_marks.specs.BenchState.{marked, evaluation_tree, IsKeptRight};
 ghost use Rattle.study_marks.specs.Queries.{asked_at, positions_asked, is_of_tables, AllHeld, IsOutside, HasAsked, failures_after, counted_up_by};
 ghost use Rattle.study_marks.specs.EditLists.{AreKeptAfter, IsShiftRefusal, IsStopped, TellsStop, questions_of, AreAccepted, labels_by, HasAskedBy};
@@ -74,13 +74,19 @@ impl<'a, A: Allocator> Bench<'a, A> {
             → V.source.may_fail values.old c f }
         ensures tables { (c : AClass) → V.source.held values.new c ≡ V.source.held values.old c }
     {
-        let told = evaluate(&start.position, values)?;
+        let evaluated = evaluate(&start.position, values)?;
         Ok(Bench {
             alloc,
             start,
             stipulation,
             tags: [None; 6],
-            tree: Tree::new(alloc, NodeLabel { told, faults: 0 }),
+            tree: Tree::new(
+                alloc,
+                NodeLabel {
+                    evaluated,
+                    faults: 0,
+                },
+            ),
         })
     }
 
@@ -112,8 +118,14 @@ impl<'a, A: Allocator> Bench<'a, A> {
         ensures tables { (c : AClass) → V.source.held values.new c ≡ V.source.held values.old c }
         ensures same { OnErr result (self.new ≡ self.old) }
     {
-        let told = evaluate(&start.position, values)?;
-        self.tree = Tree::new(self.alloc, NodeLabel { told, faults: 0 });
+        let evaluated = evaluate(&start.position, values)?;
+        self.tree = Tree::new(
+            self.alloc,
+            NodeLabel {
+                evaluated,
+                faults: 0,
+            },
+        );
         self.start = start;
         Ok(())
     }
@@ -183,9 +195,9 @@ impl<'a, A: Allocator> Bench<'a, A> {
         ensures edited { OnOk result
             (plain_study (marked self.new)
             ≡ with_insertion (plain_study (marked self.old)) path.now m) }
-        ensures kept { OnOk result ((told : ATold)
+        ensures kept { OnOk result ((evaluated : AnEvaluation)
             × (evaluation_tree self.new.study.tree
-            ≡ with_child (evaluation_tree self.old.study.tree) path.now m told)) }
+            ≡ with_child (evaluation_tree self.old.study.tree) path.now m evaluated)) }
         ensures place { IfOk result (λ k. k ≡ children_at (marked self.old).tree.below path.now) }
         ensures right { V.source.is_honest values.old → IsKeptRight self.old
             → OnOk result (IsKeptRight self.new) }
@@ -208,9 +220,9 @@ impl<'a, A: Allocator> Bench<'a, A> {
         if self.tree.reserve(steps).is_err() {
             return Err(Refusal::OutOfMemory);
         }
-        let told = evaluate(&played(&before, m), values)?;
+        let evaluated = evaluate(&played(&before, m), values)?;
         let aim = aim_of(&self.stipulation, self.start.position.to_move());
-        let place = add_node(&aim, &mut self.tree, steps, &m, told);
+        let place = add_node(&aim, &mut self.tree, steps, &m, evaluated);
         Ok(place)
     }
 

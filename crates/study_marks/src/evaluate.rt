@@ -10,7 +10,7 @@ ghost use Rattle.study_marks.specs.Queries.{asked_at, AreTablesHeld};
 ghost use Rattle.study_marks.specs.Evaluated.{IsEvaluationOf, IsProbeFaultOf, ProbeCount, failures_of};
 ghost use Rattle.study_values.specs.Values.{IsNotDamage};
 ghost use Rattle.study_values.specs.declared.fault.SourceFault.{SourceFault as ASourceFault};
-ghost use Rattle.study_marks.specs.Answers.{IsFirstFault, WereTold};
+ghost use Rattle.study_marks.specs.Answers.{IsFirstFault, WereEvaluated};
 
 use crate::move_outcomes::MoveOutcomes;
 use crate::node_label::Evaluation;
@@ -31,12 +31,12 @@ fn tally_moves<V: Values>(
     ensures game { V.source.is_honest values.old
         → OnOk result ((all : List AValue) × AreValuesAfter p.now moves.now all
         × (tally.new ≡ tallies_joined tally.old (tally_of all))) }
-    ensures untold { IfErr result
+    ensures no_value { IfErr result
         (IsProbeFaultOf (V.source.held values.old) (map (after p.now) moves.now)) }
     ensures held { OnOk result
         (AreTablesHeld (V.source.held values.old) (map (after p.now) moves.now)) }
-    ensures told { OnOk result
-        (WereTold V.source values.old (map (after p.now) moves.now) values.new) }
+    ensures evaluated { OnOk result
+        (WereEvaluated V.source values.old (map (after p.now) moves.now) values.new) }
     ensures no_damage { V.source.is_honest values.old → IfErr result IsNotDamage }
     ensures first { IfErr result (λ f.
         IsFirstFault V.source values.old (map (after p.now) moves.now) f values.new) }
@@ -68,9 +68,10 @@ fn tally_moves<V: Values>(
 pub fn evaluate<V: Values>(p: &Position, values: &mut V) -> Result<Evaluation, ProbeFault>
     // Many clauses: callers use each fact of the probes by itself.
     ensures game { V.source.is_honest values.old → IfOk result (IsEvaluationOf p.now) }
-    ensures untold { IfErr result (IsProbeFaultOf (V.source.held values.old) (asked_at p.now)) }
+    ensures no_value { IfErr result (IsProbeFaultOf (V.source.held values.old) (asked_at p.now)) }
     ensures held { OnOk result (AreTablesHeld (V.source.held values.old) (asked_at p.now)) }
-    ensures told { OnOk result (WereTold V.source values.old (asked_at p.now) values.new) }
+    ensures evaluated { OnOk result (WereEvaluated V.source values.old (asked_at p.now)
+        values.new) }
     ensures no_damage { V.source.is_honest values.old → IfErr result IsNotDamage }
     ensures first { IfErr result (λ f.
         IsFirstFault V.source values.old (asked_at p.now) f values.new) }

@@ -2,15 +2,15 @@
 ghost use Rattle.std.specs.Prelude.{◌≡◌, ◌+◌, ◌<◌, ◌≤◌, ◌++◌, ◌∷◌, [], List, OnOk, IfOk, IfErr, length, is_ok, vec_len, vec_capacity};
 ghost use Rattle.study_material.specs.declared.class.Class.{Class as AClass};
 ghost use Rattle.study_tree.specs.Tree.{plain_tree};
-ghost use Rattle.study_marks.specs.declared.node_label.Evaluation.{Evaluation as ATold};
+ghost use Rattle.study_marks.specs.declared.node_label.Evaluation.{Evaluation as AnEvaluation};
 ghost use Rattle.study_marks.specs.Study.{IsPlayable};
 ghost use Rattle.study_marks.specs.Queries.{asked_at, asked_below, AreTablesHeld, IsOutside, HasAsked, failures_after};
 ghost use Rattle.study_values.specs.Values.{IsNotDamage};
 ghost use Rattle.study_values.specs.declared.fault.SourceFault.{SourceFault as ASourceFault};
-ghost use Rattle.study_marks.specs.Answers.{IsUndamaged, WereTold, IsFirstFault, TellsFirstFault};
+ghost use Rattle.study_marks.specs.Answers.{IsUndamaged, WereEvaluated, IsFirstFault, TellsFirstFault};
 ghost use Rattle.study_marks.specs.Evaluated.{IsEvaluationOf, AllAreEvaluated, IsProbeFaultOf, ProbeCount, failures_of};
 ghost use Rattle.study_marks.specs.BenchState.{evaluation_tree};
-ghost use Rattle.study_marks.specs.Relabelled.{positions_in, asked_each, AreToldOf, reevaluated_tree};
+ghost use Rattle.study_marks.specs.Relabelled.{positions_in, asked_each, AreEvaluationsOf, reevaluated_tree};
 
 use crate::evaluate::evaluate;
 use crate::node_label::{Evaluation, NodeLabel};
@@ -83,11 +83,12 @@ fn evaluate_one<'a, A: Allocator, V: Values>(
     // Many clauses: callers use each fact of the probes by itself.
     requires room { vec_len all.old < vec_capacity all.old }
     ensures game { V.source.is_honest values.old
-        → OnOk result ((t : ATold) × IsEvaluationOf p.now t
+        → OnOk result ((t : AnEvaluation) × IsEvaluationOf p.now t
         × (all.new.items ≡ all.old.items ++ t ∷ [])) }
-    ensures untold { IfErr result (IsProbeFaultOf (V.source.held values.old) (asked_at p.now)) }
+    ensures no_value { IfErr result (IsProbeFaultOf (V.source.held values.old) (asked_at p.now)) }
     ensures held { OnOk result (AreTablesHeld (V.source.held values.old) (asked_at p.now)) }
-    ensures told { OnOk result (WereTold V.source values.old (asked_at p.now) values.new) }
+    ensures evaluated { OnOk result (WereEvaluated V.source values.old (asked_at p.now)
+        values.new) }
     ensures no_damage { V.source.is_honest values.old → IfErr result IsNotDamage }
     ensures first { IfErr result (λ f.
         IsFirstFault V.source values.old (asked_at p.now) f values.new) }
@@ -102,8 +103,8 @@ fn evaluate_one<'a, A: Allocator, V: Values>(
     ensures len { OnOk result (vec_len all.new ≡ vec_len all.old + 1) }
     ensures capacity { vec_capacity all.new ≡ vec_capacity all.old }
 {
-    let told = evaluate(p, values)?;
-    all.push_reserved(told);
+    let evaluated = evaluate(p, values)?;
+    all.push_reserved(evaluated);
     Ok(())
 }
 
@@ -116,9 +117,9 @@ fn evaluate_positions<'a, A: Allocator, V: Values>(
     // Many clauses: callers use each fact of the probes by itself.
     requires room { vec_len all.old + length positions.now ≤ vec_capacity all.old }
     ensures game { V.source.is_honest values.old
-        → OnOk result ((told : List ATold) × AreToldOf positions.now told
-        × (all.new.items ≡ all.old.items ++ told)) }
-    ensures untold { IfErr result
+        → OnOk result ((evaluated : List AnEvaluation) × AreEvaluationsOf positions.now evaluated
+        × (all.new.items ≡ all.old.items ++ evaluated)) }
+    ensures no_value { IfErr result
         (IsProbeFaultOf (V.source.held values.old) (asked_each positions.now)) }
     ensures held { OnOk result
         (AreTablesHeld (V.source.held values.old) (asked_each positions.now)) }

@@ -109,7 +109,8 @@ pub fn update_faults<'a, A: Allocator>(
 )
     requires found { IsTrue (has_spot (plain_tree tree.old) steps.now) }
     requires off { FaultsAreOffBy aim.now (plain_tree tree.old) steps.now minus plus }
-    ensures told { evaluation_tree (plain_tree tree.new) ≡ evaluation_tree (plain_tree tree.old) }
+    ensures evaluated { evaluation_tree (plain_tree tree.new) ≡ evaluation_tree
+        (plain_tree tree.old) }
     ensures right { AllAddUp aim.now (plain_tree tree.new) }
     ensures count { tree.new.relabelled ≡ counted_up_by (length steps.now + 1) tree.old.relabelled }
 {

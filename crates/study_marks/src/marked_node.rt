@@ -32,7 +32,10 @@ impl<'t, 'a, A: Allocator> Model for MarkedNode<'t, 'a, A> {
 
     ghost coded = { marked_code };
 
-    ghost view = { λ n. record { label = n.mark; below = shown n.aim n.depth n.branch.label.told n.branch.below } };
+    ghost view = { λ n. record {
+      label = n.mark;
+      below = shown n.aim n.depth n.branch.label.evaluated n.branch.below;
+    } };
 
     ghost invariant = { λ n. (n.depth ≤ 256) × IsWithin (256 - n.depth) n.branch.below };
 }
@@ -82,8 +85,8 @@ impl<'t, 'a, A: Allocator> MarkedNode<'t, 'a, A> {
             None => None,
             Some(child) => {
                 let label = child.node.label();
-                let before = &self.branch.label().told;
-                let on_move = mark_of_move(&self.aim, self.depth, before, label.told.value);
+                let before = &self.branch.label().evaluated;
+                let on_move = mark_of_move(&self.aim, self.depth, before, label.evaluated.value);
                 Some(MarkedChild {
                     played: child.played,
                     node: MarkedNode {

@@ -27,7 +27,7 @@ impl Evaluation {
 /// The label of a node: its evaluation and its faults.
 #[derive(Drop)]
 pub struct NodeLabel {
-    pub told: Evaluation,
+    pub evaluated: Evaluation,
     pub faults: u32,
 }
 
@@ -35,13 +35,13 @@ impl NodeLabel {
     /// The mark that is shown, with the mark of the move that led here.
     pub fn mark(&self, on_move: Option<MoveMark>) -> Mark
         ensures { result ≡ record {
-          value = self.now.told.value;
+          value = self.now.evaluated.value;
           on_move = on_move;
           faults = self.now.faults;
         } }
     {
         Mark {
-            value: self.told.value,
+            value: self.evaluated.value,
             on_move,
             faults: self.faults,
         }

@@ -66,13 +66,13 @@ impl<'r> Rewriting<NodeLabel> for RelabelPass<'r> {
     ghost pass = { λ s. refreshing s.all.now s.aim.now };
 
     fn begin(&self, label: &mut NodeLabel) {
-        set_evaluation(self.all, 0, &mut label.told);
+        set_evaluation(self.all, 0, &mut label.evaluated);
         label.faults = 0;
     }
 
     fn enter(&self, depth: usize, number: usize, parent: &NodeLabel, label: &mut NodeLabel) {
-        set_evaluation(self.all, number, &mut label.told);
-        label.faults = own_faults(self.aim, depth, &parent.told, label.told.value);
+        set_evaluation(self.all, number, &mut label.evaluated);
+        label.faults = own_faults(self.aim, depth, &parent.evaluated, label.evaluated.value);
     }
 
     fn join(&self, depth: usize, place: u16, parent: &mut NodeLabel, child: &NodeLabel) {
@@ -82,11 +82,11 @@ impl<'r> Rewriting<NodeLabel> for RelabelPass<'r> {
 }
 
 /// Writes the list's evaluation of the node with this number; the present one stays if the list is shorter.
-fn set_evaluation(all: &[Evaluation], number: usize, told: &mut Evaluation)
-    ensures { told.new ≡ evaluation_in all.now number told.old }
+fn set_evaluation(all: &[Evaluation], number: usize, evaluated: &mut Evaluation)
+    ensures { evaluated.new ≡ evaluation_in all.now number evaluated.old }
 {
     if number < all.len() {
-        *told = all[number].copied();
+        *evaluated = all[number].copied();
     }
 }
 
@@ -96,7 +96,7 @@ pub fn relabel_all<'a, A: Allocator>(
     tree: &mut Tree<'a, NodeLabel, A>,
     all: &[Evaluation],
 )
-    ensures told { evaluation_tree (plain_tree tree.new)
+    ensures evaluated { evaluation_tree (plain_tree tree.new)
         ≡ reevaluated_tree all.now (evaluation_tree (plain_tree tree.old)) }
     ensures right { AllAddUp aim.now (plain_tree tree.new) }
     ensures count { tree.new.relabelled

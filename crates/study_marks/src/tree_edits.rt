@@ -19,22 +19,22 @@ pub fn add_node<'a, A: Allocator>(
     tree: &mut Tree<'a, NodeLabel, A>,
     steps: &[u16],
     m: &Move,
-    told: Evaluation,
+    evaluated: Evaluation,
 ) -> u16
     requires free { child_refusal (plain_tree tree.old) steps.now ≡ None }
     requires room { 0 < spare_of tree.old steps.now }
     requires right { AllAddUp aim.now (plain_tree tree.old) }
     ensures added { evaluation_tree (plain_tree tree.new)
-        ≡ with_child (evaluation_tree (plain_tree tree.old)) steps.now m.now told }
+        ≡ with_child (evaluation_tree (plain_tree tree.old)) steps.now m.now evaluated }
     ensures right { AllAddUp aim.now (plain_tree tree.new) }
     ensures place { result ≡ children_at (plain_tree tree.old).below steps.now }
     ensures count { tree.new.relabelled ≡ counted_up_by (length steps.now + 2) tree.old.relabelled }
 {
     let faults = match tree.node(steps) {
         None => unreachable!(),
-        Some(node) => own_faults(aim, steps.len(), &node.label.told, told.value),
+        Some(node) => own_faults(aim, steps.len(), &node.label.evaluated, evaluated.value),
     };
-    match tree.add_last(steps, *m, NodeLabel { told, faults }) {
+    match tree.add_last(steps, *m, NodeLabel { evaluated, faults }) {
         Err(_) => unreachable!(),
         Ok(place) => {
             let plus = counted_faults(aim, steps.len(), place, faults);

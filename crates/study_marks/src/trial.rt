@@ -89,17 +89,17 @@ impl<'a, A: Allocator> Bench<'a, A> {
         requires found { IsTrue (has_spot self.now.study.tree steps.now) }
         ensures { (s : Spot ALabel) → spot_at self.now.study.tree steps.now ≡ Some s
             → result ≡ mark_of_new_node (aim_of self.now.study)
-            (length steps.now) s.label.told after }
+            (length steps.now) s.label.evaluated after }
     {
         let aim = aim_of(&self.stipulation, self.start.position.to_move());
         match self.tree.node(steps) {
             None => unreachable!(),
             Some(node) => {
-                let told = &node.label.told;
+                let evaluated = &node.label.evaluated;
                 Mark {
                     value: after,
-                    on_move: Some(mark_of_move(&aim, steps.len(), told, after)),
-                    faults: own_faults(&aim, steps.len(), told, after),
+                    on_move: Some(mark_of_move(&aim, steps.len(), evaluated, after)),
+                    faults: own_faults(&aim, steps.len(), evaluated, after),
                 }
             }
         }

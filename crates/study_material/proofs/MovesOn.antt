@@ -20,7 +20,8 @@ use Rattle.study_board.proofs.Lists.{not_true}
 use Rattle.study_board.proofs.Valid.{IsFaultless-from_first}
 use Rattle.study_board.proofs.Ascending.{IsAscending-filter}
 use Rattle.study_moves.specs.declared.moves.Move.{Move}
-use Rattle.study_moves.specs.Rules.{is_en_passant, is_square, has_side, survives, moved, is_legal, after, is_promotion_choice, is_promotion_piece, reaches_last_rank, last_rank}
+use Rattle.study_moves.specs.Rules.{is_en_passant, is_square, has_side, survives, moved, is_legal, after, is_promotion_choice, is_promotion_piece}
+use Rattle.study_moves.specs.Rules.{reaches_last_rank, last_rank}
 use Rattle.study_moves.specs.Alike.{Leads}
 use Rattle.study_moves.proofs.MenOfList.{IsAmong, none_among, IsAmong-filter, found_among}
 use Rattle.study_moves.proofs.NoMoveBetween.{HasMover-from_is_legal}

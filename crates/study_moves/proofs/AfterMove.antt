@@ -328,7 +328,8 @@ module _ (p : Position) (man : Man) (m : Move) (h : IsMoveFrom p man m) where
           none_among is_end_pawn p.men k faultless.pawns r.0
 
   -- a square that is empty after the move
-  empty_after : (y : ℕ) → (m.target ≡ y → ⊥) → ((k : Man) → IsAmong k p.men → survives p.passed man m.target k ≡ true → k.at ≡ y → ⊥) → is_empty all_after y ≡ true
+  empty_after : (y : ℕ) → (m.target ≡ y → ⊥) → ((k : Man) → IsAmong k p.men → survives p.passed man m.target k ≡ true → k.at ≡ y → ⊥)
+      → is_empty all_after y ≡ true
   unfolding is_occupied
   empty_after y away others = not_from_false _ (list_any-none (λ k. k.at == y) all_after here)
     where

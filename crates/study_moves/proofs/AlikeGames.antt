@@ -19,7 +19,8 @@ HasSameGame-alike p q h =
     let turned : HasSameGame (without_idle_passed_square p) (without_idle_passed_square q) =
     subst (λ (x : Position). HasSameGame (without_idle_passed_square p) x) (sym h.images.is)
     (HasSameGame-image h.images.by (without_idle_passed_square p) t) in
-    HasSameGame-joined p (without_idle_passed_square p) q b.game (HasSameGame-joined (without_idle_passed_square p) (without_idle_passed_square q) q turned (HasSameGame-back q (without_idle_passed_square q) c.game))
+    HasSameGame-joined p (without_idle_passed_square p) q b.game (HasSameGame-joined (without_idle_passed_square p) (without_idle_passed_square q) q turned
+    (HasSameGame-back q (without_idle_passed_square q) c.game))
 
 pub AgreesAlike-from : (p q : Position) → AreAlike p q → AgreesAlike p q
 AgreesAlike-from p q h =

@@ -68,7 +68,12 @@ admits_bare s p = by_live (has_legal_en_passant p)
     by_live false = refl
 
 pub AreAlike-back : (p q : Position) → AreAlike p q → AreAlike q p
-AreAlike-back p q h = record { left = h.right; right = h.left; images = IsImage-sym (without_idle_passed_square p) (without_idle_passed_square q) (AgreesWithBare-from_valid p h.left).valid h.images }
+AreAlike-back p q h = record {
+  left = h.right;
+  right = h.left;
+  images = IsImage-sym (without_idle_passed_square p) (without_idle_passed_square q)
+      (AgreesWithBare-from_valid p h.left).valid h.images;
+}
 
 pub AreAlike-mated : (p q : Position) → AreAlike p q → IsMate p → IsMate q
 AreAlike-mated p q h mate =
@@ -88,7 +93,8 @@ module _ (valid_after : (p : Position) (m : Move) → IsValid p → is_legal p m
       let t = IsTurnable-from_valid s (without_idle_passed_square p) b.valid h.images.admitted in
       let lb : IsLegal (without_idle_passed_square p) m = b.legal m ∙ l.1 in
       let m' = image_move s m in
-      let lq : IsLegal (without_idle_passed_square q) m' = subst (λ (x : Position). IsLegal x m') (sym h.images.is) (image_legal s (without_idle_passed_square p) t m lb) in
+      let lq : IsLegal (without_idle_passed_square q) m' = subst (λ (x : Position). IsLegal x m') (sym h.images.is)
+      (image_legal s (without_idle_passed_square p) t m lb) in
       let l' : IsLegal q m' = sym (c.legal m') ∙ lq in
       let same : after q m' ≡ image s p' =
       sym (c.after m' l') ∙ ap (λ x. after x m') h.images.is ∙ after-turned s (without_idle_passed_square p) t m lb ∙ ap (image s) (b.after m l.1 ∙ l.2) in
@@ -100,6 +106,11 @@ module _ (valid_after : (p : Position) (m : Move) → IsValid p → is_legal p m
         record {
           left = v;
           right = w;
-          images = record { by = s; admitted = admits_bare s p' ∙ a; is = ap without_idle_passed_square same ∙ bare_image s p' (IsTurnable-from_valid s p' v a) };
+          images = record {
+            by = s;
+            admitted = admits_bare s p' ∙ a;
+            is = ap without_idle_passed_square same
+                ∙ bare_image s p' (IsTurnable-from_valid s p' v a);
+          };
         },
       )

@@ -88,7 +88,8 @@ module _ (q : Option ℕ) (man : Man) (x : ℕ) (no : is_en_passant q man x ≡ 
 module _ (p : Position) (man : Man) (m : Move) (no : is_en_passant p.passed man m.target ≡ false) where
   pub men_after_bare : men_after (without_passed p) man m ≡ men_after p man m
   unfolding men_after
-  men_after_bare = ap (placed (moved man m)) (filter_agree (survives None man m.target) (survives p.passed man m.target) (stays_bare p.passed man m.target no) p.men)
+  men_after_bare = ap (placed (moved man m)) (filter_agree (survives None man m.target) (survives p.passed man m.target) (stays_bare p.passed man m.target no)
+      p.men)
 
   pub is_legal_for_bare : is_legal_for (without_passed p) man m ≡ is_legal_for p man m
   unfolding is_legal_for is_pseudo_legal
@@ -110,7 +111,8 @@ not_ahead side n a x e = by_side side (flip (file_of x) (file_of a) e)
     by_side White f = rw f
     by_side Black f = rw f
 
-pub goes_without : (men : List Man) (q : Option ℕ) (man : Man) (x : ℕ) → is_en_passant q man x ≡ true → is_empty men x ≡ true → reaches_target men None man x ≡ false
+pub goes_without : (men : List Man) (q : Option ℕ) (man : Man) (x : ℕ) → is_en_passant q man x ≡ true → is_empty men x ≡ true
+    → reaches_target men None man x ≡ false
 unfolding reaches_target is_en_passant pawn_steps pawn_double_steps pawn_takes
 goes_without men q man x e empty =
     let a = and_parts (is_pawn man && not (file_of man.at == file_of x)) (is_square q x) e in

@@ -15,7 +15,8 @@ use Rattle.study_board.specs.declared.men.Man.{Man}
 use Rattle.study_board.specs.Position.{Position, IsValid, is_empty, has_one_king}
 use Rattle.study_board.proofs.Lists.{count_by-cons}
 use Rattle.study_board.proofs.Valid.{IsFaultless-from_first}
-use Rattle.study_moves.specs.Rules.{reaches_target, reaches_last_rank, has_side, is_square, half_way, is_ahead, starting_rank, pawn_steps, pawn_double_steps, pawn_takes}
+use Rattle.study_moves.specs.Rules.{reaches_target, reaches_last_rank, has_side, is_square, half_way, is_ahead, starting_rank, pawn_steps}
+use Rattle.study_moves.specs.Rules.{pawn_double_steps, pawn_takes}
 use Rattle.study_moves.specs.MoveCount.{most_moves}
 
 -- on some board the man can go to x, by the moves of its kind
@@ -41,7 +42,8 @@ steps_or_takes false false b c d e true g k = refl
 steps_or_takes false false b c d e false g k = k
 
 can_reach-of_kind : (men : List Man) (q : Option ℕ) (side : Side) (k : Kind) (a x : ℕ)
-    → cond (same_kind k Pawn) ((pawn_steps men side a x || pawn_double_steps men side a x) || pawn_takes men q side a x) (not (a == x) && reaches men side k a x) ≡ true
+    → cond (same_kind k Pawn) ((pawn_steps men side a x || pawn_double_steps men side a x) || pawn_takes men q side a x) (not (a == x)
+    && reaches men side k a x) ≡ true
     → can_reach side k a x ≡ true
 unfolding reaches can_reach pawn_steps pawn_double_steps pawn_takes
 can_reach-of_kind men q side King a x e = e

@@ -36,16 +36,16 @@ NoneMoves-more men side ms i d b before here m c =
     ]
 
 -- no square is passed if the test says so
-pub no_passed : (passed told : Option ℕ) (b : Bool) → told ≡ passed → b ≡ is_some told → b ≡ false → passed ≡ None
-no_passed passed told b same is e = sym same ∙ by_cases told (sym is ∙ e)
+pub no_passed : (passed reported : Option ℕ) (b : Bool) → reported ≡ passed → b ≡ is_some reported → b ≡ false → passed ≡ None
+no_passed passed reported b same is e = sym same ∙ by_cases reported (sym is ∙ e)
   where
     by_cases : (o : Option ℕ) → is_some o ≡ false → o ≡ None
     by_cases None e = refl
     by_cases (Some x) e = absurd (false≢true (sym e))
 
 module _ (q : Position) (men : List Man) (side : Side) (valid : IsValid q) (none : q.passed ≡ None) (em : men ≡ q.men) (es : side ≡ q.to_move) where
-  safe_targets_told : HasSafeTargets q men
-  safe_targets_told =
+  safe_targets_found : HasSafeTargets q men
+  safe_targets_found =
       let dead : has_legal_en_passant q ≡ false = ap (λ (o : Option ℕ). is_capturable_en_passant q o) none in
       (men-tell-moves q men valid (subst (λ (zs : List Man). IsPermutation zs q.men) (sym em) (IsPermutation-refl q.men))).0 dead
 
@@ -56,7 +56,7 @@ module _ (q : Position) (men : List Man) (side : Side) (valid : IsValid q) (none
       let choice : Option Kind = chosen (reaches_last_rank man x) in
       let m : Move = record { origin = man.at; target = x; promoted = choice } in (
         m,
-        safe_targets_told.legal man m among refl on
+        safe_targets_found.legal man m among refl on
             ∙ rw (
               ap (λ (t : Side). same_side man.side t) (sym es) ∙ his,
               ap (λ (t : Side). is_safe_target men t man x) (sym es) ∙ safe,
@@ -74,9 +74,9 @@ module _ (q : Position) (men : List Man) (side : Side) (valid : IsValid q) (none
   -- if no man has one, there is no legal move
   pub none_legal : NoneMoves men side men → HasNoMove q
   none_legal idle m legal =
-      let t = safe_targets_told.mover m legal in
+      let t = safe_targets_found.mover m legal in
       let on = t.3 in
-      let is = and_parts _ _ (sym (safe_targets_told.legal t.0 m t.1 t.2 on) ∙ legal) in
+      let is = and_parts _ _ (sym (safe_targets_found.legal t.0 m t.1 t.2 on) ∙ legal) in
       let own = and_parts _ _ is.0 in
       false≢true
       (sym (idle t.0 t.1 (ap (λ (r : Side). same_side t.0.side r) es ∙ own.0) m.target on)

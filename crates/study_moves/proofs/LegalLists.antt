@@ -126,6 +126,6 @@ is_mate_is p valid =
     ((λ e. let a = and_parts (in_check p.men p.to_move) (length (legal_list p) == 0) e in (a.0, none.0 a.1)), λ m. and_from _ _ m.0 (none.1 m.1))
 
 -- a test for mate
-pub mate_told : (p : Position) (b : Bool) → IsValid p → IsTrue b ↔ IsMate p → b ≡ is_mate p
-mate_told p true valid h = sym ((is_mate_is p valid).1 (h.0 refl))
-mate_told p false valid h = sym (false_from_ne_true (is_mate p) (λ e. false≢true (h.1 ((is_mate_is p valid).0 e))))
+pub mate_tested : (p : Position) (b : Bool) → IsValid p → IsTrue b ↔ IsMate p → b ≡ is_mate p
+mate_tested p true valid h = sym ((is_mate_is p valid).1 (h.0 refl))
+mate_tested p false valid h = sym (false_from_ne_true (is_mate p) (λ e. false≢true (h.1 ((is_mate_is p valid).0 e))))

@@ -258,7 +258,8 @@ module _ (q : Position) (by : Move) (p : Position) (valid : IsValid q) (e : Lead
 
   came_now : is_unmove_origin q.men q.to_move then man.at ≡ true
   came_now =
-      let pseudo_targets : comes q.men then man.at ≡ true = coming q.men then man.at movable_back goes_on (inside_among p.men man (faultless p e.valid).pawns found.0) in
+      let pseudo_targets : comes q.men then man.at ≡ true = coming q.men then man.at movable_back goes_on
+      (inside_among p.men man (faultless p e.valid).pawns found.0) in
       let safe : was_check q.men q.to_move then man.at ≡ false =
       sym (in_check_before q.men then man.at free_now q.to_move his_now) ∙ rw (men_then, ← side_now) (faultless p e.valid).safe in
       rw (pseudo_targets, safe) refl

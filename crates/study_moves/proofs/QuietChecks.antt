@@ -72,10 +72,12 @@ module _ (men : List Man) (man : Man) (a : ℕ) (free : is_occupied men a ≡ fa
       let end : strictly_between a a k ≡ false = between-both a a k ∙ not_at_end k a in
       bears_then z k ∙ rw (end, no_line (is_slider man.kind)) (and_true (bears_past men man.at z k))
 
-  others_attack : (k : ℕ) → list_any (λ m. same_side m.side (other_side side) && attacks_square (z ∷ ys) m k) ys ≡ threatened_past men (other_side side) man.at k a
+  others_attack : (k : ℕ) → list_any (λ m. same_side m.side (other_side side) && attacks_square (z ∷ ys) m k) ys ≡ threatened_past men (other_side side)
+      man.at k a
   others_attack k =
       filter_any (λ m. same_side m.side (other_side side) && attacks_square (z ∷ ys) m k) (survives None man a) men
-      ∙ list_any_same (λ m. survives None man a m && (same_side m.side (other_side side) && attacks_square (z ∷ ys) m k)) (threatens men (other_side side) man.at k a)
+      ∙ list_any_same (λ m. survives None man a m && (same_side m.side (other_side side) && attacks_square (z ∷ ys) m k))
+      (threatens men (other_side side) man.at k a)
       (λ m. rw (stays_plain man a m, bears_then m k)
       (shuffle (not (m.at == man.at)) (not (m.at == a)) (same_side m.side (other_side side))
       (bears_past men man.at m k) (not (is_slider m.kind && strictly_between m.at a k)))) men

@@ -13,7 +13,8 @@ use Rattle.study_board.specs.Position.{is_empty, is_end_pawn}
 use Rattle.study_board.specs.Sets.{reaches_if, is_blocked_past}
 use Rattle.study_board.proofs.MenInOrder.{IsPermutation-placed}
 use Rattle.study_board.proofs.Faults.{list_any_same, is_blocked_same}
-use Rattle.study_moves.specs.Rules.{is_ahead, starting_rank, half_way, pawn_steps, pawn_double_steps, pawn_takes, reaches_target, survives, reaches_last_rank, last_rank}
+use Rattle.study_moves.specs.Rules.{is_ahead, starting_rank, half_way, pawn_steps, pawn_double_steps, pawn_takes, reaches_target, survives}
+use Rattle.study_moves.specs.Rules.{reaches_last_rank, last_rank}
 use Rattle.study_moves.specs.Unmoves.{set_back, men_before, first_rank, pawn_comes, comes}
 use Rattle.study_moves.proofs.SafeTargets.{none_passed}
 use Rattle.study_moves.proofs.BearsBothWays.{between-both, reaches-both, eqb-both}

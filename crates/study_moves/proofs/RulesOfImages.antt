@@ -121,7 +121,8 @@ not_two-from_capture White a x e t = let r = eqb_then (rank_of x) (rank_of a + 1
 not_two-from_capture Black a x e t = let r = eqb_then (rank_of x + 1) (rank_of a) e in omega arith
 
 -- a pawn that goes two ranks goes along its file
-pub IsDouble-from_goes : (men : List Man) (q : Option ℕ) (m : Man) (x : ℕ) → reaches_target men q m x ≡ true → is_pawn m ≡ true → ranks_apart m.at x ≡ 2 → IsDouble m.at x
+pub IsDouble-from_goes : (men : List Man) (q : Option ℕ) (m : Man) (x : ℕ) → reaches_target men q m x ≡ true → is_pawn m ≡ true → ranks_apart m.at x ≡ 2
+    → IsDouble m.at x
 unfolding reaches_target pawn_steps pawn_double_steps pawn_takes pawn_captures
 IsDouble-from_goes men q m x g k t =
     let e : (pawn_steps men m.side m.at x || pawn_double_steps men m.side m.at x || pawn_takes men q m.side m.at x) ≡ true = rw k at g in

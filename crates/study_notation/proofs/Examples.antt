@@ -15,11 +15,13 @@ use Rattle.study_text.specs.Words.{words}
 use Rattle.study_notation.specs.Fen.{fields_of, squares_of, is_rank, placement, placement_fault, position_of, count_of, start_of}
 use Rattle.study_notation.specs.FenSpelling.{rank_field, ranks_text, placement_text}
 use Rattle.study_moves.specs.declared.moves.Move.{Move}
-use Rattle.study_moves.specs.Rules.{is_legal, is_legal_for, is_pseudo_legal, reaches_target, has_side, men_after, survives, is_en_passant, pawn_steps, pawn_double_steps, pawn_takes}
+use Rattle.study_moves.specs.Rules.{is_legal, is_legal_for, is_pseudo_legal, reaches_target, has_side, men_after, survives, is_en_passant, pawn_steps}
+use Rattle.study_moves.specs.Rules.{pawn_double_steps, pawn_takes}
 use Rattle.study_notation.specs.San.{san_text}
 use Rattle.study_moves.specs.LegalList.{is_capture}
 use Rattle.study_notation.specs.SanSpelling.{is_rival, has_rival, has_file_rival, gives_file, gives_rank, san_for}
-use Rattle.study_notation.specs.SanParts.{kind_at, file_at, rank_at, takes_at, promotion_piece, promotion_piece_at, promotion_at, squares_at, san_of, is_castling}
+use Rattle.study_notation.specs.SanParts.{kind_at, file_at, rank_at, takes_at, promotion_piece, promotion_piece_at, promotion_at, squares_at, san_of}
+use Rattle.study_notation.specs.SanParts.{is_castling}
 
 abbrev man : Side → Kind → ℕ → Man
 man s k a = record { side = s; kind = k; at = a }

@@ -25,7 +25,7 @@ pub picked_legal : (p : Position) (s : San) (ms xs : List Move) (r : Result Move
     → xs ≡ legal_list p → r ≡ picked (filter (matches p s) ms) → IfOk r (λ m. is_legal p m ≡ true)
 picked_legal p s ms xs r e h k =
     let all = filter (matches p s) (legal_list p) in
-    let told : r ≡ picked all = k ∙ ap (λ (l : List Move). picked (filter (matches p s) l)) (e ∙ h) in
-    subst (λ (x : Result Move SanFault). IfOk x (λ m. is_legal p m ≡ true)) (sym told)
+    let reported : r ≡ picked all = k ∙ ap (λ (l : List Move). picked (filter (matches p s) l)) (e ∙ h) in
+    subst (λ (x : Result Move SanFault). IfOk x (λ m. is_legal p m ≡ true)) (sym reported)
     (IfOk-weaker (λ m. IsIn m all) (λ m. is_legal p m ≡ true) (picked all)
     (λ m i. is_legal-in p m (IsIn-filter (matches p s) (legal_list p) m i).0) (picked_in all))

@@ -29,7 +29,8 @@ officer_chosen b None e = tt
 officer_chosen true (Some k) e = e
 officer_chosen false (Some k) e = absurd (false≢true e)
 
-fits_for : (p : Position) (man : Man) (m : Move) → man.at < 64 → m.target < 64 → is_promotion_choice (reaches_last_rank man m.target) m.promoted ≡ true → Fits (san_for p man m)
+fits_for : (p : Position) (man : Man) (m : Move) → man.at < 64 → m.target < 64 → is_promotion_choice (reaches_last_rank man m.target) m.promoted ≡ true
+    → Fits (san_for p man m)
 unfolding san_for
 fits_for p man m at target choice = record {
   file = some_below (gives_file p man m.target) (file_of man.at) 8 (omega arith);

@@ -41,13 +41,13 @@ unfolding placement
 IsAscending-placement text men e =
     subst (λ (ms : List Man). IsAscending ms) (some_where _ _ _ e) (IsAscending-men_from 0 (flat_map squares (reverse (slice_split (λ b. b == 47) text))))
 
-abbrev pub told : Option PositionFault → Option FenFault
-told None = None
-told (Some fault) = fen_fault_of_men fault
+abbrev pub reported : Option PositionFault → Option FenFault
+reported None = None
+reported (Some fault) = fen_fault_of_men fault
 
-pub placement_fault-told : (men : List Man) → IsAscending men → placement_fault men ≡ told (first_fault men White None)
+pub placement_fault-reported : (men : List Man) → IsAscending men → placement_fault men ≡ reported (first_fault men White None)
 unfolding placement_fault first_fault
-placement_fault-told men h =
+placement_fault-reported men h =
     elim (cases_Bool (nat_lt 4 (length men))) [
       | inl many ↦ rw many refl
       | inr few ↦ rw (few, has_square_twice-ascending men h) (elim (cases_Bool (not (has_one_king men White && has_one_king men Black))) [
@@ -83,41 +83,41 @@ ascending_same xs ys h k same =
     same_list (λ m. m.at) 0 0 xs ys (AscendsFrom-ascending xs h) (AscendsFrom-ascending ys k)
     (in_permuted xs ys same) (in_permuted ys xs (IsPermutation-sym xs ys same))
 
-not_told : {F : Type 0} (b : Bool) (f : F) (r : Option F) → cond b (Some f) r ≡ None → (b ≡ false) × (r ≡ None)
-not_told true f r e = cc
-not_told false f r e = (refl, e)
+not_reported : {F : Type 0} (b : Bool) (f : F) (r : Option F) → cond b (Some f) r ≡ None → (b ≡ false) × (r ≡ None)
+not_reported true f r e = cc
+not_reported false f r e = (refl, e)
 
 -- men without a fault of their own, a side to move and a passed square
 pub faultless_but_passed : (men : List Man) (s : Side) (q : Option ℕ) → IsAscending men → placement_fault men ≡ None → in_check men (other_side s) ≡ false
     → first_fault men s q ≡ cond (not (passed_possible men s q)) (Some EnPassantImpossible) None
 unfolding placement_fault first_fault
 faultless_but_passed men s q h none safe =
-    let a = not_told _ _ _ none in
-    let b = not_told _ _ _ a.1 in
-    let c = not_told _ _ _ b.1 in
+    let a = not_reported _ _ _ none in
+    let b = not_reported _ _ _ a.1 in
+    let c = not_reported _ _ _ b.1 in
     let few : nat_lt 4 (length men) ≡ false = a.0 in
     let kings : not (has_one_king men White && has_one_king men Black) ≡ false = b.0 in
     let pawns : has_end_pawn men ≡ false = c.0 in
     rw (few, has_square_twice-ascending men h, kings, pawns, safe) refl
 
-pub position_told : (men : List Man) (s : Side) (q : Option ℕ) (r : Result Position PositionFault) → IsAscending men
+pub position_decoded : (men : List Man) (s : Side) (q : Option ℕ) (r : Result Position PositionFault) → IsAscending men
     → placement_fault men ≡ None → in_check men (other_side s) ≡ false
     → IfErr r (λ e. first_fault men s q ≡ Some e) → IfOk r (λ p. IsPermutation men p.men)
     → IfOk r (λ p. p.to_move ≡ s) → IfOk r (λ p. p.passed ≡ q) → IfOk r (λ p. IsValid p)
     → result_ok r ≡ position_of men s q
 unfolding position_of
-position_told men s q (Ok p) h none safe fault same side passed valid =
+position_decoded men s q (Ok p) h none safe fault same side passed valid =
     let e = ascending_same men p.men h valid.ordered same in
     let w : first_fault p.men p.to_move p.passed ≡ None = valid.faultless in
     let v : first_fault men s q ≡ None = rw (e, ← side, ← passed) w in
     let possible : passed_possible men s q ≡ true = elim (cases_Bool (passed_possible men s q)) [
       | inl t ↦ t
-      | inr f ↦ let told : first_fault men s q ≡ Some EnPassantImpossible =
+      | inr f ↦ let reported : first_fault men s q ≡ Some EnPassantImpossible =
           faultless_but_passed men s q h none safe ∙ rw f refl in absurd (let no : ⊥ = cc in no)
     ] in
     let made : Some p ≡ Some (record { men = men; to_move = s; passed = q }) = rw (e, ← side, ← passed) refl in
     rw possible made
-position_told men s q (Err f) h none safe fault same side passed valid = elim (cases_Bool (passed_possible men s q)) [
-  | inl t ↦ let told : first_fault men s q ≡ None = faultless_but_passed men s q h none safe ∙ rw t refl in absurd (let no : ⊥ = cc in no)
+position_decoded men s q (Err f) h none safe fault same side passed valid = elim (cases_Bool (passed_possible men s q)) [
+  | inl t ↦ let reported : first_fault men s q ≡ None = faultless_but_passed men s q h none safe ∙ rw t refl in absurd (let no : ⊥ = cc in no)
   | inr n ↦ rw n refl
 ]

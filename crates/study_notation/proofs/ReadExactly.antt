@@ -27,17 +27,17 @@ pub record Tells (r : Result Move SanFault) (san : Type 0) (M : Move → Type 0)
 differ : (lo : ℕ) (m n : Move) (ms : List Move) → AscendsFrom move_place lo (m ∷ n ∷ ms) → m ≡ n → ⊥
 differ lo m n ms h e = let lt = h.1.0 in let same : move_place m ≡ move_place n = ap move_place e in absurd (omega arith)
 
-told_by_list : (ms : List Move) (san : Type 0) (M : Move → Type 0) (castling : Bool) → san
+reported_by_list : (ms : List Move) (san : Type 0) (M : Move → Type 0) (castling : Bool) → san
     → AscendsFrom move_place 0 ms → ((m : Move) → M m → IsIn m ms) → ((m : Move) → IsIn m ms → M m)
     → Tells (picked ms) san M castling
-told_by_list [] san M castling s h into out = record {
+reported_by_list [] san M castling s h into out = record {
   one = λ m. (λ e. absurd (let no : ⊥ = cc in no), λ a. absurd (into m a.0));
   none = (λ _. (s, into), λ _. refl);
   more = (λ e. absurd (let no : ⊥ = cc in no), λ a. absurd (into a.0 a.2));
   left_out = (λ e. absurd (let no : ⊥ = cc in no), λ a. absurd (a.0 s));
   not_san = (λ e. absurd (let no : ⊥ = cc in no), λ a. absurd (a.0 s));
 }
-told_by_list (x ∷ []) san M castling s h into out = record {
+reported_by_list (x ∷ []) san M castling s h into out = record {
   one = λ m. (
     λ e.
         let same : x ≡ m = cc in
@@ -53,7 +53,7 @@ told_by_list (x ∷ []) san M castling s h into out = record {
     only : (m : Move) → IsIn m (x ∷ []) → m ≡ x
     only m (inl t) = sym t
     only m (inr i) = absurd i
-told_by_list (x ∷ y ∷ ms) san M castling s h into out =
+reported_by_list (x ∷ y ∷ ms) san M castling s h into out =
     let apart = differ 0 x y ms h in
     let mx = out x (inl refl) in
     let my = out y (inr (inl refl)) in record {
@@ -64,16 +64,16 @@ told_by_list (x ∷ y ∷ ms) san M castling s h into out =
       not_san = (λ e. absurd (let no : ⊥ = cc in no), λ a. absurd (a.0 s));
     }
 
-told_by_text : (castling : Bool) (san : Type 0) (M : Move → Type 0) → ¬ san → ((m : Move) → ¬ (M m))
+reported_by_text : (castling : Bool) (san : Type 0) (M : Move → Type 0) → ¬ san → ((m : Move) → ¬ (M m))
     → Tells (Err (if castling then CastlingLeftOut else NotSan)) san M castling
-told_by_text true san M unsaid none = record {
+reported_by_text true san M unsaid none = record {
   one = λ m. (λ e. absurd (let no : ⊥ = cc in no), λ a. absurd (none m a.0));
   none = (λ e. absurd (let no : ⊥ = cc in no), λ a. absurd (unsaid a.0));
   more = (λ e. absurd (let no : ⊥ = cc in no), λ a. absurd (none a.0 a.2));
   left_out = (λ _. (unsaid, refl), λ _. refl);
   not_san = (λ e. absurd (let no : ⊥ = cc in no), λ a. absurd (let bad = a.1 in let no : ⊥ = cc in no));
 }
-told_by_text false san M unsaid none = record {
+reported_by_text false san M unsaid none = record {
   one = λ m. (λ e. absurd (let no : ⊥ = cc in no), λ a. absurd (none m a.0));
   none = (λ e. absurd (let no : ⊥ = cc in no), λ a. absurd (unsaid a.0));
   more = (λ e. absurd (let no : ⊥ = cc in no), λ a. absurd (none a.0 a.2));
@@ -88,10 +88,10 @@ exactly p text valid = go (san_of text) refl
     go : (o : Option San) → san_of text ≡ o → Tells (meant p text o) (IsSan text) (Matches p text) (is_castling text)
     go None e =
         let unsaid : ¬ (IsSan text) = λ a. let said = sym e ∙ (parts_spelled text a.0).1 a.1 in absurd (let bad : ⊥ = cc in bad) in
-        told_by_text (is_castling text) (IsSan text) (Matches p text) unsaid (λ m a. unsaid (a.1.0, a.1.1))
+        reported_by_text (is_castling text) (IsSan text) (Matches p text) unsaid (λ m a. unsaid (a.1.0, a.1.1))
     go (Some s) e =
         let said = (parts_spelled text s).0 e in
-        told_by_list (filter (matches p s) (legal_list p)) (IsSan text) (Matches p text) (is_castling text) (s, said)
+        reported_by_list (filter (matches p s) (legal_list p)) (IsSan text) (Matches p text) (is_castling text) (s, said)
         (AscendsFrom-filter move_place (matches p s) 0 (legal_list p) (AscendsFrom-legal_list p))
         (λ m a.
         let both : Some a.1.0 ≡ Some s = sym ((parts_spelled text a.1.0).1 a.1.1) ∙ e in

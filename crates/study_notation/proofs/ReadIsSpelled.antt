@@ -216,7 +216,8 @@ assembled text k at_squares q at_promotion p ending begins found promotes ends =
     let equals = promotes.0.0 in
     let rest : at_squares ≡ coords q (promotion_text equals p ++ ending) = found.parts ∙ ap (λ (t : List ℕ). coords q t) promotes.0.1 in
     let whole : text ≡ kind_text k ++ coords q (promotion_text equals p ++ ending) = begins ∙ ap (λ (t : List ℕ). kind_text k ++ t) rest in
-    let grouped = regrouped (kind_text k) (file_text q.file) (rank_text q.rank) (takes_text q.is_capture) (square_text q.target) (promotion_text equals p) ending in
+    let grouped = regrouped (kind_text k) (file_text q.file) (rank_text q.rank) (takes_text q.is_capture) (square_text q.target) (promotion_text equals p)
+    ending in
     (record { file = found.file; rank = found.rank; target = found.target; promoted = promotes.1 }, (equals, ending, ends, whole ∙ sym grouped))
 
 abbrev ended : Kind → SanSquares → Option Kind × List ℕ → Option San

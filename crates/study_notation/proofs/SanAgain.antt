@@ -9,7 +9,8 @@ use Rattle.study_notation.specs.declared.san.San.{San}
 use Rattle.study_notation.specs.San.{Fits, kind_text, file_text, rank_text, takes_text, promotion_text, san_text, is_suffix_annotation, is_glyphs, is_ending}
 use Rattle.study_moves.specs.Rules.{is_promotion_piece}
 use Rattle.study_notation.specs.FenSpelling.{square_text}
-use Rattle.study_notation.specs.SanParts.{SanSquares, kind_at, file_at, rank_at, takes_at, promotion_piece, promotion_piece_at, promotion_at, squares_at, san_of}
+use Rattle.study_notation.specs.SanParts.{SanSquares, kind_at, file_at, rank_at, takes_at, promotion_piece, promotion_piece_at, promotion_at}
+use Rattle.study_notation.specs.SanParts.{squares_at, san_of}
 
 -- a byte that is neither a coordinate nor `x`
 abbrev pub Aside : ℕ → Type 0

@@ -59,7 +59,8 @@ steps_ahead men side a x e = elim (or_cases (pawn_steps men side a x) (pawn_doub
     file White n h = eqb-true _ _ (and_parts (file_of x == file_of a) (rank_of x == rank_of a + n) h).0
     file Black n h = eqb-true _ _ (and_parts (file_of x == file_of a) (rank_of x + n == rank_of a) h).0
 
-capture_takes : (p : Position) (man : Man) (x : ℕ) → is_pawn man ≡ true → reaches_target p.men p.passed man x ≡ true → files_apart man.at x ≡ 1 → is_capture p man x ≡ true
+capture_takes : (p : Position) (man : Man) (x : ℕ) → is_pawn man ≡ true → reaches_target p.men p.passed man x ≡ true → files_apart man.at x ≡ 1
+    → is_capture p man x ≡ true
 unfolding reaches_target is_capture pawn_takes
 capture_takes p man x pawn e files =
     let a = pawn_steps p.men man.side man.at x || pawn_double_steps p.men man.side man.at x in

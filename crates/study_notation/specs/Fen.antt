@@ -133,8 +133,8 @@ abbrev pub is_digit : ℕ → Bool
 is_digit d = nat_le 48 d && nat_le d 57
 
 -- digits, at least one and at most so many, as the number that they spell
-abbrev pub digits_told : ℕ → List ℕ → Option ℕ
-digits_told most ds = if (nat_le 1 (length ds) && nat_le (length ds) most) && list_all is_digit ds then Some (digits_value 10 ds) else None
+abbrev pub digits_parsed : ℕ → List ℕ → Option ℕ
+digits_parsed most ds = if (nat_le 1 (length ds) && nat_le (length ds) most) && list_all is_digit ds then Some (digits_value 10 ds) else None
 
 -- one to four digits
 unfoldable pub count_of : List ℕ → Option ℕ

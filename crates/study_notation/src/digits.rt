@@ -1,11 +1,11 @@
 //! Numbers in digits.
 ghost use Rattle.std.specs.Prelude.{◌≡◌, ◌≤◌};
-ghost use Rattle.study_notation.specs.Fen.{digits_told};
+ghost use Rattle.study_notation.specs.Fen.{digits_parsed};
 
 /// The number that digits spell, at least one digit and at most `most`.
 pub fn read_digits(text: &[u8], most: usize) -> Option<u16>
     requires { most ≤ 4 }
-    ensures { result ≡ digits_told most text.now }
+    ensures { result ≡ digits_parsed most text.now }
 {
     if text.is_empty() || text.len() > most {
         return None;

@@ -5,4 +5,3 @@ pub mod TreeWritten
 pub mod OnePage
 pub mod KeyMade
 pub mod PlacesPlain
-pub mod WhereWords

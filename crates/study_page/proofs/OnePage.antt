@@ -22,7 +22,7 @@ use Rattle.study_facts.proofs.OneFacts.{One, one-chosen, one-alternatives, one-d
 use Rattle.study_page.specs.Words.{where_words}
 use Rattle.study_page.specs.Rows.{IsFaultOf, FaultItems, IsCardOf, Cards, TryRows, DefenceRows, IsPlay, IsEnd, EndRows}
 use Rattle.study_page.specs.Rows.{dual_item, card, try_row, defence_row, end_row, play_words, keep_words, zugzwang_rows, ZugzwangRows}
-use Rattle.study_facts.proofs.ZugzwangTold.{one-kind}
+use Rattle.study_facts.proofs.ZugzwangReported.{one-kind}
 use Rattle.study_page.specs.Page.{page_text, PagesAreUnique}
 use Rattle.study_facts.specs.Order.{written_order}
 

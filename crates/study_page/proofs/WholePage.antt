@@ -1,13 +1,9 @@
 -- The parts of a page over all nodes.
-use Rattle.std.proofs.Common.{◌≡◌, ◌≤◌, ℕ, List, [], ◌∷◌, ◌++◌, ap, subst, ◌∙◌, sym}
+use Rattle.std.proofs.Common.{◌≡◌, ℕ, List, [], ◌++◌, ap, subst, ◌∙◌, sym}
 use Rattle.study_marks.specs.declared.mark.Mark.{Mark}
-use Rattle.study_marks.specs.FaultSums.{below_at}
 use Rattle.study_marks.specs.Study.{Study}
-use Rattle.study_tree.specs.Tree.{size_of}
-use Rattle.study_facts.specs.Made.{Grew, Rose}
-use Rattle.study_facts.specs.Order.{paths_from, LinesOfEach, SumOfEach, AreTimeFaults, written_order}
-use Rattle.study_facts.specs.TimeFaults.{IsTimeFault}
-use Rattle.study_facts.proofs.TimeCounted.{time-counted}
+use Rattle.study_facts.specs.Made.{Grew}
+use Rattle.study_facts.specs.Order.{LinesOfEach, written_order}
 use Rattle.study_page.specs.Page.{AreRows}
 
 pub all-rows : (Rows : Study Mark → List ℕ → List ℕ → Type 0) (s : Study Mark) (old new : List ℕ) → old ≡ []

@@ -6,3 +6,4 @@ pub mod Lists
 pub mod Sheet
 pub mod Page
 pub mod Csv
+pub mod PageNode

@@ -13,7 +13,7 @@ use Rattle.study_facts.specs.declared.entry.EntryInfo.{EntryInfo}
 use Rattle.study_head.specs.Verdict.{entry_judgement}
 use Rattle.study_page.specs.Verdict.{verdict_part}
 use Rattle.study_page.specs.Tree.{solution_words}
-use Rattle.study_page.specs.Lists.{summary_row}
+use Rattle.study_page.specs.Lists.{summary_row, three_heads}
 use Rattle.study_page.specs.Rows.{FaultItems, Cards, TryRows, ZugzwangRows, DefenceRows, EndRows}
 
 -- what a part has of the root and of all nodes, in written order, by what it has of each
@@ -24,8 +24,7 @@ AreRows Rows s rows = LinesOfEach (Rows s) (written_order s) rows
 
 -- the heads of three columns
 unfoldable pub heads : List ℕ → List ℕ → List ℕ → List ℕ
-heads a b c =
-    inside element.Heads (inside element.Row (inside element.Head (said a) ++ (inside element.Head (said b) ++ inside element.Head (said c))))
+heads a b c = inside element.Heads (inside element.Row (three_heads a b c))
 
 -- a table under a heading
 unfoldable pub full_table : List ℕ → List ℕ → List ℕ → List ℕ

@@ -181,11 +181,11 @@ unfoldable pub front_cells : List ℕ → Side → Value → List ℕ
 front_cells node side v = inside Cell (said node) ++ inside Cell (said (value_text side v))
 
 -- a move of the opponent, and small the value after it
-unfoldable pub told_move : Position → Move → Value → List ℕ
-told_move p m v = inside Strong (said (move_text p m)) ++ inside Below (said (short_words true v))
+unfoldable pub move_and_value : Position → Move → Value → List ℕ
+move_and_value p m v = inside Strong (said (move_text p m)) ++ inside Below (said (short_words true v))
 
 unfoldable pub refuted_item : Position → EvaluatedMove → List ℕ
-refuted_item p x = inside Whole (told_move p x.played x.value) ++ said (codes " ")
+refuted_item p x = inside Whole (move_and_value p x.played x.value) ++ said (codes " ")
 
 abbrev pub refuted_items : Position → List EvaluatedMove → List ℕ
 refuted_items p list = if is_stalemate p then said (codes "stalemate") else flat_map (refuted_item p) list
@@ -245,7 +245,7 @@ several_words n = if n == 0 then codes "stalemate" else (decimal n ++ codes " ho
 
 -- a defence with none or several answers, and how many
 unfoldable pub several_item : Position → Defence → List ℕ
-several_item p y = inside Whole (told_move p y.played y.value ++ said (codes " " ++ several_words y.answers)) ++ said (codes " ")
+several_item p y = inside Whole (move_and_value p y.played y.value ++ said (codes " " ++ several_words y.answers)) ++ said (codes " ")
 
 abbrev pub with_several : Position → Option Move → Defence → List ℕ
 with_several p None y = several_item p y
@@ -264,7 +264,7 @@ has_answer p text y = is_answer (after p y.played) y.only text
 
 -- a defence
 unfoldable pub defence_item : Position → Defence → List ℕ
-defence_item p y = inside Whole (told_move p y.played y.value) ++ said (codes " ")
+defence_item p y = inside Whole (move_and_value p y.played y.value) ++ said (codes " ")
 
 abbrev pub with_answer : Position → List ℕ → Defence → List ℕ
 with_answer p text y = if has_answer p text y then defence_item p y else []

@@ -1,23 +1,24 @@
 //! What is written of duals and tries.
-ghost use Rattle.std.specs.Prelude.{◌≡◌, ◌++◌, ◌<◌, ◌^◌, true, length, OnOk, codes};
+ghost use Rattle.std.specs.Prelude.{◌≡◌, ◌++◌, ◌<◌, ◌^◌, true, length, OnOk, codes, decimal};
 ghost use Rattle.std.specs.List.{All, flat_map};
 ghost use Rattle.study_moves.specs.Rules.{is_legal};
 ghost use Rattle.study_facts.specs.Nodes.{is_stalemate};
 ghost use Rattle.study_notation.specs.SanSpelling.{move_text};
 ghost use Rattle.study_pgn.specs.Values.{value_text};
+ghost use Rattle.study_head.specs.Words.{label};
+ghost use Rattle.study_html.specs.declared.element.Element.TheVariants.{Label};
 ghost use Rattle.study_html.specs.Escape.{said};
 ghost use Rattle.study_html.specs.Elements.{inside};
 ghost use Rattle.study_page.specs.Rows.{loses_time, forced_words, time_words, move_word, by_words, later_words, difference, also_words, also_item};
-ghost use Rattle.study_page.specs.Rows.{card_title, card_words, card, front_cells, told_move, refuted_item, refuted_items, of_all, refuted_count, try_row};
+ghost use Rattle.study_page.specs.Rows.{card_title, card_words, card, front_cells, move_and_value, refuted_item, refuted_items, of_all, refuted_count, try_row};
 ghost use Rattle.study_page.specs.Rows.{points_words, to_move_words, zugzwang_row};
 
-use crate::mark_tests::is_stalemate;
 use std::alloc::{AllocError, Allocator};
 use study_board::{Position, Side};
 use study_facts::{Alternative, EvaluatedMove, Zugzwang};
 use study_head::{Ply, add_label, add_mate_distance, draw_mini};
 use study_html::{Element, Html, put_words};
-use study_moves::{Move, legal_moves};
+use study_moves::{Move, in_check, legal_moves};
 use study_notation::Start;
 use study_pgn::{add_san, add_value};
 use study_text::Text;
@@ -163,6 +164,38 @@ fn put_each_also<'a, A: Allocator>(
     Ok(())
 }
 
+/// The move of a dual.
+fn say_dual_move<'a, A: Allocator>(
+    alloc: &'a A,
+    title: &mut Html<'_, A>,
+    ply: &Ply<'_>,
+    m: Move,
+) -> Result<(), AllocError>
+    requires { is_legal ply.now.position.now m ≡ true }
+    ensures { OnOk result (title.new ≡ title.old
+        ++ said (label ply.now.start.now ply.now.depth ply.now.position.now m ++ codes " ")) }
+{
+    let mut text = Text::new(alloc);
+    add_label(&mut text, ply.start, ply.depth, ply.position, m)?;
+    text.add(b" ")?;
+    title.say(text.as_slice())
+}
+
+/// Beside how many moves that hold a dual stands.
+fn put_dual_count<'a, A: Allocator>(
+    alloc: &'a A,
+    title: &mut Html<'_, A>,
+    count: u8,
+) -> Result<(), AllocError>
+    ensures { OnOk result (title.new ≡ title.old
+        ++ inside Label (said (codes "dual " ++ decimal count))) }
+{
+    let mut text = Text::new(alloc);
+    text.add(b"dual ")?;
+    text.add_number(count as u32)?;
+    put_words(alloc, title, Element::Label, text.as_slice())
+}
+
 #[tactic(auto, unfolding(crate::specs::Rows::card_title))]
 fn put_card_title<'a, A: Allocator>(
     alloc: &'a A,
@@ -176,14 +209,8 @@ fn put_card_title<'a, A: Allocator>(
         ++ card_title ply.now.start.now ply.now.depth ply.now.position.now m count) }
 {
     let mut title = Html::new(alloc);
-    let mut text = Text::new(alloc);
-    let mut dual = Text::new(alloc);
-    add_label(&mut text, ply.start, ply.depth, ply.position, m)?;
-    text.add(b" ")?;
-    title.say(text.as_slice())?;
-    dual.add(b"dual ")?;
-    dual.add_number(count as u32)?;
-    put_words(alloc, &mut title, Element::Label, dual.as_slice())?;
+    say_dual_move(alloc, &mut title, ply, m)?;
+    put_dual_count(alloc, &mut title, count)?;
     html.put(Element::CardTitle, &title)
 }
 
@@ -284,8 +311,8 @@ pub fn put_node_cells<'a, A: Allocator>(
 }
 
 /// A move of the opponent, and small the value after it.
-#[tactic(auto, unfolding(crate::specs::Rows::told_move))]
-pub fn put_told<'a, A: Allocator>(
+#[tactic(auto, unfolding(crate::specs::Rows::move_and_value))]
+pub fn put_move_and_value<'a, A: Allocator>(
     alloc: &'a A,
     html: &mut Html<'_, A>,
     p: &Position,
@@ -293,7 +320,7 @@ pub fn put_told<'a, A: Allocator>(
     value: Value,
 ) -> Result<(), AllocError>
     requires { is_legal p.now m ≡ true }
-    ensures { OnOk result (html.new ≡ html.old ++ told_move p.now m value) }
+    ensures { OnOk result (html.new ≡ html.old ++ move_and_value p.now m value) }
 {
     let mut text = Text::new(alloc);
     put_san(alloc, html, p, m)?;
@@ -312,7 +339,7 @@ fn put_refuted<'a, A: Allocator>(
     ensures { OnOk result (html.new ≡ html.old ++ refuted_item p.now x.now) }
 {
     let mut whole = Html::new(alloc);
-    put_told(alloc, &mut whole, p, x.played, x.value)?;
+    put_move_and_value(alloc, &mut whole, p, x.played, x.value)?;
     html.put(Element::Whole, &whole)?;
     html.say(b" ")
 }
@@ -330,6 +357,14 @@ fn put_each_refuted<'a, A: Allocator>(
         put_refuted(alloc, html, p, x)?;
     }
     Ok(())
+}
+
+/// Whether the side to move is stalemated.
+#[tactic(auto, unfolding(study_facts::specs::Nodes::is_stalemate))]
+fn is_stalemate(p: &Position) -> bool
+    ensures { result ≡ is_stalemate p.now }
+{
+    legal_moves(p).is_empty() && !in_check(p)
 }
 
 fn put_refutations<'a, A: Allocator>(

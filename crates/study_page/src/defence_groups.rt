@@ -1,12 +1,13 @@
 //! What is written of defences that the tree lacks: those with one answer by this answer.
-ghost use Rattle.std.specs.Prelude.{◌≡◌, ◌++◌, ◌<◌, ◌≤◌, ◌^◌, true, length, take, drop, OnOk, IfSome};
+ghost use Rattle.std.specs.Prelude.{◌≡◌, ◌++◌, ◌-◌, ◌<◌, ◌≤◌, ◌^◌, true, length, take, drop, OnOk, IfSome};
 ghost use Rattle.std.specs.List.{All, flat_map};
 ghost use Rattle.study_moves.specs.Rules.{is_legal, after};
+ghost use Rattle.study_moves.specs.LegalList.{legal_list};
 ghost use Rattle.study_facts.specs.Play.{IsPlayed};
 ghost use Rattle.study_page.specs.Rows.{several_words, several_item, each_several, is_answer, has_answer, defence_item, with_answer};
 ghost use Rattle.study_page.specs.Rows.{group, any_has, group_of, group_at, groups_from, answered_words, answered_cell, defence_row};
 
-use crate::cards_and_tries::put_told;
+use crate::cards_and_tries::put_move_and_value;
 use std::alloc::{AllocError, Allocator};
 use study_board::Position;
 use study_facts::Defence;
@@ -38,7 +39,7 @@ fn put_several<'a, A: Allocator>(
 {
     let mut whole = Html::new(alloc);
     let mut text = Text::new(alloc);
-    put_told(alloc, &mut whole, p, y.played, y.value)?;
+    put_move_and_value(alloc, &mut whole, p, y.played, y.value)?;
     text.add(b" ")?;
     add_several(&mut text, y.answers)?;
     whole.say(text.as_slice())?;
@@ -108,7 +109,7 @@ fn put_defence<'a, A: Allocator>(
     ensures { OnOk result (html.new ≡ html.old ++ defence_item p.now y.now) }
 {
     let mut whole = Html::new(alloc);
-    put_told(alloc, &mut whole, p, y.played, y.value)?;
+    put_move_and_value(alloc, &mut whole, p, y.played, y.value)?;
     html.put(Element::Whole, &whole)?;
     html.say(b" ")
 }
@@ -249,6 +250,21 @@ fn put_groups<'a, A: Allocator>(
     }
 }
 
+/// The number of legal moves.
+fn move_count(p: &Position) -> u32
+    ensures { result ≡ length (legal_list p.now) }
+{
+    legal_moves(p).len() as u32
+}
+
+/// How many of so many moves are not among those that are missing.
+fn answered_count(all: u32, missing: &[Defence]) -> u32
+    requires { length missing.now < 2 ^ 32 }
+    ensures { result ≡ all - length missing.now }
+{
+    all.saturating_sub(missing.len() as u32)
+}
+
 /// How many of the legal moves the tree has.
 #[tactic(auto, unfolding(crate::specs::Rows::answered_words))]
 fn add_answered<A: Allocator>(
@@ -259,9 +275,9 @@ fn add_answered<A: Allocator>(
     requires { length list.now < 2 ^ 32 }
     ensures { OnOk result (text.new ≡ text.old ++ answered_words p.now list.now) }
 {
-    let all = legal_moves(p).len() as u32;
+    let all = move_count(p);
     text.add(b"answers ")?;
-    text.add_number(all.saturating_sub(list.len() as u32))?;
+    text.add_number(answered_count(all, list))?;
     text.add(b" of ")?;
     text.add_number(all)
 }

@@ -128,7 +128,6 @@ fn add_more<A: Allocator>(text: &mut Text<'_, A>, count: u32) -> Result<(), Allo
 }
 
 /// Up to six.
-#[tactic(auto, using(std::proofs::lemmas::List::take_all))]
 fn first_six(list: &[Alternative]) -> &[Alternative]
     ensures { result.now ≡ take 6 list.now }
 {

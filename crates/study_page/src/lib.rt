@@ -10,16 +10,15 @@ mod defence_groups;
 mod draft;
 mod fault_list;
 mod laws;
-mod mark_tests;
+mod move_parts;
+mod node_rows;
 mod page;
 mod page_findings;
-mod parts;
 mod play_rows;
 mod sheet;
 mod summary;
 mod tree;
 mod verdict;
-mod words;
 
 pub use csv::{write_head_record, write_record, write_refused_record};
 pub use laws::{pages_are_unique, plain_studies_have_one_page};

@@ -7,6 +7,8 @@ ghost use Rattle.study_marks.specs.Study.{plain_study};
 ghost use Rattle.study_values.specs.declared.values.ProbeFault.{ProbeFault as AProbeFault};
 ghost use Rattle.study_facts.specs.Asked.{within};
 ghost use Rattle.study_facts.specs.Order.{HasReviewed, AreTimeFaults};
+ghost use Rattle.study_html.specs.Elements.{inside};
+ghost use Rattle.study_html.specs.declared.element.Element.TheVariants.{Table, Rows};
 ghost use Rattle.study_html.specs.Markup.{IsWellNested};
 ghost use Rattle.study_facts.specs.Made.{HasAsked};
 ghost use Rattle.study_page.specs.Page.{AreRows, heads, table_part, full_table, cards_part, full_cards};
@@ -18,7 +20,7 @@ ghost use Rattle.study_page.specs.Page.{solution_part, duals_title, duals_note, 
 
 use crate::draft::Sections;
 use crate::page_findings::PageFindings;
-use crate::summary::add_entry;
+use crate::summary::{add_entry, put_three_heads};
 use crate::tree::put_following;
 use crate::verdict::put_verdict;
 use std::alloc::{AllocError, Allocator};
@@ -80,11 +82,24 @@ fn put_heads<'a, A: Allocator>(
 {
     let mut row = Html::new(alloc);
     let mut within = Html::new(alloc);
-    put_words(alloc, &mut row, Element::Head, a)?;
-    put_words(alloc, &mut row, Element::Head, b)?;
-    put_words(alloc, &mut row, Element::Head, c)?;
+    put_three_heads(alloc, &mut row, a, b, c)?;
     within.put(Element::Row, &row)?;
     html.put(Element::Heads, &within)
+}
+
+/// A table of this head and these rows.
+fn put_rows<'a, A: Allocator>(
+    alloc: &'a A,
+    html: &mut Html<'_, A>,
+    head: &Html<'_, A>,
+    rows: &Html<'_, A>,
+) -> Result<(), AllocError>
+    ensures { OnOk result (html.new ≡ html.old ++ inside Table (head.now ++ inside Rows rows.now)) }
+{
+    let mut table = Html::new(alloc);
+    table.append(head)?;
+    table.put(Element::Rows, rows)?;
+    html.put(Element::Table, &table)
 }
 
 /// A table under a heading.
@@ -99,11 +114,8 @@ fn put_full_table<'a, A: Allocator>(
     ensures { OnOk result (html.new ≡ html.old ++ full_table heading.now head.now rows.now) }
 {
     let mut part = Html::new(alloc);
-    let mut table = Html::new(alloc);
     put_words(alloc, &mut part, Element::Heading, heading)?;
-    table.append(head)?;
-    table.put(Element::Rows, rows)?;
-    part.put(Element::Table, &table)?;
+    put_rows(alloc, &mut part, head, rows)?;
     html.put(Element::Part, &part)
 }
 
@@ -294,8 +306,8 @@ fn put_content<'a, 'b, A: Allocator, B: Allocator>(
     parts: &Sections<'_, A>,
 ) -> Result<(), AllocError>
     ensures { OnOk result (html.new ≡ html.old
-        ++ content (marked bench.now) unread parts.now.time_faults parts.now.faults parts.now.duals parts.now.tries parts.now.zugzwangs
-        parts.now.defences parts.now.ends) }
+        ++ content (marked bench.now) unread parts.now.time_faults parts.now.faults
+        parts.now.duals parts.now.tries parts.now.zugzwangs parts.now.defences parts.now.ends) }
 {
     put_head(alloc, html, bench)?;
     put_top(alloc, html, bench, unread, parts)?;
@@ -394,7 +406,7 @@ pub fn write_page<'a, 's, 'b, A: Allocator, S: Allocator, B: Allocator, V: Value
         → (text : List ℕ) × IsPage (marked bench.now) info text
         × TakesPrefix (W.contents out.old) (W.contents out.new) text }
     ensures memory { result ≡ Err ReviewFault.OutOfMemory → out.new ≡ out.old }
-    ensures untold { (fault : AProbeFault)
+    ensures no_value { (fault : AProbeFault)
         → result ≡ Err (ReviewFault.Values fault) → out.new ≡ out.old }
     ensures asked { HasReviewed (within (marked bench.now).start.position V.source)
         values.old result values.new }

@@ -2,18 +2,18 @@
 ghost use Rattle.std.specs.Prelude.{◌≡◌, []};
 
 use crate::draft::Sections;
-use crate::parts::{add_move, add_position};
+use crate::move_parts::add_move;
+use crate::node_rows::{PageNode, add_rows};
 use std::alloc::Allocator;
-use study_facts::{Findings, MoveContext, TextFault, WalkState, WalkStep, fill_place};
+use study_facts::{Findings, TextFault, WalkState, WalkStep, move_of, node_after, root_node};
 use study_marks::{Aim, Bench};
 use study_values::Values;
 
-/// The sections of a page, and the room for the place of one node after the other.
+/// The sections of a page, and what allocates their texts.
 #[derive(Drop)]
 pub struct PageFindings<'a, A: Allocator> {
     pub alloc: &'a A,
     pub sections: Sections<'a, A>,
-    pub room: MoveContext,
 }
 
 impl<'a, A: Allocator> PageFindings<'a, A> {
@@ -30,7 +30,6 @@ impl<'a, A: Allocator> PageFindings<'a, A> {
         PageFindings {
             alloc,
             sections: Sections::new(alloc),
-            room: MoveContext::new(),
         }
     }
 }
@@ -54,17 +53,16 @@ impl<'a, A: Allocator> Findings for PageFindings<'a, A> {
     fn add_root<'b, B: Allocator, V: Values>(
         &mut self,
         bench: &Bench<'b, B>,
-        _aim: &Aim,
-        _root: &WalkState,
+        aim: &Aim,
+        root: &WalkState,
         values: &mut V,
     ) -> Result<(), TextFault> {
         let first = bench.start();
-        let place = &mut self.room.before;
-        place.line.clear();
-        if !fill_place(bench, &[], place) {
-            unreachable!()
-        }
-        add_position(self.alloc, &mut self.sections, bench, &[], place, values)
+        let node = PageNode {
+            here: root_node(bench, aim, root),
+            by: None,
+        };
+        add_rows(self.alloc, &mut self.sections, bench, &node, values)
     }
 
     #[inline(never)]
@@ -75,18 +73,12 @@ impl<'a, A: Allocator> Findings for PageFindings<'a, A> {
         values: &mut V,
     ) -> Result<(), TextFault> {
         let first = bench.start();
-        let steps = step.steps;
-        self.room.fill(bench, step);
-        add_move(
-            self.alloc,
-            &mut self.sections,
-            bench,
-            steps,
-            &self.room,
-            values,
-        )?;
-        let place = &mut self.room.before;
-        place.go_on(bench, step);
-        add_position(self.alloc, &mut self.sections, bench, steps, place, values)
+        let made = move_of(bench, step);
+        add_move(self.alloc, &mut self.sections, bench, &made, values)?;
+        let node = PageNode {
+            here: node_after(bench, step),
+            by: Some(made),
+        };
+        add_rows(self.alloc, &mut self.sections, bench, &node, values)
     }
 }

@@ -11,7 +11,7 @@ ghost use Rattle.study_page.specs.Sheet.{number_words, author_line, key_words, k
 
 use std::alloc::{AllocError, Allocator};
 use std::io::Write;
-use study_facts::{WriteFault, move_context_at};
+use study_facts::{WriteFault, move_to};
 use study_head::{add_label, draw_board, known_tag, moves_first};
 use study_html::{Drawing, Element, Html, put_words};
 use study_marks::{Bench, TagName};
@@ -52,15 +52,10 @@ fn add_key<'b, A: Allocator, B: Allocator>(
     ensures { OnOk result (text.new ≡ text.old
         ++ key_words (marked bench.now).start (key_of (marked bench.now).tree.below)) }
 {
-    match move_context_at(bench, &[0]) {
+    let first = bench.start();
+    match move_to(bench, &[0]) {
         None => Ok(()),
-        Some(made) => add_label(
-            text,
-            bench.start(),
-            made.before.depth,
-            &made.before.position,
-            made.played,
-        ),
+        Some(m) => add_label(text, first, 0, &first.position, m),
     }
 }
 

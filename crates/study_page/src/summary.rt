@@ -35,7 +35,7 @@ fn put_number<'a, A: Allocator>(
     put_words(alloc, html, element, text.as_slice())
 }
 
-/// What is told of a refused line.
+/// The part with a refused line.
 #[tactic(auto, unfolding(crate::specs::Lists::refusal_part))]
 fn refusal_of<'a, A: Allocator>(
     alloc: &'a A,
@@ -173,8 +173,9 @@ fn put_two_heads<'a, A: Allocator>(
     put_words(alloc, html, Element::Head, b)
 }
 
+/// The heads of three columns.
 #[tactic(auto, unfolding(crate::specs::Lists::three_heads))]
-fn put_three_heads<'a, A: Allocator>(
+pub fn put_three_heads<'a, A: Allocator>(
     alloc: &'a A,
     html: &mut Html<'_, A>,
     a: &[u8],

@@ -1,5 +1,5 @@
 //! The part of a page with the verdict.
-ghost use Rattle.std.specs.Prelude.{◌≡◌, ◌++◌, OnOk};
+ghost use Rattle.std.specs.Prelude.{◌≡◌, ◌++◌, ◌==◌, OnOk, if◌then◌else◌};
 ghost use Rattle.study_page.specs.Verdict.{stamp_element, stamp_part, fault_list, verdict_part};
 
 use std::alloc::{AllocError, Allocator};
@@ -12,15 +12,21 @@ fn stamp_element(stamp: Stamp) -> Element
 {
     match stamp {
         Stamp::Wrong => Element::Wrong,
-        Stamp::Sound | Stamp::Holds => Element::Sound,
-        Stamp::Unsound(faults, time) => {
-            if time == faults {
-                Element::Sound
-            } else {
-                Element::Unsound
-            }
-        }
+        Stamp::Sound => Element::Sound,
+        Stamp::Holds => Element::Sound,
+        Stamp::Unsound(faults, time) => unsound_element(faults, time),
         Stamp::NotRead(_) => Element::Unsound,
+    }
+}
+
+/// The frame of a study with so many faults, of which so many lose time alone.
+fn unsound_element(faults: u32, time: u32) -> Element
+    ensures { result ≡ (if time == faults then Element.Sound else Element.Unsound) }
+{
+    if time == faults {
+        Element::Sound
+    } else {
+        Element::Unsound
     }
 }
 

@@ -2,7 +2,7 @@
 use Rattle.std.proofs.Common.{◌≡◌, ℕ, Bool, true, false, Result, Ok, Err, List, [], ◌∷◌, ◌++◌, refl, sym, ap, subst, ◌∙◌, append_assoc, append-nil}
 use Rattle.std.specs.Prelude.{OnOk, if◌then◌else◌}
 use Rattle.study_report.specs.Remarks.{is_left_out}
-use Rattle.study_report.specs.Told.{Entry, game_entry, games_in}
+use Rattle.study_report.specs.Reported.{Entry, game_entry, games_in}
 use Rattle.study_print.specs.declared.pages.EntryCount.{EntryCount}
 use Rattle.study_print.specs.declared.pages.EntryCount.TheVariants.{Nothing, One, Several}
 use Rattle.study_print.specs.Entries.{count_of, left_out_row, IsRowOf, AreRows, AreEntries}

@@ -1,22 +1,19 @@
 -- A file of pages is well nested between its opening and its closing.
-use Rattle.std.proofs.Common.{◌≡◌, ℕ, suc, ◌+◌, Bool, true, false, List, [], ◌∷◌, ◌++◌, Option, Some, None, Result, Ok, Err, inl, inr, sym, ap, ◌∙◌, subst, append_assoc, refl}
-use Rattle.std.specs.Prelude.{◌⊎◌, ◌-◌, IfSome, codes, decimal, if◌then◌else◌}
+use Rattle.std.proofs.Common.{◌≡◌, ℕ, suc, ◌+◌, Bool, true, false, List, [], ◌∷◌, ◌++◌, Option, Some, None, Result, Ok, Err, inl, inr, sym, ap, subst}
+use Rattle.std.proofs.Common.{append_assoc, refl}
+use Rattle.std.specs.Prelude.{IfSome, codes, if◌then◌else◌}
 use Rattle.std.specs.Io.KnownBytes.{Appends}
 use Rattle.std.proofs.KnownBytes.{Appends-trans}
 use Rattle.std.proofs.lemmas.Bool.{false≢true}
-use Rattle.study_text.specs.Taken.{TakesPrefix}
-use Rattle.study_command.specs.Lines.{script_lines}
-use Rattle.study_reply.specs.declared.refusal.Refusal.TheVariants.{NotAClass}
-use Rattle.study_reply.specs.Names.{words_of}
 use Rattle.study_script.specs.declared.running.Summary.{Summary}
 use Rattle.study_script.specs.declared.running.RunFault.{RunFault}
 use Rattle.study_script.specs.declared.running.RunFault.TheVariants.{ReadDevice, WriteDevice, LineTooLong, TooManyLines, OutOfMemory}
-use Rattle.study_script.specs.Written.{Piece, error_of}
+use Rattle.study_script.specs.Written.{Piece}
 use Rattle.study_report.specs.declared.line_kind.LineKind.{LineKind}
 use Rattle.study_report.specs.declared.line_kind.LineKind.TheVariants.{Remark, PassedOver, NoClass, Study, Checked}
-use Rattle.study_report.specs.Told.{line_kind, study_count}
-use Rattle.study_report.specs.Remarks.{is_left_out}
-use Rattle.study_report.specs.Parts.{Part, nothing_part, refused_part, remark_part, checked_part, parts_text, IsPartAs, AreParts, AreWritten, Fits}
+use Rattle.study_report.specs.Reported.{line_kind, study_count}
+use Rattle.study_report.specs.Remarks.{begins, statement, is_left_out}
+use Rattle.study_report.specs.Parts.{Part, nothing_part, refused_part, remark_part, parts_text, IsPartAs, AreParts, AreWritten, Fits}
 use Rattle.study_html.specs.declared.element.Element.{Element}
 use Rattle.study_html.specs.declared.element.Element.TheVariants.{Code, Head, Heads, Header, Row, Rows, Strong, Table, Title, Warning}
 use Rattle.study_html.specs.declared.element.Element.TheVariants as element
@@ -26,11 +23,11 @@ use Rattle.study_html.specs.Frame.{opening, closing}
 use Rattle.study_html.specs.Markup.{IsWellNested}
 use Rattle.study_html.proofs.MarkupGrows.{none_nested, both_nested, said_nested, inside_nested}
 use Rattle.study_page.specs.Page.{IsEntry}
-use Rattle.study_page.specs.Lists.{refusal_part, summary_part, summary_heads, two_heads, three_heads}
+use Rattle.study_page.specs.Lists.{refusal_part, summary_part, two_heads, three_heads}
 use Rattle.study_print.specs.declared.pages.EntryCount.{EntryCount}
 use Rattle.study_print.specs.declared.pages.EntryCount.TheVariants.{Nothing, One, Several}
 use Rattle.study_print.specs.Remarks.{left_out_part, original_part, remark_text}
-use Rattle.study_print.specs.Pages.{refusal_text, summary_text, end_text, writer_failed, IsClosed, IsEndedIf, IsEnded, IsBody, IsWholeFile, IsWholeUnlessCut}
+use Rattle.study_print.specs.Pages.{refusal_text, summary_text, end_text, writer_failed, IsEndedIf, IsEnded, IsBody, IsWholeFile, IsWholeUnlessCut}
 use Rattle.study_print.proofs.BodyGrows.{none_body, both_bodies, nested_body, original_body}
 
 -- ---- what a line writes
@@ -50,9 +47,14 @@ refusal_nested number text name reason =
 entry_nested : (number : ℕ) (text : List ℕ) → IsEntry number text → IsWellNested text
 entry_nested number text entry = subst IsWellNested (sym entry.2) (within (element.Entry number) entry.0 entry.1)
 
+explained_nested : (own : Bool) (reason : List ℕ) → IsWellNested (if own then [] else said (codes ": ") ++ said reason)
+explained_nested true reason = none_nested
+explained_nested false reason = both_nested _ _ (word _) (word _)
+
 left_out_nested : (line : List ℕ) → IsWellNested (left_out_part line)
 unfolding left_out_part
-left_out_nested line = within Warning _ (both_nested _ _ (word _) (word _))
+left_out_nested line =
+    within Warning _ (both_nested _ _ (word _) (both_nested _ _ (word _) (explained_nested (begins (statement line) (codes "left out: ")) _)))
 
 remark_body : (line : List ℕ) (left_out : Bool) → IsBody (if left_out then left_out_part line else original_part line)
 remark_body line true = nested_body _ (left_out_nested line)
@@ -86,7 +88,7 @@ parts_nested lines studies [] (part ∷ parts) h = absurd h
 parts_nested lines studies (line ∷ more) [] h = absurd h
 parts_nested lines studies (line ∷ more) (part ∷ parts) h =
     both_bodies part.text (parts_text parts) (part_nested (line_kind line) (suc lines) (suc studies) line part h.0)
-    (parts_nested (suc lines) (studies + study_count part.told) more parts h.1)
+    (parts_nested (suc lines) (studies + study_count part.reported) more parts h.1)
 
 -- ---- the list of all entries
 

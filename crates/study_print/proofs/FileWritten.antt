@@ -1,11 +1,11 @@
 -- A whole file of pages, from the parts written one after the other.
-use Rattle.std.proofs.Common.{◌≡◌, ℕ, List, ◌++◌, Option, Some, None, Result, Ok, Err, refl, inl, inr, true, false, Bool, is_err}
+use Rattle.std.proofs.Common.{◌≡◌, ℕ, List, Option, Some, None, Result, Ok, Err, refl, inl, inr, true, false, Bool, is_err}
 use Rattle.std.specs.Prelude.{IfSome, IfErr, OnOk}
 use Rattle.std.specs.Io.KnownBytes.{Appends}
 use Rattle.study_text.specs.Taken.{TakesPrefix}
 use Rattle.study_script.specs.declared.running.Summary.{Summary}
 use Rattle.study_script.specs.declared.running.RunFault.{RunFault}
-use Rattle.study_script.specs.declared.running.RunFault.TheVariants.{ReadDevice, WriteDevice, LineTooLong, TooManyLines, OutOfMemory}
+use Rattle.study_script.specs.declared.running.RunFault.TheVariants.{WriteDevice}
 use Rattle.study_script.specs.State.{State}
 use Rattle.study_report.specs.Outcome.{Outcome, AreListed, AreListedBefore, Shape}
 use Rattle.study_report.specs.Parts.{Fits}
@@ -13,7 +13,7 @@ use Rattle.study_html.specs.Frame.{opening}
 use Rattle.study_page.specs.Page.{IsPageOf, IsEntry}
 use Rattle.study_print.specs.declared.pages.EntryCount.{EntryCount}
 use Rattle.study_print.specs.Entries.{AreEntries}
-use Rattle.study_print.specs.Pages.{refusal_text, end_text, writer_failed, IsClosed, IsEndedIf, IsEnded, AreItsEntries, IsFile, FileShape, IsAnswerTo, FileFits}
+use Rattle.study_print.specs.Pages.{refusal_text, end_text, writer_failed, IsEndedIf, IsEnded, AreItsEntries, IsFile, FileShape, IsAnswerTo, FileFits}
 use Rattle.study_print.specs.Remarks.{remark_text}
 
 pub where_ok : {A E : Type 0} (r : Result A E) (P : Type 0) → is_err r ≡ false → OnOk r P → P
@@ -38,9 +38,9 @@ module _ (first : State) (left old begun ended new : Option (List ℕ)) (answer 
       (λ bytes. AreListedBefore IsPageOf refusal_text remark_text first bytes begun ended (AreEntries count rows) fault))
       → IsEnded (end_text count rows) ended new ran answer
       → IfSome given (λ bytes. IsFile first bytes left old new answer)
-  whole_file None ran opened told listed before end = tt
-  whole_file (Some script) ran opened told listed before end =
-      inr (begun, ended, ran, count, rows, opened, told, listed_in script ran listed before, end)
+  whole_file None ran opened reported listed before end = tt
+  whole_file (Some script) ran opened reported listed before end =
+      inr (begun, ended, ran, count, rows, opened, reported, listed_in script ran listed before, end)
 
 -- the writer fails before the first line
 pub no_file : (first : State) (given old new : Option (List ℕ)) → TakesPrefix old new opening

@@ -1,6 +1,6 @@
 pub mod EntriesGrow
 pub mod FileWritten
-pub mod PageTold
+pub mod PageReported
 pub mod Paragraphs
 pub mod BodyGrows
 pub mod FileNested

@@ -1,4 +1,5 @@
 pub mod Entries
+pub mod LeftOut
 pub mod Pages
 pub mod Refusals
 pub mod Remarks

@@ -5,11 +5,12 @@ use Rattle.study_games.specs.Characters.{is_utf8}
 use Rattle.study_html.specs.declared.element.Element.TheVariants.{Warning}
 use Rattle.study_html.specs.Escape.{said}
 use Rattle.study_html.specs.Elements.{inside}
-use Rattle.study_report.specs.Remarks.{is_left_out}
+use Rattle.study_report.specs.Remarks.{is_left_out, statement}
+use Rattle.study_print.specs.LeftOut.{explanation}
 
--- `No page for game 3, line 31: left out: 7 men`
+-- `No page for game 3, line 31: left out: 7 men`, `No page for game 4, line 52, column 17: NoSuchMove at Kb6: no legal move of this position`
 unfoldable pub left_out_part : List ℕ → List ℕ
-left_out_part line = inside Warning (said (codes "No page for ") ++ said (drop 2 line))
+left_out_part line = inside Warning (said (codes "No page for ") ++ (said (drop 2 line) ++ explanation (statement line)))
 
 -- a byte of a text in UTF-8: ASCII as in all words, and other letters as they are
 abbrev pub letter : ℕ → List ℕ

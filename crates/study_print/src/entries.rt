@@ -1,10 +1,27 @@
 //! The rows of games that were left out.
-ghost use Rattle.std.specs.Prelude.{◌≡◌, ◌++◌, IfOk, IfErr};
-ghost use Rattle.study_print.specs.Entries.{left_out_row};
+ghost use Rattle.std.specs.Prelude.{◌≡◌, ◌++◌, OnOk, IfOk, IfErr};
+ghost use Rattle.study_html.specs.Elements.{inside};
+ghost use Rattle.study_html.specs.declared.element.Element.TheVariants.{Cell};
+ghost use Rattle.study_print.specs.Entries.{left_out_words, left_out_row};
 
+use crate::left_out::say_explanation;
 use std::alloc::{AllocError, Allocator};
 use study_html::{Element, Html, put_words};
 use study_report::{WriteFault, statement, subject};
+
+/// Puts a cell with the reason why a game was left out.
+fn put_reason<'a, A: Allocator>(
+    alloc: &'a A,
+    row: &mut Html<'_, A>,
+    why: &[u8],
+) -> Result<(), AllocError>
+    ensures { OnOk result (row.new ≡ row.old ++ inside Cell (left_out_words why.now)) }
+{
+    let mut words = Html::new(alloc);
+    words.say(why)?;
+    say_explanation(&mut words, why)?;
+    row.put(Element::Cell, &words)
+}
 
 /// The row of a game that was left out.
 #[tactic(auto, unfolding(crate::specs::Entries::left_out_row))]
@@ -18,7 +35,7 @@ fn left_out_row<'a, A: Allocator>(alloc: &'a A, line: &[u8]) -> Result<Html<'a, 
     put_words(alloc, &mut row, Element::Cell, subject(line))?;
     row.put(Element::Cell, &nothing)?;
     row.put(Element::Cell, &nothing)?;
-    put_words(alloc, &mut row, Element::Cell, statement(line))?;
+    put_reason(alloc, &mut row, statement(line))?;
     html.put(Element::Row, &row)?;
     Ok(html)
 }

@@ -7,6 +7,7 @@
 mod ending;
 mod entries;
 mod following;
+mod left_out;
 mod pages;
 mod refusals;
 mod remarks;

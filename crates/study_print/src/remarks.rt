@@ -1,17 +1,29 @@
 //! The remarks of an imported script as paragraphs.
-ghost use Rattle.std.specs.Prelude.{◌≡◌, ◌∷◌, ◌++◌, [], Err, OnOk, IfOk};
+ghost use Rattle.std.specs.Prelude.{◌≡◌, ◌∷◌, ◌++◌, [], Err, OnOk, IfOk, drop};
 ghost use Rattle.std.specs.List.{flat_map};
 ghost use Rattle.std.specs.Io.KnownBytes.{Appends};
 ghost use Rattle.study_text.specs.Taken.{TakesPrefix};
 ghost use Rattle.study_html.specs.Escape.{said};
+ghost use Rattle.study_report.specs.Remarks.{statement};
+ghost use Rattle.study_print.specs.LeftOut.{explanation};
 ghost use Rattle.study_print.specs.Remarks.{left_out_part, letter, latin_letter, spelled, original_part, remark_text};
 
+use crate::left_out::say_explanation;
 use std::alloc::{AllocError, Allocator};
 use std::io::Write;
 use study_games::is_utf8;
 use study_html::{Element, Html};
-use study_report::{WriteFault, behind, is_left_out};
+use study_report::{WriteFault, behind, is_left_out, statement};
 use study_text::{Text, write_text};
+
+/// Adds which game was left out, and why, by the line of its remark.
+fn say_left_out<A: Allocator>(part: &mut Html<'_, A>, line: &[u8]) -> Result<(), AllocError>
+    ensures { OnOk result (part.new ≡ part.old
+        ++ (said (drop 2 line.now) ++ explanation (statement line.now))) }
+{
+    part.say(behind(line, 2))?;
+    say_explanation(part, statement(line))
+}
 
 /// The paragraph of a game without a page.
 #[tactic(auto, unfolding(crate::specs::Remarks::left_out_part))]
@@ -21,7 +33,7 @@ fn left_out_of<'a, A: Allocator>(alloc: &'a A, line: &[u8]) -> Result<Html<'a, A
     let mut html = Html::new(alloc);
     let mut part = Html::new(alloc);
     part.say(b"No page for ")?;
-    part.say(behind(line, 2))?;
+    say_left_out(&mut part, line)?;
     html.put(Element::Warning, &part)?;
     Ok(html)
 }

@@ -69,8 +69,8 @@ whole_read t h n page header same complete e =
     let cells : h.cells ≡ cells_of t.class = header.cells ∙ ap cells_of (sym same) in
     rw fields (rw cells (rw e (whole_again t h.version n complete)))
 
-pub told_cell : (t : Table) (i : ℕ) (r : Result Value ProbeFault)
+pub value_of_cell : (t : Table) (i : ℕ) (r : Result Value ProbeFault)
     → IfOk r (λ v. v ≡ value_of (get_or (cells_on_page t (i / 4096)) (i % 4096) 0))
     → IfOk r (λ v. v ≡ value_of (get_or t.cells i 0))
-told_cell t i (Ok v) told = told ∙ ap value_of (cell_of_page t i)
-told_cell t i (Err fault) told = told
+value_of_cell t i (Ok v) reported = reported ∙ ap value_of (cell_of_page t i)
+value_of_cell t i (Err fault) reported = reported

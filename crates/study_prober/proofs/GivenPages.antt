@@ -49,12 +49,12 @@ module _ {S : Type 0} (gives : S → Question → Result (List ℕ) SourceFault 
   one_held xs c d h k is same was = some_same h k (sym is ∙ ap (λ (x : Class). held_of xs x) (sym same) ∙ was)
 
   pub read_at : (h k : OpenTable S) (m n : ℕ) (r : Result Value ProbeFault) → h ≡ k → m ≡ n → IfOk r (IsReadFrom gives h m) → IfOk r (IsReadFrom gives k n)
-  read_at h k m n r e f told = subst (λ (x : OpenTable S). IfOk r (IsReadFrom gives x n)) e (subst (λ (l : ℕ). IfOk r (IsReadFrom gives h l)) f told)
+  read_at h k m n r e f reported = subst (λ (x : OpenTable S). IfOk r (IsReadFrom gives x n)) e (subst (λ (l : ℕ). IfOk r (IsReadFrom gives h l)) f reported)
 
   pub unread_at : (h k : OpenTable S) (m n : ℕ) (f : SourceFault) → h ≡ k → m ≡ n
       → gives h.source (of_page (m / 4096)) (Err f) → gives k.source (of_page (n / 4096)) (Err f)
-  unread_at h k m n f e g told = subst (λ (x : OpenTable S). gives x.source (of_page (n / 4096)) (Err f)) e
-      (subst (λ (l : ℕ). gives h.source (of_page (l / 4096)) (Err f)) g told)
+  unread_at h k m n f e g reported = subst (λ (x : OpenTable S). gives x.source (of_page (n / 4096)) (Err f)) e
+      (subst (λ (l : ℕ). gives h.source (of_page (l / 4096)) (Err f)) g reported)
 
   pub bad_at : (h k : OpenTable S) (m n : ℕ) → h ≡ k → m ≡ n → HasBadPage gives h m → HasBadPage gives k n
   bad_at h k m n e f bad = subst (λ (x : OpenTable S). HasBadPage gives x n) e (subst (λ (l : ℕ). HasBadPage gives h l) f bad)

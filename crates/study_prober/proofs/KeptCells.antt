@@ -50,11 +50,11 @@ module _ {S V : Type 0} (cells : V → List ℕ) (xs : List (Option (OpenTable S
   pub again_at : (b c d : Class) (i m n : ℕ) (h k : OpenTable S) → i ≡ class_number c → held_of xs c ≡ Some h → b ≡ d → m ≡ n
       → IfSome (kept_cell cells kept b m) (λ x. (r ≡ Ok (value_of x)) × (k ≡ h))
       → IsAgain cells xs (set xs i (Some k)) kept r d n
-  again_at b c d i m n h k at is same number told =
-      let Told : ℕ → Type 0 = λ x. (r ≡ Ok (value_of x)) × (k ≡ h) in
-      let of_class = subst (λ (y : Class). IfSome (kept_cell cells kept y m) Told) same told in
-      let of_number = subst (λ (l : ℕ). IfSome (kept_cell cells kept d l) Told) number of_class in
-      then_some Told (λ x. (r ≡ Ok (value_of x)) × (set xs i (Some k) ≡ xs)) (kept_cell cells kept d n)
+  again_at b c d i m n h k at is same number reported =
+      let Reported : ℕ → Type 0 = λ x. (r ≡ Ok (value_of x)) × (k ≡ h) in
+      let of_class = subst (λ (y : Class). IfSome (kept_cell cells kept y m) Reported) same reported in
+      let of_number = subst (λ (l : ℕ). IfSome (kept_cell cells kept d l) Reported) number of_class in
+      then_some Reported (λ x. (r ≡ Ok (value_of x)) × (set xs i (Some k) ≡ xs)) (kept_cell cells kept d n)
       (λ x t. (
         t.0,
         ap (λ (j : ℕ). set xs j (Some k)) at ∙ ap (λ (o : Option (OpenTable S)). set xs (class_number c) o)
@@ -82,8 +82,8 @@ none_seen cells kept seen c n view none =
 pub again_seen : {S V : Type 0} (cells : V → List ℕ) (xs ys zs : List S) (kept : List (PageKey × V))
     (seen : List (PageKey × List ℕ)) (r : Result Value ProbeFault) (c : Class) (n : ℕ)
     → xs ≡ zs → map (λ e. (e.0, cells e.1)) kept ≡ seen → IsAgain cells xs ys kept r c n → IsAgain (λ cells. cells) zs ys seen r c n
-again_seen cells xs ys zs kept seen r c n same view told =
+again_seen cells xs ys zs kept seen r c n same view reported =
     let Seen : ℕ → Type 0 = λ x. (r ≡ Ok (value_of x)) × (ys ≡ zs) in
-    let at_cell = then_some (λ x. (r ≡ Ok (value_of x)) × (ys ≡ xs)) Seen (kept_cell cells kept c n) (λ x t. (t.0, t.1 ∙ same)) told in
+    let at_cell = then_some (λ x. (r ≡ Ok (value_of x)) × (ys ≡ xs)) Seen (kept_cell cells kept c n) (λ x t. (t.0, t.1 ∙ same)) reported in
     subst (λ (es : List (PageKey × List ℕ)). IfSome (kept_cell (λ xs. xs) es c n) Seen) view
     (subst (λ (o : Option ℕ). IfSome o Seen) (sym (cell_seen cells kept c n)) at_cell)

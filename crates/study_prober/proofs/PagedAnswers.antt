@@ -54,8 +54,8 @@ undamaged {S = S} honest sources p (Err (PageDamaged c n)) all none whole damage
 pub failed_so : {S : Type 0} (gives : GivesOf S) (c : Class) (n : ℕ) (f : SourceFault) (o : Option (OpenTable S)) (r : ProbeAnswer)
     → (o ≡ None → r ≡ Err (NoTable c))
     → ((h : OpenTable S) → o ≡ Some h → gives h.source (of_page n) (Err f)) → n < pages_of c → IsErrOf r (TableRead f) → MayFail gives o c f
-failed_so gives c n f None r none unread inside told = absurd (let e = none refl in let contrary : ⊥ = cc in contrary)
-failed_so gives c n f (Some h) r none unread inside told = (n, inside, unread h refl)
+failed_so gives c n f None r none unread inside reported = absurd (let e = none refl in let contrary : ⊥ = cc in contrary)
+failed_so gives c n f (Some h) r none unread inside reported = (n, inside, unread h refl)
 
 -- the same source fails as before
 pub fails_as_before : {S : Type 0} (gives : GivesOf S) (honest : HonestOf S) (c : Class) (f : SourceFault) (old new : Option (OpenTable S))

@@ -36,13 +36,13 @@ module _ {S : Type 0} where
 
   module _ (honest : S → Table → ℕ → Type 0) {V : Type 0} (cells : V → List ℕ) (xs : List (Option (OpenTable S)))
       (kept : List (PageKey × V)) (c d : Class) where
-    pub told_at : (p : Position) (h k : OpenTable S) (t : Table) (n : ℕ) (r : Result Value ProbeFault)
+    pub value_at_index : (p : Position) (h k : OpenTable S) (t : Table) (n : ℕ) (r : Result Value ProbeFault)
         → IsKept honest cells xs kept → held_of xs c ≡ Some h → d ≡ c → held_of xs d ≡ Some k
         → honest k.source t k.header.version → t.class ≡ d
         → n ≡ index_of p → ((u : Table) → honest h.source u h.header.version → u.class ≡ h.header.class
         → AreOf cells kept u → IfOk r (λ v. v ≡ value_of (get_or u.cells n 0)))
         → IfOk r (λ v. v ≡ value_of (get_or t.cells (index_of p) 0))
-    told_at p h k t n r was is same held gives of e ok =
+    value_at_index p h k t n r was is same held gives of e ok =
         let gives_h : honest h.source t h.header.version =
         subst (λ (x : OpenTable S). honest x.source t x.header.version) (same_held xs c d h k is same held)
         gives in
@@ -55,10 +55,10 @@ module _ {S : Type 0} where
         → honest k.source t k.header.version → t.class ≡ d → IsComplete t
         → ((u : Table) → honest h.source u h.header.version → u.class ≡ h.header.class → IsComplete u
         → (b : Class) (m : ℕ) → IsErrOf r (PageDamaged b m) → ⊥) → IsErrOf r (PageDamaged d n) → ⊥
-    whole_at h k t n r was is same held gives of complete whole told =
+    whole_at h k t n r was is same held gives of complete whole reported =
         whole t
         (subst (λ (x : OpenTable S). honest x.source t x.header.version) (same_held xs c d h k is same held)
-        gives) (of ∙ same ∙ sym (was.header c h is).class) complete d n told
+        gives) (of ∙ same ∙ sym (was.header c h is).class) complete d n reported
 
   -- a count of the source of a class, before and after the source at a place was called
   pub count_at : (count : S → ℕ) (step : ℕ → ℕ) (xs : List (Option (OpenTable S))) (c d : Class) (i : ℕ)
@@ -77,8 +77,8 @@ module _ {S : Type 0} where
 value_right : (t : Table) (c : Class) (p : Position) (r : Result Value ProbeFault) → t.class ≡ c → IsComplete t
     → IsRight t → IsValid p → IsOf c p → IfOk r (λ v. v ≡ value_of (get_or t.cells (index_of p) 0))
     → IfOk r (IsValueOf p)
-value_right t c p (Ok v) of complete right valid is told = at_value t p v complete valid (subst (λ (x : Class). IsOf x p) (sym of) is) told right
-value_right t c p (Err fault) of complete right valid is told = told
+value_right t c p (Ok v) of complete right valid is reported = at_value t p v complete valid (subst (λ (x : Class). IsOf x p) (sym of) is) reported right
+value_right t c p (Err fault) of complete right valid is reported = reported
 
 -- if all sources are right, a value is the game's
 pub game_at : {S V : Type 0} (honest : S → Table → ℕ → Type 0) (cells : V → List ℕ)
@@ -90,4 +90,4 @@ pub game_at : {S V : Type 0} (honest : S → Table → ℕ → Type 0) (cells : 
 game_at honest cells xs kept c p h n r was is valid of e ok right =
     let gives = right.right c h is in
     value_right gives.table c p r gives.of_class gives.complete gives.right valid of
-    (told_at honest cells xs kept c c p h h gives.table n r was is refl is gives.is_honest gives.of_class e ok)
+    (value_at_index honest cells xs kept c c p h h gives.table n r was is refl is gives.is_honest gives.of_class e ok)

@@ -1,9 +1,9 @@
 -- The sources after a page was read, and the values of its cells.
-use Rattle.std.proofs.Common.{◌≡◌, ℕ, ◌+◌, ◌*◌, ◌/◌, ◌%◌, ◌<◌, ◌≤◌, ◌⊎◌, inl, inr, Bool, true, false, min, List, ◌++◌, length, take, drop, replicate, get_or, refl, sym, ap, ◌∙◌, subst, arith, Contains, ◌↔◌}
+use Rattle.std.proofs.Common.{◌≡◌, ℕ, ◌+◌, ◌*◌, ◌%◌, ◌<◌, ◌≤◌, inl, inr, Bool, true, false, min, List, ◌++◌, length, take, drop, replicate, get_or}
+use Rattle.std.proofs.Common.{refl, sym, ap, ◌∙◌, subst, arith, ◌↔◌}
 use Rattle.std.specs.Prelude.{Option, Some, None, is_some, Result, Ok, Err, OnOk, IfErr, IsErrOf, slice_index}
 use Rattle.std.proofs.lemmas.Bool.{false≢true}
 use Rattle.std.proofs.lemmas.List.{length-take-le}
-use Rattle.study_board.specs.Position.{Position, IsValid}
 use Rattle.study_material.specs.declared.class.Class.{Class}
 use Rattle.study_material.specs.Class.{IsOf}
 use Rattle.study_values.specs.Index.{index_of}
@@ -19,13 +19,13 @@ use Rattle.study_table.specs.Table.{Table, IsComplete, table_of}
 use Rattle.study_table.specs.Sound.{IsRight}
 use Rattle.study_table.proofs.SoundLemmas.{at_right}
 use Rattle.study_tablefile.specs.Format.{page_cells_of}
-use Rattle.study_tablefile.specs.PageSource.{Question, of_page}
+use Rattle.study_tablefile.specs.PageSource.{of_page}
 use Rattle.study_tablefile.proofs.Lists.{padded_front, next_page}
 use Rattle.study_prober.specs.declared.page_cache.PageKey.{PageKey}
 use Rattle.study_prober.specs.declared.open_table.OpenTable.{OpenTable}
 use Rattle.study_prober.specs.Sources.{GivesOf, HonestOf, GiveAlike, cells_on_page}
 use Rattle.study_prober.specs.PagedTables.{held_of, IsKept, AreGiven, SourcesAreRight, IsSameSource, MayFail}
-use Rattle.study_prober.specs.CellPages.{AreValuesOf, IsAskedSource, IsAskedOnly}
+use Rattle.study_prober.specs.CellPages.{AreValuesOf, IsAskedOnly}
 use Rattle.study_prober.proofs.Cells.{cell_of_page}
 use Rattle.study_prober.proofs.HeldSources.{same_refl, same_tables, same_after, kept_after, stays_right}
 use Rattle.study_prober.proofs.GivenPages.{give_refl, given_after, alike_after, one_held}
@@ -55,7 +55,8 @@ page_begins c n l = omega arith
 
 -- ---- the sources
 
-module _ {S : Type 0} (gives : GivesOf S) (honest : HonestOf S) (c : Class) (xs ys : List (Option (OpenTable S))) (asked : IsAskedOnly gives honest c xs ys) where
+module _ {S : Type 0} (gives : GivesOf S) (honest : HonestOf S) (c : Class) (xs ys : List (Option (OpenTable S)))
+    (asked : IsAskedOnly gives honest c xs ys) where
   pub asked-same : (d : Class) → IsSameSource honest (held_of xs d) (held_of ys d)
   asked-same d = elim asked [
     | inl e ↦ subst (λ (os : List (Option (OpenTable S))). IsSameSource honest (held_of xs d) (held_of os d)) (sym e) (same_refl honest (held_of xs d))
@@ -104,9 +105,10 @@ module _ {S : Type 0} (honest : HonestOf S) (xs : List (Option (OpenTable S))) (
   pub read-values : SourcesAreRight honest xs
       → ((h : OpenTable S) (t : Table) → held_of xs c ≡ Some h → honest h.source t h.header.version → t.class ≡ c → OnOk r (cells ≡ cells_on_page t n))
       → OnOk r (AreValuesOf c n cells)
-  read-values right told = by_source (held_of xs c) refl
+  read-values right reported = by_source (held_of xs c) refl
     where
-      valued : (s : Result (Unit {0}) ProbeFault) (t : Table) → t.class ≡ c → IsComplete t → IsRight t → OnOk s (cells ≡ cells_on_page t n) → OnOk s (AreValuesOf c n cells)
+      valued : (s : Result (Unit {0}) ProbeFault) (t : Table) → t.class ≡ c → IsComplete t → IsRight t → OnOk s (cells ≡ cells_on_page t n)
+          → OnOk s (AreValuesOf c n cells)
       valued (Ok x) t of complete sound e = page_values t c n cells of complete sound e
       valued (Err f) t of complete sound e = tt
 
@@ -118,7 +120,7 @@ module _ {S : Type 0} (honest : HonestOf S) (xs : List (Option (OpenTable S))) (
       by_source None e = refused r ((none c).1 (refl, e))
       by_source (Some h) e =
           let g = right.right c h e in
-          valued r g.table g.of_class g.complete g.right (told h g.table e g.is_honest g.of_class)
+          valued r g.table g.of_class g.complete g.right (reported h g.table e g.is_honest g.of_class)
 
   -- nor is a page damaged
   pub read-whole : SourcesAreRight honest xs
@@ -147,14 +149,14 @@ module _ {S : Type 0} (honest : HonestOf S) (xs : List (Option (OpenTable S))) (
   pub read-fails : (gives : GivesOf S) (f : SourceFault) → n < pages_of c
       → ((h : OpenTable S) (e : SourceFault) → held_of xs c ≡ Some h → IsErrOf r (TableRead e) → gives h.source (of_page n) (Err e))
       → IsErrOf r (TableRead f) → MayFail gives (held_of xs c) c f
-  read-fails gives f inside unread told = by_source (held_of xs c) refl
+  read-fails gives f inside unread reported = by_source (held_of xs c) refl
     where
       refused : (s : Result (Unit {0}) ProbeFault) → IsErrOf s (NoTable c) → IsErrOf s (TableRead f) → ⊥
       refused s e g = let no : ⊥ = cc in no
 
       by_source : (o : Option (OpenTable S)) → held_of xs c ≡ o → MayFail gives o c f
-      by_source None e = absurd (refused r ((none c).1 (refl, e)) told)
-      by_source (Some h) e = (n, inside, unread h f e told)
+      by_source None e = absurd (refused r ((none c).1 (refl, e)) reported)
+      by_source (Some h) e = (n, inside, unread h f e reported)
 
 -- ---- whole tables
 

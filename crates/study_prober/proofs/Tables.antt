@@ -54,10 +54,10 @@ some_held held d c p t v is some = (
 )
 
 -- the answer of the table of its class is the answer for a position
-pub cell_told : (held : List (Option Table)) (d : Class) (p : Position) (o : Option Table) (r : ProbeAnswer)
+pub answer_of_cell : (held : List (Option Table)) (d : Class) (p : Position) (o : Option Table) (r : ProbeAnswer)
     → IsOf d p → o ≡ table_of held d → r ≡ cell_answer o d p → IsCellAnswer held p r
-cell_told held d p o r is found told = λ c of.
-    told ∙ ap (λ (x : Option Table). cell_answer x d p) found ∙ ap (λ (k : Class). cell_answer (table_of held k) k p) (one_class d c p is of)
+answer_of_cell held d p o r is found reported = λ c of.
+    reported ∙ ap (λ (x : Option Table). cell_answer x d p) found ∙ ap (λ (k : Class). cell_answer (table_of held k) k p) (one_class d c p is of)
 
 set_past : {A : Type 0} (xs : List A) (i : ℕ) (x : A) → length xs ≤ i → set xs i x ≡ xs
 set_past [] i x past = refl

@@ -21,7 +21,7 @@ MayTell honest source (Ok bytes) = (t : Table) (v : ℕ) → honest source t v �
 
 -- the possible answers of this source to the request for its header
 abbrev pub MayAnswer : {S : Type 0} → GivesOf S → HonestOf S → S → Result (List ℕ) SourceFault → Type 0
-MayAnswer gives honest source told = gives source of_header told × MayTell honest source told
+MayAnswer gives honest source reported = gives source of_header reported × MayTell honest source reported
 
 abbrev pub class_fault : Class → Result Class FileFault → Option PagedFault
 class_fault c (Err fault) = Some (BadHeader fault)
@@ -33,17 +33,17 @@ header_fault c (Ok bytes) = class_fault c (class_read bytes)
 
 -- the first fault of a source for a class, by whether the class has a source already and the source's answer
 abbrev pub paged_fault : Bool → Class → Result (List ℕ) SourceFault → Option PagedFault
-paged_fault held c told = if held then Some (AlreadyHeld c) else header_fault c told
+paged_fault held c reported = if held then Some (AlreadyHeld c) else header_fault c reported
 
 -- the result of adding a source, by its first fault: that fault, or otherwise success or want of memory
 abbrev pub IsRefusedBy : Option PagedFault → Result (Unit {0}) PagedFault → Type 0
 IsRefusedBy first answer = MatchOption first (IfErr answer (λ fault. fault ≡ OutOfMemory)) (λ fault. IsErrOf answer fault)
 
 -- the result of the request for a header, by the source's answer
-abbrev pub IsTold : Result (List ℕ) SourceFault → Result Header PagedFault → Type 0
-IsTold (Err fault) answer = answer ≡ Err (TableRead fault)
-IsTold (Ok bytes) (Ok h) = (class_read bytes ≡ Ok h.class) × (version_of bytes ≡ h.version)
-IsTold (Ok bytes) (Err fault) = (e : FileFault) × (fault ≡ BadHeader e) × (class_read bytes ≡ Err e)
+abbrev pub IsReported : Result (List ℕ) SourceFault → Result Header PagedFault → Type 0
+IsReported (Err fault) answer = answer ≡ Err (TableRead fault)
+IsReported (Ok bytes) (Ok h) = (class_read bytes ≡ Ok h.class) × (version_of bytes ≡ h.version)
+IsReported (Ok bytes) (Err fault) = (e : FileFault) × (fault ≡ BadHeader e) × (class_read bytes ≡ Err e)
 
 -- the result of the request for a header to a source that is honest for a table of the class in this version: its header, or a device's fault
 abbrev pub IsHonestHeader : Result Header PagedFault → Class → ℕ → Type 0

@@ -88,5 +88,5 @@ abbrev pub IsPageFor : {S : Type 0} → GivesOf S → Class → OpenTable S → 
 IsPageFor gives c h n key cells = (key ≡ key_at c n) × IsGivenPage gives h (n / 4096) cells
 
 -- a cached cell is read without its source
-abbrev pub IsToldAgain : {X : Type 0} → Option ℕ → ProbeAnswer → X → X → Type 0
-IsToldAgain cell answer old new = IfSome cell (λ x. (answer ≡ Ok (value_of x)) × (new ≡ old))
+abbrev pub IsReadAgain : {X : Type 0} → Option ℕ → ProbeAnswer → X → X → Type 0
+IsReadAgain cell answer old new = IfSome cell (λ x. (answer ≡ Ok (value_of x)) × (new ≡ old))

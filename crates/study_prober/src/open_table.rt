@@ -10,10 +10,10 @@ ghost use Rattle.study_tablefile.specs.Format.{IsVersionOf};
 ghost use Rattle.study_values.specs.Size.{pages_of};
 ghost use Rattle.study_tablefile.specs.PageSource.{page_of, of_page};
 ghost use Rattle.study_prober.specs.PageCache.{kept_cell};
-ghost use Rattle.study_prober.specs.PagedTables.{IsPageFor, IsToldAgain};
+ghost use Rattle.study_prober.specs.PagedTables.{IsPageFor, IsReadAgain};
 ghost use Rattle.study_prober.specs.Sources.{IsGivenPage, HasBadPage, IsReadFrom, GiveAlike, AreHonestAlike, AreOf};
 ghost use Rattle.study_prober.specs.Sources.{IsHeaderOf, PutsNone, PutsOnly, failed_after, cells_on_page};
-ghost use Rattle.study_prober.specs.HeaderAnswers.{MayAnswer, IsHonestHeader, IsTold, unread_after};
+ghost use Rattle.study_prober.specs.HeaderAnswers.{MayAnswer, IsHonestHeader, IsReported, unread_after};
 
 use crate::fault::PagedFault;
 use crate::page_cache::{PageKey, Pages, cache_page, cached_cell, page_key};
@@ -34,8 +34,8 @@ pub fn header_of<S: PageSource>(source: &mut S) -> Result<Header, PagedFault>
     ensures count { S.failed source.new ≡ unread_after (S.failed source.old) result }
     ensures asked { S.asked source.new ≡ counted (S.asked source.old) }
     ensures alike { GiveAlike S.gives source.old source.new }
-    ensures told { (told : Result (List ℕ) ASourceFault)
-        × MayAnswer S.gives S.honest source.old told × IsTold told result }
+    ensures reported { (reported : Result (List ℕ) ASourceFault)
+        × MayAnswer S.gives S.honest source.old reported × IsReported reported result }
     ensures header { IfOk result (λ h. IsHeaderOf h h.class) }
     ensures reads { (t : Seen) (v : ℕ) → IsVersionOf t.class v → S.honest source.old t v
         → IsHonestHeader result t.class v }
@@ -205,7 +205,7 @@ pub fn value_of_number<'a, S: PageSource, A: Allocator>(
         → S.gives held.old.source (of_page (number / 4096)) (Err f) }
     ensures not_whole { (c : AClass) (n : ℕ) → IsErrOf result (ProbeFault.PageDamaged c n)
         → HasBadPage S.gives held.old (number / 4096) }
-    ensures again { IsToldAgain
+    ensures again { IsReadAgain
         (kept_cell (λ v. v.items) pages.old.entries held.old.header.class
         number) result held.old held.new }
     ensures read { ((e : _) → Contains pages.old.entries e → e.0.class ≡ held.old.header.class

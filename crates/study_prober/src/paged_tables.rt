@@ -20,7 +20,7 @@ ghost use Rattle.study_prober.specs.declared.open_table.OpenTable.{OpenTable as 
 ghost use Rattle.study_prober.specs.Sources.{AreHonestAlike, GiveAlike, HasBadPage, IsReadFrom, GivesRight};
 ghost use Rattle.study_prober.specs.Sources.{IsGivenPage, cells_on_page};
 ghost use Rattle.study_prober.specs.Sources.{IsHeaderOf, PutsNone, PutsOnly, failed_after};
-ghost use Rattle.study_prober.specs.PagedTables.{SourcesAreRight, AreGiven, IsKept, IsPageFor, IsPagedAnswer, IsSameSource, IsToldAgain, MayFail, held_of};
+ghost use Rattle.study_prober.specs.PagedTables.{SourcesAreRight, AreGiven, IsKept, IsPageFor, IsPagedAnswer, IsSameSource, IsReadAgain, MayFail, held_of};
 ghost use Rattle.study_prober.specs.PagedTables.{paged_source, places_for_classes};
 ghost use Rattle.study_values.specs.Values.{IsNotDamage, faults_after, page_number};
 ghost use Rattle.study_prober.specs.CellPages.{IsAskedOnly};
@@ -91,11 +91,11 @@ impl<'a, S: PageSource, A: Allocator> PagedTables<'a, S, A> {
 
     /// Adds a source of the table of a class; the classes that it needs may be missing. A source that is refused is dropped.
     pub fn add(&mut self, class: Class, mut source: S) -> Result<(), PagedFault>
-        ensures fault { (told : Result (List ℕ) ASourceFault)
+        ensures fault { (reported : Result (List ℕ) ASourceFault)
             × (is_some (held_of self.old.sources class) ≡ false
-            → MayAnswer S.gives S.honest source told)
+            → MayAnswer S.gives S.honest source reported)
             × IsRefusedBy
-            (paged_fault (is_some (held_of self.old.sources class)) class told) result }
+            (paged_fault (is_some (held_of self.old.sources class)) class reported) result }
         ensures added { OnOk result (
             (h : AHeld S) × IsHeaderOf h.header class
             × ((t : Seen) (v : ℕ) → IsVersionOf t.class v
@@ -203,7 +203,7 @@ fn probe_paged<'a, S: PageSource, A: Allocator>(
         → IsSameSource S.honest (held_of sources.old.items c) (held_of sources.new.items c) }
     ensures no_table { (c : AClass) → IsErrOf result (ProbeFault.NoTable c)
         ↔ (IsOf c p.now × (held_of sources.old.items c ≡ None)) }
-    ensures told { (c : AClass) (h : AHeld S) (t : Seen) → IsOf c p.now
+    ensures reported { (c : AClass) (h : AHeld S) (t : Seen) → IsOf c p.now
         → held_of sources.old.items c ≡ Some h
         → S.honest h.source t h.header.version → t.class ≡ c
         → IfOk result (λ v. v ≡ value_of (slice_index t.cells (index_of p.now))) }
@@ -225,7 +225,7 @@ fn probe_paged<'a, S: PageSource, A: Allocator>(
     ensures others { (c : AClass) → (IsOf c p.now → ⊥)
         → held_of sources.new.items c ≡ held_of sources.old.items c }
     ensures again { (c : AClass) → IsOf c p.now
-        → IsToldAgain (kept_cell (λ v. v.items) pages.old.entries c (index_of p.now)) result
+        → IsReadAgain (kept_cell (λ v. v.items) pages.old.entries c (index_of p.now)) result
         sources.old.items sources.new.items }
     ensures game { SourcesAreRight S.honest sources.old.items → IfOk result (IsValueOf p.now) }
 {
@@ -265,7 +265,7 @@ impl<'a, S: PageSource, A: Allocator> Values for PagedTables<'a, S, A> {
         ensures failures { self.new.failed ≡ faults_after self.old.failed result }
 
         // If a source is honest for a table of the class, an answer is the table's, and no page is damaged.
-        ensures told { (c : AClass) (h : AHeld S) (t : Seen) → IsOf c p.now
+        ensures reported { (c : AClass) (h : AHeld S) (t : Seen) → IsOf c p.now
             → held_of self.old.sources c ≡ Some h
             → S.honest h.source t h.header.version → t.class ≡ c
             → IfOk result (λ v. v ≡ value_of (slice_index t.cells (index_of p.now))) }
@@ -310,7 +310,7 @@ impl<'a, S: PageSource, A: Allocator> Values for PagedTables<'a, S, A> {
 
         // A cell of a cached page is read without its source; for any other the source is read once.
         ensures again { (c : AClass) → IsOf c p.now
-            → IsToldAgain (kept_cell (λ cells. cells) self.old.kept c (index_of p.now)) result
+            → IsReadAgain (kept_cell (λ cells. cells) self.old.kept c (index_of p.now)) result
             self.old.sources self.new.sources }
         ensures once { (c : AClass) (h k : AHeld S) → IsOf c p.now
             → held_of self.old.sources c ≡ Some h → held_of self.new.sources c ≡ Some k
@@ -351,7 +351,7 @@ fn read_page<'a, S: PageSource, A: Allocator>(
     requires headers { (c : AClass) (h : AHeld S)
         → held_of sources.old.items c ≡ Some h → IsHeaderOf h.header c }
     ensures asked { IsAskedOnly S.gives S.honest class sources.old.items sources.new.items }
-    ensures told { (h : AHeld S) (t : Seen) → held_of sources.old.items class ≡ Some h
+    ensures reported { (h : AHeld S) (t : Seen) → held_of sources.old.items class ≡ Some h
         → S.honest h.source t h.header.version → t.class ≡ class
         → OnOk result (into.new ≡ cells_on_page t number) }
     ensures whole { (h : AHeld S) (t : Seen) → held_of sources.old.items class ≡ Some h

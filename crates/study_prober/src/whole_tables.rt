@@ -60,7 +60,8 @@ impl<'a, A: Allocator> WholeTables<'a, A> {
             (λ fault. IsErrAnd result (λ e. e.fault ≡ fault)) }
         ensures added { OnOk result (
             self.new ≡ record self.old {
-              tables = slice_set self.old.tables (class_number table.entry.class) (Some table.entry);
+              tables = slice_set self.old.tables (class_number table.entry.class)
+                  (Some table.entry);
             }
             ) }
         ensures same { OnErr result (self.new ≡ self.old) }
@@ -92,7 +93,8 @@ impl<'a, A: Allocator> Values for WholeTables<'a, A> {
             → is_some (table_of self.new.tables c) ≡ is_some (table_of self.old.tables c) }
         ensures asked { self.new.asked ≡ counted self.old.asked }
         ensures failures { 0 ≡ faults_after 0 result }
-        ensures told { (c : AClass) (t : Seen) → IsOf c p.now → table_of self.old.tables c ≡ Some t
+        ensures reported { (c : AClass) (t : Seen) → IsOf c p.now
+            → table_of self.old.tables c ≡ Some t
             → result ≡ Ok (value_of (slice_index t.cells (index_of p.now))) }
         ensures same { self.new.tables ≡ self.old.tables }
     {

@@ -36,7 +36,10 @@ Outcome-kept separate first script left old mid new (Err WriteDevice) kept (n, f
     (n, few, fed, after, some_kept _ (λ line. AreBrokenOff-kept separate first _ line old mid new kept) broken)
 Outcome-kept separate first script left old mid new (Err (LineTooLong n)) kept (some, few, long, answered) =
     (some, few, long, AreAnswered-kept separate first _ old mid new kept answered)
-Outcome-kept separate first script left old mid new (Err TooManyLines) kept (many, answered) = (many, AreAnswered-kept separate first _ old mid new kept answered)
+Outcome-kept separate first script left old mid new (Err TooManyLines) kept (many, answered) = (
+  many,
+  AreAnswered-kept separate first _ old mid new kept answered,
+)
 Outcome-kept separate first script left old mid new (Err OutOfMemory) kept (written, same) = (Keeps-trans old mid new written kept, same)
 
 AreWritten-kept : (lines : List (List ℕ)) (old mid new : Option (List ℕ)) (count : ℕ) → Keeps mid new → AreWritten lines old mid count

@@ -7,7 +7,7 @@ use Rattle.study_script.specs.State.{StoreKnowledge}
 use Rattle.study_script.specs.Stores.{AreTrusted}
 use Rattle.study_script.specs.Outcome.{Outcome, Shape, initial_state}
 use Rattle.study_script.specs.Written.{Fits}
-use Rattle.study_program.specs.Status.{status_told, IsTold}
+use Rattle.study_program.specs.Status.{status_reported, IsReported}
 
 -- nothing is known of the files of a folder, and their sources may fail in any way
 abbrev pub nothing_known : StoreKnowledge
@@ -25,4 +25,4 @@ HasRun by_pages separate script left old new answer = IfSome script (λ bytes. S
 -- excludes that it ends with 3 and has read nothing, for want of memory: tests do.
 abbrev pub EndsBy : (Result Summary RunFault → Type 0) → ℕ → Option (List ℕ) → Option (List ℕ) → Type 0
 EndsBy Ran status old new = (ran answer : Result Summary RunFault) × Ran ran × ((answer ≡ ran) ⊎ (answer ≡ Err WriteDevice))
-    × (status ≡ status_told answer) × IsTold answer old new
+    × (status ≡ status_reported answer) × IsReported answer old new

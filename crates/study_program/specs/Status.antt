@@ -10,9 +10,9 @@ use Rattle.study_script.specs.declared.running.RunFault.{RunFault}
 use Rattle.study_script.specs.declared.running.RunFault.TheVariants.{ReadDevice, WriteDevice, LineTooLong, TooManyLines, OutOfMemory}
 
 -- 0 if no line was refused, 1 if some line was, 3 if the run stopped at a fault
-abbrev pub status_told : Result Summary RunFault → ℕ
-status_told (Ok summary) = if summary.refused == 0 then 0 else 1
-status_told (Err fault) = 3
+abbrev pub status_reported : Result Summary RunFault → ℕ
+status_reported (Ok summary) = if summary.refused == 0 then 0 else 1
+status_reported (Err fault) = 3
 
 -- help or the version was requested: 0 if it was printed; elsewhere the words were refused
 abbrev pub status_shown : Bool → ℕ
@@ -34,6 +34,6 @@ stop_text TooManyLines = codes "studybench: TooManyLines\n"
 stop_text OutOfMemory = codes "studybench: OutOfMemory\n"
 
 -- a run that stopped is reported, or a prefix of the report if standard error fails; for another run nothing is written
-abbrev pub IsTold : Result Summary RunFault → Option (List ℕ) → Option (List ℕ) → Type 0
-IsTold (Ok summary) old new = Keeps old new
-IsTold (Err fault) old new = Appends old new (stop_text fault) ⊎ TakesPrefix old new (stop_text fault)
+abbrev pub IsReported : Result Summary RunFault → Option (List ℕ) → Option (List ℕ) → Type 0
+IsReported (Ok summary) old new = Keeps old new
+IsReported (Err fault) old new = Appends old new (stop_text fault) ⊎ TakesPrefix old new (stop_text fault)

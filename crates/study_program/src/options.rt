@@ -7,7 +7,7 @@ use clap::{Arg, ArgAction, Command, Error, value_parser};
 use std::alloc::Global;
 
 /// The version, and the kit that it is proved with, as `studybench --version` prints them.
-pub const VERSION: &str = "1.6.0 (kit rattle-kit-13f)";
+pub const VERSION: &str = "1.7.0 (kit rattle-kit-13f)";
 
 const ABOUT: &str =
     "Answers a script of commands on chess endgame studies, one reply a line, from standard input to standard output.";

@@ -2,7 +2,7 @@
 ghost use Rattle.std.specs.Prelude.{◌≡◌, Bool, is_some};
 ghost use Rattle.clap.specs.Values.{kind_of};
 ghost use Rattle.study_program.specs.Ended.{EndsBy, HasRun};
-ghost use Rattle.study_program.specs.Status.{status_told, status_unread, IsTold};
+ghost use Rattle.study_program.specs.Status.{status_reported, status_unread, IsReported};
 
 use crate::folder::FolderStore;
 use crate::options::{Options, read_words};
@@ -100,8 +100,8 @@ pub fn answer_script<F: Files, R: Read, W: Write, E: Write, A: Allocator>(
 
 /// Reports why a run stopped, if it did. A failure of standard error cannot be reported.
 fn ended<E: Write>(errors: &mut E, answer: &Result<Summary, RunFault>) -> u8
-    ensures status { result ≡ status_told answer.now }
-    ensures told { IsTold answer.now (E.contents errors.old) (E.contents errors.new) }
+    ensures status { result ≡ status_reported answer.now }
+    ensures reported { IsReported answer.now (E.contents errors.old) (E.contents errors.new) }
 {
     if let Err(fault) = answer {
         let _ = put_stop(errors, *fault);

@@ -3,7 +3,7 @@ ghost use Rattle.std.specs.Prelude.{◌≡◌, ◌++◌, ◌∷◌, [], codes, d
 ghost use Rattle.std.specs.Io.KnownBytes.{Appends};
 ghost use Rattle.clap.specs.Values.{kind_of};
 ghost use Rattle.study_text.specs.Taken.{TakesPrefix};
-ghost use Rattle.study_program.specs.Status.{status_told, status_unread, stop_text};
+ghost use Rattle.study_program.specs.Status.{status_reported, status_unread, stop_text};
 
 use clap::Error;
 use clap::error::ErrorKind;
@@ -14,7 +14,7 @@ use study_text::{DeviceFailed, write_text};
 
 /// The exit status after a run.
 pub fn status_of(answer: &Result<Summary, RunFault>) -> u8
-    ensures { result ≡ status_told answer.now }
+    ensures { result ≡ status_reported answer.now }
 {
     match answer {
         Ok(summary) if summary.refused == 0 => 0,

@@ -25,7 +25,7 @@ reply_text (done.Moves start) = moves_text start.position
 reply_text (done.Fen start) = reply_line (codes "fen ") (fen_text start)
 reply_text (done.Solved plies) = solve_text plies
 reply_text (done.Pgn game) = game.text.items
-reply_text (done.Table told) = table_text told
+reply_text (done.Table reported) = table_text reported
 
 abbrev pub refused_words : {A : Type 0} → LineRefusal A → List ℕ
 refused_words (Line refusal) = words_of refusal

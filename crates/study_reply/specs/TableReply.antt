@@ -18,5 +18,5 @@ table_text (Verified c false) = codes "verified " ++ name_of c ++ codes " no\n"
 
 -- the reply to a successful or a refused command
 abbrev pub decided_text : Result TableReply Refusal → List ℕ
-decided_text (Ok told) = table_text told
+decided_text (Ok reported) = table_text reported
 decided_text (Err refusal) = reply_line (codes "error ") (words_of refusal)

@@ -22,11 +22,11 @@ use Rattle.study_reply.specs.declared.refusal.Refusal.TheVariants.{NotAClass}
 use Rattle.study_script.specs.Replies.{Reply, refused}
 use Rattle.study_report.specs.declared.line_kind.LineKind.{LineKind}
 use Rattle.study_report.specs.declared.line_kind.LineKind.TheVariants.{Remark, PassedOver, NoClass, Study, Checked}
-use Rattle.study_report.specs.Told.{Point, Added, IsAdded, IsAddedAs, IsPgnAfter, IsCheckedAfter, line_kind, refusal_count, study_count}
+use Rattle.study_report.specs.Reported.{Point, Added, IsAdded, IsAddedAs, IsPgnAfter, IsCheckedAfter, line_kind, refusal_count, study_count}
 use Rattle.study_facts.specs.declared.entry.EntryInfo.{EntryInfo}
 use Rattle.study_report.specs.Unread.{unread_after}
 use Rattle.study_report.proofs.LineAdds.{entry}
-use Rattle.study_report.specs.Told.{nothing_added, refusal_added, Entry, last_entry, studies_on, listed_in, entries_in}
+use Rattle.study_report.specs.Reported.{nothing_added, refusal_added, Entry, last_entry, studies_on, listed_in, entries_in}
 use Rattle.study_report.specs.Outcome.{begun, AreAdded, report_text, refusals, point_after, IsFollowed, AreListed, StoppedAfter, AreListedBefore, Outcome}
 use Rattle.study_report.specs.Outcome.{Shape}
 use Rattle.study_report.specs.Written.{Adds, Stops}
@@ -86,18 +86,18 @@ module _ (tells : PlainStudy → EntryInfo → List ℕ → Type 0) (refusal : �
 
   entries-more : (p : Point) (lines : List (List ℕ)) (added : List Added) (line : List ℕ) (a : Added) → AreAdded tells refusal remark p lines added
       → entries_in (lines ++ line ∷ []) (added ++ a ∷ [])
-      ≡ entries_in lines added ++ listed_in line a.told a.after.state.document (last_entry a.after)
-  entries-more p [] [] line a h = append-nil (listed_in line a.told a.after.state.document (last_entry a.after))
+      ≡ entries_in lines added ++ listed_in line a.reported a.after.state.document (last_entry a.after)
+  entries-more p [] [] line a h = append-nil (listed_in line a.reported a.after.state.document (last_entry a.after))
   entries-more p [] (x ∷ added) line a h = absurd h
   entries-more p (l ∷ lines) [] line a h = absurd h
   entries-more p (l ∷ lines) (x ∷ added) line a h =
-      let mine = listed_in l x.told x.after.state.document (last_entry x.after) in
+      let mine = listed_in l x.reported x.after.state.document (last_entry x.after) in
       ap (λ (t : List Entry). mine ++ t) (entries-more x.after lines added line a h.1)
-      ∙ sym (append_assoc mine (entries_in lines added) (listed_in line a.told a.after.state.document (last_entry a.after)))
+      ∙ sym (append_assoc mine (entries_in lines added) (listed_in line a.reported a.after.state.document (last_entry a.after)))
 
   -- ---- the parts of the first n lines are written
 
-  pub record ToldOver (Lists : List Entry → Type 0) (all left : List (List ℕ)) (old new : Option (List ℕ)) (first : State) (p : Point)
+  pub record ReportedOver (Lists : List Entry → Type 0) (all left : List (List ℕ)) (old new : Option (List ℕ)) (first : State) (p : Point)
       (n refused : ℕ) : Type 0 where
     pub left_is : drop n all ≡ left
     pub within : n ≤ length all
@@ -109,20 +109,20 @@ module _ (tells : PlainStudy → EntryInfo → List ℕ → Type 0) (refusal : �
     pub refused_is : refused ≡ refusals added
     pub listed : Lists (entries_in (take n all) added)
 
-  abbrev pub ToldKnown : (List Entry → Type 0) → Option (List ℕ) → Option (List ℕ) → Option (List ℕ) → Option (List ℕ) → State → Point
+  abbrev pub ReportedKnown : (List Entry → Type 0) → Option (List ℕ) → Option (List ℕ) → Option (List ℕ) → Option (List ℕ) → State → Point
       → ℕ → ℕ → Type 0
-  ToldKnown Lists None now old new first p n refused = Unit {0}
-  ToldKnown Lists (Some bs) None old new first p n refused = ⊥
-  ToldKnown Lists (Some bs) (Some rest) old new first p n refused = ToldOver Lists (script_lines bs) (script_lines rest) old new first p n refused
+  ReportedKnown Lists None now old new first p n refused = Unit {0}
+  ReportedKnown Lists (Some bs) None old new first p n refused = ⊥
+  ReportedKnown Lists (Some bs) (Some rest) old new first p n refused = ReportedOver Lists (script_lines bs) (script_lines rest) old new first p n refused
 
-  pub record HasTold (Lists : List Entry → Type 0) (script now old new : Option (List ℕ)) (first : State) (p : Point)
+  pub record HasReported (Lists : List Entry → Type 0) (script now old new : Option (List ℕ)) (first : State) (p : Point)
       (n refused : ℕ) : Type 0 where
-    pub known : ToldKnown Lists script now old new first p n refused
+    pub known : ReportedKnown Lists script now old new first p n refused
 
-  pub told_none : (Lists : List Entry → Type 0) → Lists [] → (script out : Option (List ℕ)) (first : State)
-      → HasTold Lists script script out out first (begun first) 0 0
-  told_none Lists h None out first = record { known = tt }
-  told_none Lists h (Some bs) out first =
+  pub none_reported : (Lists : List Entry → Type 0) → Lists [] → (script out : Option (List ℕ)) (first : State)
+      → HasReported Lists script script out out first (begun first) 0 0
+  none_reported Lists h None out first = record { known = tt }
+  none_reported Lists h (Some bs) out first =
       record {
         known = record {
           left_is = refl;
@@ -137,16 +137,16 @@ module _ (tells : PlainStudy → EntryInfo → List ℕ → Type 0) (refusal : �
         };
       }
 
-  pub told_more : (Lists Lists' : List Entry → Type 0) (script now next old mid new : Option (List ℕ)) (first : State)
-      (p : Point) (line : List ℕ) (a : Added) (n refused refused' : ℕ) → HasTold Lists script now old mid first p n refused
+  pub reported_more : (Lists Lists' : List Entry → Type 0) (script now next old mid new : Option (List ℕ)) (first : State)
+      (p : Point) (line : List ℕ) (a : Added) (n refused refused' : ℕ) → HasReported Lists script now old mid first p n refused
       → TakesLine now next true line → length line ≤ 1024
-      → IsAdded tells refusal remark p line a → Appends mid new a.text → refused' ≡ refused + refusal_count a.told
-      → ((more : List Entry) → Lists more → Lists' (more ++ listed_in line a.told a.after.state.document (last_entry a.after)))
-      → HasTold Lists' script next old new first a.after (n + 1) refused'
-  told_more Lists Lists' None now next old mid new first p line a n refused refused' r t short is wrote k l = record { known = tt }
-  told_more Lists Lists' (Some bs) None next old mid new first p line a n refused refused' r t short is wrote k l = absurd r.known
-  told_more Lists Lists' (Some bs) (Some rest) None old mid new first p line a n refused refused' r t short is wrote k l = absurd t
-  told_more Lists Lists' (Some bs) (Some rest) (Some rest') old mid new first p line a n refused refused' r t short is wrote k l =
+      → IsAdded tells refusal remark p line a → Appends mid new a.text → refused' ≡ refused + refusal_count a.reported
+      → ((more : List Entry) → Lists more → Lists' (more ++ listed_in line a.reported a.after.state.document (last_entry a.after)))
+      → HasReported Lists' script next old new first a.after (n + 1) refused'
+  reported_more Lists Lists' None now next old mid new first p line a n refused refused' r t short is wrote k l = record { known = tt }
+  reported_more Lists Lists' (Some bs) None next old mid new first p line a n refused refused' r t short is wrote k l = absurd r.known
+  reported_more Lists Lists' (Some bs) (Some rest) None old mid new first p line a n refused refused' r t short is wrote k l = absurd t
+  reported_more Lists Lists' (Some bs) (Some rest) (Some rest') old mid new first p line a n refused refused' r t short is wrote k l =
       let v = r.known in
       let all = script_lines bs in
       let f = first_left all (script_lines rest') n line (v.left_is ∙ t) in
@@ -163,7 +163,7 @@ module _ (tells : PlainStudy → EntryInfo → List ℕ → Type 0) (refusal : �
               (subst (λ (h : Point). IsAdded tells refusal remark h line a) v.point_is is));
           written = rw (text-more v.added a) (Appends-trans old mid new (report_text v.added) a.text v.written wrote);
           point_is = sym (point_after-more (begun first) v.added a);
-          refused_is = k ∙ ap (λ i. i + refusal_count a.told) v.refused_is ∙ sym (sum_by_push (λ (x : Added). refusal_count x.told) v.added a);
+          refused_is = k ∙ ap (λ i. i + refusal_count a.reported) v.refused_is ∙ sym (sum_by_push (λ (x : Added). refusal_count x.reported) v.added a);
           listed = subst Lists'
               (sym (ap (λ (ls : List (List ℕ)). entries_in ls (v.added ++ a ∷ [])) grown ∙ entries-more (begun first) (take n all) v.added line a v.are))
               (l (entries_in (take n all) v.added) v.listed);
@@ -172,13 +172,13 @@ module _ (tells : PlainStudy → EntryInfo → List ℕ → Type 0) (refusal : �
 
   -- ---- the ends of a report
 
-  pub told_ends : {Lists : List Entry → Type 0} (left script now next old new : Option (List ℕ)) (first : State) (p : Point) (line : List ℕ)
-      (n refused : ℕ) → HasTold Lists script now old new first p n refused → TakesLine now next false line → n ≤ 100000
+  pub reported_ends : {Lists : List Entry → Type 0} (left script now next old new : Option (List ℕ)) (first : State) (p : Point) (line : List ℕ)
+      (n refused : ℕ) → HasReported Lists script now old new first p n refused → TakesLine now next false line → n ≤ 100000
       → IfSome script (λ bytes. Outcome tells refusal remark first bytes left old new (Ok (record { lines = n; refused = refused })))
-  told_ends left None now next old new first p line n refused r t le = tt
-  told_ends left (Some bs) None next old new first p line n refused r t le = absurd r.known
-  told_ends left (Some bs) (Some rest) None old new first p line n refused r t le = absurd t
-  told_ends left (Some bs) (Some rest) (Some rest') old new first p line n refused r t le =
+  reported_ends left None now next old new first p line n refused r t le = tt
+  reported_ends left (Some bs) None next old new first p line n refused r t le = absurd r.known
+  reported_ends left (Some bs) (Some rest) None old new first p line n refused r t le = absurd t
+  reported_ends left (Some bs) (Some rest) (Some rest') old new first p line n refused r t le =
       let v = r.known in
       let d = none_left (script_lines bs) n v.within (v.left_is ∙ t) in
       let e = d.1 in (
@@ -192,13 +192,13 @@ module _ (tells : PlainStudy → EntryInfo → List ℕ → Type 0) (refusal : �
       )
 
   -- the state at the end of the script is the one that it leaves
-  pub told_after : {Lists : List Entry → Type 0} (holds : State → Type 0) (script now next old new : Option (List ℕ)) (first : State)
-      (p : Point) (line : List ℕ) (n refused : ℕ) → HasTold Lists script now old new first p n refused → TakesLine now next false line → holds p.state
+  pub reported_after : {Lists : List Entry → Type 0} (holds : State → Type 0) (script now next old new : Option (List ℕ)) (first : State)
+      (p : Point) (line : List ℕ) (n refused : ℕ) → HasReported Lists script now old new first p n refused → TakesLine now next false line → holds p.state
       → IfSome script (λ bytes. IsFollowed tells refusal remark first bytes old new holds)
-  told_after holds None now next old new first p line n refused r t held = tt
-  told_after holds (Some bs) None next old new first p line n refused r t held = absurd r.known
-  told_after holds (Some bs) (Some rest) None old new first p line n refused r t held = absurd t
-  told_after holds (Some bs) (Some rest) (Some rest') old new first p line n refused r t held =
+  reported_after holds None now next old new first p line n refused r t held = tt
+  reported_after holds (Some bs) None next old new first p line n refused r t held = absurd r.known
+  reported_after holds (Some bs) (Some rest) None old new first p line n refused r t held = absurd t
+  reported_after holds (Some bs) (Some rest) (Some rest') old new first p line n refused r t held =
       let v = r.known in
       let d = none_left (script_lines bs) n v.within (v.left_is ∙ t) in (
         v.added,
@@ -208,13 +208,13 @@ module _ (tells : PlainStudy → EntryInfo → List ℕ → Type 0) (refusal : �
       )
 
   -- what is true of the entries
-  pub told_listed : (Lists : List Entry → Type 0) (script now next old new : Option (List ℕ)) (first : State) (p : Point) (line : List ℕ)
-      (n refused : ℕ) → HasTold Lists script now old new first p n refused → TakesLine now next false line
+  pub reported_listed : (Lists : List Entry → Type 0) (script now next old new : Option (List ℕ)) (first : State) (p : Point) (line : List ℕ)
+      (n refused : ℕ) → HasReported Lists script now old new first p n refused → TakesLine now next false line
       → IfSome script (λ bytes. AreListed tells refusal remark first bytes old new Lists)
-  told_listed Lists None now next old new first p line n refused r t = tt
-  told_listed Lists (Some bs) None next old new first p line n refused r t = absurd r.known
-  told_listed Lists (Some bs) (Some rest) None old new first p line n refused r t = absurd t
-  told_listed Lists (Some bs) (Some rest) (Some rest') old new first p line n refused r t =
+  reported_listed Lists None now next old new first p line n refused r t = tt
+  reported_listed Lists (Some bs) None next old new first p line n refused r t = absurd r.known
+  reported_listed Lists (Some bs) (Some rest) None old new first p line n refused r t = absurd t
+  reported_listed Lists (Some bs) (Some rest) (Some rest') old new first p line n refused r t =
       let v = r.known in
       let d = none_left (script_lines bs) n v.within (v.left_is ∙ t) in (
         v.added,
@@ -226,48 +226,48 @@ module _ (tells : PlainStudy → EntryInfo → List ℕ → Type 0) (refusal : �
   pub listed-before : (Had Has : List Entry → Type 0) (before : List Entry) → Had before
       → (script : Option (List ℕ)) (first : State) (old new : Option (List ℕ))
       → IfSome script (λ bytes. AreListed tells refusal remark first bytes old new
-      (λ more. (told : List Entry) → Had told → Has (told ++ more)))
+      (λ more. (reported : List Entry) → Had reported → Has (reported ++ more)))
       → IfSome script (λ bytes. AreListed tells refusal remark first bytes old new (λ more. Has (before ++ more)))
   listed-before Had Has before had None first old new h = tt
   listed-before Had Has before had (Some bs) first old new (added, are, wrote, l) = (added, are, wrote, l before had)
 
-  pub told_long : {Lists : List Entry → Type 0} (left script now old new : Option (List ℕ)) (first : State) (p : Point) (n refused : ℕ)
-      → HasTold Lists script now old new first p n refused → BeginsLong now → n < 100000
+  pub reported_long : {Lists : List Entry → Type 0} (left script now old new : Option (List ℕ)) (first : State) (p : Point) (n refused : ℕ)
+      → HasReported Lists script now old new first p n refused → BeginsLong now → n < 100000
       → IfSome script (λ bytes. Outcome tells refusal remark first bytes left old new (Err (LineTooLong (n + 1))))
-  told_long left None now old new first p n refused r t lt = tt
-  told_long left (Some bs) None old new first p n refused r t lt = absurd r.known
-  told_long left (Some bs) (Some rest) old new first p n refused r (line, more, is, long) lt =
+  reported_long left None now old new first p n refused r t lt = tt
+  reported_long left (Some bs) None old new first p n refused r t lt = absurd r.known
+  reported_long left (Some bs) (Some rest) old new first p n refused r (line, more, is, long) lt =
       let v = r.known in
       let f = first_left (script_lines bs) more n line (v.left_is ∙ is) in
       let e : n + 1 - 1 ≡ n = omega arith in
       (omega arith, omega arith, rw (e, f.3) long, (rw e v.short, v.added, rw e v.are, v.written))
 
-  pub told_read : {Lists : List Entry → Type 0} (left script now old new : Option (List ℕ)) (first : State) (p : Point) (n refused : ℕ)
-      → HasTold Lists script now old new first p n refused → n ≤ 100000 → GaveFeeds script left n → GaveFeeds now left 0
+  pub reported_read : {Lists : List Entry → Type 0} (left script now old new : Option (List ℕ)) (first : State) (p : Point) (n refused : ℕ)
+      → HasReported Lists script now old new first p n refused → n ≤ 100000 → GaveFeeds script left n → GaveFeeds now left 0
       → IfSome script (λ bytes. Outcome tells refusal remark first bytes left old new (Err ReadDevice))
-  told_read left None now old new first p n refused r le g h = tt
-  told_read left (Some bs) None old new first p n refused r le g h = absurd r.known
-  told_read left (Some bs) (Some rest) old new first p n refused r le g h =
+  reported_read left None now old new first p n refused r le g h = tt
+  reported_read left (Some bs) None old new first p n refused r le g h = absurd r.known
+  reported_read left (Some bs) (Some rest) old new first p n refused r le g h =
       let v = r.known in (n, le, v.within, g, rest, v.left_is, h, (v.short, v.added, v.are, v.written))
 
-  pub told_many : {Lists : List Entry → Type 0} (left script now old new : Option (List ℕ)) (first : State) (p : Point) (refused : ℕ)
-      → HasTold Lists script now old new first p 100000 refused → HasMore now
+  pub reported_many : {Lists : List Entry → Type 0} (left script now old new : Option (List ℕ)) (first : State) (p : Point) (refused : ℕ)
+      → HasReported Lists script now old new first p 100000 refused → HasMore now
       → IfSome script (λ bytes. Outcome tells refusal remark first bytes left old new (Err TooManyLines))
-  told_many left None now old new first p refused r t = tt
-  told_many left (Some bs) None old new first p refused r t = absurd r.known
-  told_many left (Some bs) (Some rest) old new first p refused r t =
+  reported_many left None now old new first p refused r t = tt
+  reported_many left (Some bs) None old new first p refused r t = absurd r.known
+  reported_many left (Some bs) (Some rest) old new first p refused r t =
       let v = r.known in
       (more_left (script_lines bs) (script_lines rest) 100000 v.left_is t, (v.short, v.added, v.are, v.written))
 
-  pub told_write : {Lists : List Entry → Type 0} (script now next old mid new : Option (List ℕ)) (first : State) (p : Point) (line : List ℕ)
-      (n refused : ℕ) → HasTold Lists script now old mid first p n refused → TakesLine now next true line → length line ≤ 1024
+  pub reported_write : {Lists : List Entry → Type 0} (script now next old mid new : Option (List ℕ)) (first : State) (p : Point) (line : List ℕ)
+      (n refused : ℕ) → HasReported Lists script now old mid first p n refused → TakesLine now next true line → length line ≤ 1024
       → n < 100000 → GaveFeeds script next (n + 1)
       → (a : Added) × IsAdded tells refusal remark p line a × TakesPrefix mid new a.text
       → IfSome script (λ bytes. Outcome tells refusal remark first bytes next old new (Err WriteDevice))
-  told_write None now next old mid new first p line n refused r t short lt g q = tt
-  told_write (Some bs) None next old mid new first p line n refused r t short lt g q = absurd r.known
-  told_write (Some bs) (Some rest) None old mid new first p line n refused r t short lt g q = absurd t
-  told_write (Some bs) (Some rest) (Some rest') old mid new first p line n refused r t short lt g (a, is, part) =
+  reported_write None now next old mid new first p line n refused r t short lt g q = tt
+  reported_write (Some bs) None next old mid new first p line n refused r t short lt g q = absurd r.known
+  reported_write (Some bs) (Some rest) None old mid new first p line n refused r t short lt g q = absurd t
+  reported_write (Some bs) (Some rest) (Some rest') old mid new first p line n refused r t short lt g (a, is, part) =
       let v = r.known in
       let all = script_lines bs in
       let f = first_left all (script_lines rest') n line (v.left_is ∙ t) in
@@ -289,51 +289,51 @@ module _ (tells : PlainStudy → EntryInfo → List ℕ → Type 0) (refusal : �
         ),
       )
 
-  pub told_memory : {Lists : List Entry → Type 0} (left script now old mid new : Option (List ℕ)) (first : State) (p : Point) (n refused : ℕ)
-      → HasTold Lists script now old mid first p n refused → n ≤ 100000 → new ≡ mid
+  pub reported_memory : {Lists : List Entry → Type 0} (left script now old mid new : Option (List ℕ)) (first : State) (p : Point) (n refused : ℕ)
+      → HasReported Lists script now old mid first p n refused → n ≤ 100000 → new ≡ mid
       → IfSome script (λ bytes. Outcome tells refusal remark first bytes left old new (Err OutOfMemory))
-  told_memory left None now old mid new first p n refused r le same = tt
-  told_memory left (Some bs) None old mid new first p n refused r le same = absurd r.known
-  told_memory left (Some bs) (Some rest) old mid new first p n refused r le same =
+  reported_memory left None now old mid new first p n refused r le same = tt
+  reported_memory left (Some bs) None old mid new first p n refused r le same = absurd r.known
+  reported_memory left (Some bs) (Some rest) old mid new first p n refused r le same =
       let v = r.known in
       (n, le, v.within, (v.short, v.added, v.are, subst (λ (x : Option (List ℕ)). Appends old x (report_text v.added)) (sym same) v.written))
 
   -- the run stops within a line
-  pub told_stops : {Lists : List Entry → Type 0} (script now next old mid new : Option (List ℕ)) (first : State) (p : Point) (line : List ℕ)
-      (n refused : ℕ) (fault : RunFault) → HasTold Lists script now old mid first p n refused → TakesLine now next true line → length line ≤ 1024
+  pub reported_stops : {Lists : List Entry → Type 0} (script now next old mid new : Option (List ℕ)) (first : State) (p : Point) (line : List ℕ)
+      (n refused : ℕ) (fault : RunFault) → HasReported Lists script now old mid first p n refused → TakesLine now next true line → length line ≤ 1024
       → n < 100000 → GaveFeeds script next (n + 1) → Stops (IsAdded tells refusal remark p line) mid new fault
       → IfSome script (λ bytes. Outcome tells refusal remark first bytes next old new (Err fault))
-  told_stops script now next old mid new first p line n refused WriteDevice r t short lt g h =
-      told_write script now next old mid new first p line n refused r t short lt g h
-  told_stops script now next old mid new first p line n refused OutOfMemory r t short lt g h =
-      told_memory next script now old mid new first p n refused r (omega arith) h
-  told_stops script now next old mid new first p line n refused ReadDevice r t short lt g h = absurd h
-  told_stops script now next old mid new first p line n refused (LineTooLong k) r t short lt g h = absurd h
-  told_stops script now next old mid new first p line n refused TooManyLines r t short lt g h = absurd h
+  reported_stops script now next old mid new first p line n refused WriteDevice r t short lt g h =
+      reported_write script now next old mid new first p line n refused r t short lt g h
+  reported_stops script now next old mid new first p line n refused OutOfMemory r t short lt g h =
+      reported_memory next script now old mid new first p n refused r (omega arith) h
+  reported_stops script now next old mid new first p line n refused ReadDevice r t short lt g h = absurd h
+  reported_stops script now next old mid new first p line n refused (LineTooLong k) r t short lt g h = absurd h
+  reported_stops script now next old mid new first p line n refused TooManyLines r t short lt g h = absurd h
 
   -- ---- the list of a run that stopped
 
   -- the lines before the stop are those that were reported
-  pub told_before : {Lists : List Entry → Type 0} (Has : List Entry → Type 0) (script now old new : Option (List ℕ)) (first : State)
-      (p : Point) (n refused : ℕ) (fault : RunFault) → HasTold Lists script now old new first p n refused
+  pub reported_before : {Lists : List Entry → Type 0} (Has : List Entry → Type 0) (script now old new : Option (List ℕ)) (first : State)
+      (p : Point) (n refused : ℕ) (fault : RunFault) → HasReported Lists script now old new first p n refused
       → ((more : List Entry) → Lists more → Has more)
       → ((q : Point) (all : List (List ℕ)) (added : List Added) → Appends old new (report_text added)
       → StoppedAfter tells refusal remark q all n added old new fault)
       → IfSome script (λ bytes. AreListedBefore tells refusal remark first bytes old new Has fault)
-  told_before Has None now old new first p n refused fault r l stopped = tt
-  told_before Has (Some bs) None old new first p n refused fault r l stopped = absurd r.known
-  told_before Has (Some bs) (Some rest) old new first p n refused fault r l stopped =
+  reported_before Has None now old new first p n refused fault r l stopped = tt
+  reported_before Has (Some bs) None old new first p n refused fault r l stopped = absurd r.known
+  reported_before Has (Some bs) (Some rest) old new first p n refused fault r l stopped =
       let v = r.known in
       (n, v.within, v.added, v.are, stopped (begun first) (script_lines bs) v.added v.written, l (entries_in (take n (script_lines bs)) v.added) v.listed)
 
-  told_before_write : {Lists : List Entry → Type 0} (Has : List Entry → Type 0) (script now next old mid new : Option (List ℕ))
-      (first : State) (p : Point) (line : List ℕ) (n refused : ℕ) → HasTold Lists script now old mid first p n refused → TakesLine now next true line
+  reported_before_write : {Lists : List Entry → Type 0} (Has : List Entry → Type 0) (script now next old mid new : Option (List ℕ))
+      (first : State) (p : Point) (line : List ℕ) (n refused : ℕ) → HasReported Lists script now old mid first p n refused → TakesLine now next true line
       → ((more : List Entry) → Lists more → Has more) → (a : Added) × IsAdded tells refusal remark p line a × TakesPrefix mid new a.text
       → IfSome script (λ bytes. AreListedBefore tells refusal remark first bytes old new Has WriteDevice)
-  told_before_write Has None now next old mid new first p line n refused r t l q = tt
-  told_before_write Has (Some bs) None next old mid new first p line n refused r t l q = absurd r.known
-  told_before_write Has (Some bs) (Some rest) None old mid new first p line n refused r t l q = absurd t
-  told_before_write Has (Some bs) (Some rest) (Some rest') old mid new first p line n refused r t l (a, is, part) =
+  reported_before_write Has None now next old mid new first p line n refused r t l q = tt
+  reported_before_write Has (Some bs) None next old mid new first p line n refused r t l q = absurd r.known
+  reported_before_write Has (Some bs) (Some rest) None old mid new first p line n refused r t l q = absurd t
+  reported_before_write Has (Some bs) (Some rest) (Some rest') old mid new first p line n refused r t l (a, is, part) =
       let v = r.known in
       let f = first_left (script_lines bs) (script_lines rest') n line (v.left_is ∙ t) in (
         n,
@@ -344,13 +344,13 @@ module _ (tells : PlainStudy → EntryInfo → List ℕ → Type 0) (refusal : �
         l (entries_in (take n (script_lines bs)) v.added) v.listed,
       )
 
-  told_before_memory : {Lists : List Entry → Type 0} (Has : List Entry → Type 0) (script now old mid new : Option (List ℕ))
-      (first : State) (p : Point) (n refused : ℕ) → HasTold Lists script now old mid first p n refused
+  reported_before_memory : {Lists : List Entry → Type 0} (Has : List Entry → Type 0) (script now old mid new : Option (List ℕ))
+      (first : State) (p : Point) (n refused : ℕ) → HasReported Lists script now old mid first p n refused
       → ((more : List Entry) → Lists more → Has more) → new ≡ mid
       → IfSome script (λ bytes. AreListedBefore tells refusal remark first bytes old new Has OutOfMemory)
-  told_before_memory Has None now old mid new first p n refused r l same = tt
-  told_before_memory Has (Some bs) None old mid new first p n refused r l same = absurd r.known
-  told_before_memory Has (Some bs) (Some rest) old mid new first p n refused r l same =
+  reported_before_memory Has None now old mid new first p n refused r l same = tt
+  reported_before_memory Has (Some bs) None old mid new first p n refused r l same = absurd r.known
+  reported_before_memory Has (Some bs) (Some rest) old mid new first p n refused r l same =
       let v = r.known in (
         n,
         v.within,
@@ -361,25 +361,25 @@ module _ (tells : PlainStudy → EntryInfo → List ℕ → Type 0) (refusal : �
       )
 
   -- the run stopped within a line
-  pub told_before_stop : {Lists : List Entry → Type 0} (Has : List Entry → Type 0) (script now next old mid new : Option (List ℕ))
-      (first : State) (p : Point) (line : List ℕ) (n refused : ℕ) (fault : RunFault) → HasTold Lists script now old mid first p n refused
+  pub reported_before_stop : {Lists : List Entry → Type 0} (Has : List Entry → Type 0) (script now next old mid new : Option (List ℕ))
+      (first : State) (p : Point) (line : List ℕ) (n refused : ℕ) (fault : RunFault) → HasReported Lists script now old mid first p n refused
       → TakesLine now next true line → ((more : List Entry) → Lists more → Has more) → Stops (IsAdded tells refusal remark p line) mid new fault
       → IfSome script (λ bytes. AreListedBefore tells refusal remark first bytes old new Has fault)
-  told_before_stop Has script now next old mid new first p line n refused WriteDevice r t l h =
-      told_before_write Has script now next old mid new first p line n refused r t l h
-  told_before_stop Has script now next old mid new first p line n refused OutOfMemory r t l h =
-      told_before_memory Has script now old mid new first p n refused r l h
-  told_before_stop Has script now next old mid new first p line n refused ReadDevice r t l h = absurd h
-  told_before_stop Has script now next old mid new first p line n refused (LineTooLong k) r t l h = absurd h
-  told_before_stop Has script now next old mid new first p line n refused TooManyLines r t l h = absurd h
+  reported_before_stop Has script now next old mid new first p line n refused WriteDevice r t l h =
+      reported_before_write Has script now next old mid new first p line n refused r t l h
+  reported_before_stop Has script now next old mid new first p line n refused OutOfMemory r t l h =
+      reported_before_memory Has script now old mid new first p n refused r l h
+  reported_before_stop Has script now next old mid new first p line n refused ReadDevice r t l h = absurd h
+  reported_before_stop Has script now next old mid new first p line n refused (LineTooLong k) r t l h = absurd h
+  reported_before_stop Has script now next old mid new first p line n refused TooManyLines r t l h = absurd h
 
   -- ---- the invariant of the loop
 
   -- the lines so far are reported, the session has their state, and the counts are theirs
-  pub record ToldOn (holds : State → Type 0) (Lists : List Entry → Type 0) (script now old new : Option (List ℕ)) (first : State)
+  pub record ReportedOn (holds : State → Type 0) (Lists : List Entry → Type 0) (script now old new : Option (List ℕ)) (first : State)
       (n refused studies : ℕ) (unread : Option ℕ) : Type 0 where
     pub point : Point
-    pub told : HasTold Lists script now old new first point n refused
+    pub reported : HasReported Lists script now old new first point n refused
     pub held : holds point.state
     pub lines_are : n ≡ point.lines
     pub studies_are : studies ≡ point.studies
@@ -387,8 +387,8 @@ module _ (tells : PlainStudy → EntryInfo → List ℕ → Type 0) (refusal : �
 
   -- a line counts as one more, its study as one more, and what was not read is what it leaves
   abbrev Counts : Point → List ℕ → Added → Type 0
-  Counts p line a = (a.after.lines ≡ suc p.lines) × (a.after.studies ≡ p.studies + study_count a.told)
-      × (a.after.unread ≡ unread_after p.unread (suc p.lines) line a.told)
+  Counts p line a = (a.after.lines ≡ suc p.lines) × (a.after.studies ≡ p.studies + study_count a.reported)
+      × (a.after.unread ≡ unread_after p.unread (suc p.lines) line a.reported)
 
   counts-nothing : (p : Point) (line : List ℕ) (s : State) (a : Added) → a ≡ nothing_added p line s → Counts p line a
   counts-nothing p line s a e = subst (Counts p line) (sym e) (refl, omega arith, refl)
@@ -413,7 +413,7 @@ module _ (tells : PlainStudy → EntryInfo → List ℕ → Type 0) (refusal : �
   counts-more p line a Checked (o, reply, is, after) = counts-checked p line reply a reply.refused after
 
   -- a study that is reported leaves what was not read of it
-  study-unread : (old : Option ℕ) (number : ℕ) (line : List ℕ) (told : LineOutcome) → study_count told ≡ 1 → unread_after old number line told ≡ old
+  study-unread : (old : Option ℕ) (number : ℕ) (line : List ℕ) (reported : LineOutcome) → study_count reported ≡ 1 → unread_after old number line reported ≡ old
   study-unread old number line Nothing e = absurd cc
   study-unread old number line AStudy e = refl
   study-unread old number line ARefusal e = absurd cc
@@ -421,36 +421,37 @@ module _ (tells : PlainStudy → EntryInfo → List ℕ → Type 0) (refusal : �
   same-entry : (i j : ℕ) (u v : Option ℕ) → i ≡ j → u ≡ v → entry i u ≡ entry j v
   same-entry i j u v e f = ap (λ (x : ℕ). entry x u) e ∙ ap (λ (x : Option ℕ). entry j x) f
 
-  pub ToldOn-more : (holds holds' : State → Type 0) (Lists Lists' : List Entry → Type 0) (document : Document)
+  pub ReportedOn-more : (holds holds' : State → Type 0) (Lists Lists' : List Entry → Type 0) (document : Document)
       (script now next old mid new : Option (List ℕ)) (first : State)
-      (line : List ℕ) (n refused refused' studies studies' : ℕ) (unread unread' : Option ℕ) (told : LineOutcome)
-      (r : ToldOn holds Lists script now old mid first n refused studies unread)
+      (line : List ℕ) (n refused refused' studies studies' : ℕ) (unread unread' : Option ℕ) (reported : LineOutcome)
+      (r : ReportedOn holds Lists script now old mid first n refused studies unread)
       → TakesLine now next true line → length line ≤ 1024
-      → Adds (IsAdded tells refusal remark r.point line) holds' mid new told
-      → refused' ≡ refused + refusal_count told → studies' ≡ studies + study_count told
-      → unread' ≡ unread_after unread (n + 1) line told
+      → Adds (IsAdded tells refusal remark r.point line) holds' mid new reported
+      → refused' ≡ refused + refusal_count reported → studies' ≡ studies + study_count reported
+      → unread' ≡ unread_after unread (n + 1) line reported
       → ((s : State) → holds' s → document ≡ s.document)
-      → ((more : List Entry) → Lists more → Lists' (more ++ listed_in line told document (record { number = studies + 1; unread = unread })))
-      → ToldOn holds' Lists' script next old new first (n + 1) refused' studies' unread'
-  ToldOn-more holds holds' Lists Lists' document script now next old mid new first line n refused refused' studies studies' unread unread' told r t short
+      → ((more : List Entry) → Lists more → Lists' (more ++ listed_in line reported document (record { number = studies + 1; unread = unread })))
+      → ReportedOn holds' Lists' script next old new first (n + 1) refused' studies' unread'
+  ReportedOn-more holds holds' Lists Lists' document script now next old mid new first line n refused refused' studies studies' unread unread' reported r t
+      short
       (a, is, wrote, held, same) k j u seen l =
       let counts = counts-more r.point line a (line_kind line) is in
       record {
         point = a.after;
-        told = told_more Lists Lists' script now next old mid new first r.point line a n refused refused' r.told t short is wrote
+        reported = reported_more Lists Lists' script now next old mid new first r.point line a n refused refused' r.reported t short is wrote
             (k ∙ ap (λ (x : LineOutcome). refused + refusal_count x) same)
             (λ more h. subst (λ (x : List Entry). Lists' (more ++ x))
-            (listed-same line told a.told document a.after.state.document (record { number = studies + 1; unread = unread }) (last_entry a.after)
+            (listed-same line reported a.reported document a.after.state.document (record { number = studies + 1; unread = unread }) (last_entry a.after)
             same (seen a.after.state held)
             (λ one. same-entry (studies + 1) a.after.studies unread a.after.unread
             (ap (λ i. i + 1) r.studies_are ∙ ap (λ i. r.point.studies + i) (sym one) ∙ sym counts.1)
-            (r.unread_is ∙ sym (study-unread r.point.unread (suc r.point.lines) line a.told one) ∙ sym counts.2))) (l more h));
+            (r.unread_is ∙ sym (study-unread r.point.unread (suc r.point.lines) line a.reported one) ∙ sym counts.2))) (l more h));
         held = held;
         lines_are = ap (λ i. i + 1) r.lines_are ∙ omega arith ∙ sym counts.0;
         unread_is = u ∙ ap (λ (x : LineOutcome). unread_after unread (n + 1) line x) same
-            ∙ ap (λ (x : Option ℕ). unread_after x (n + 1) line a.told) r.unread_is
-            ∙ ap (λ i. unread_after r.point.unread i line a.told) (ap (λ i. i + 1) r.lines_are ∙ omega arith) ∙ sym counts.2;
-        studies_are = j ∙ ap (λ (x : LineOutcome). studies + study_count x) same ∙ ap (λ i. i + study_count a.told) r.studies_are ∙ sym counts.1;
+            ∙ ap (λ (x : Option ℕ). unread_after x (n + 1) line a.reported) r.unread_is
+            ∙ ap (λ i. unread_after r.point.unread i line a.reported) (ap (λ i. i + 1) r.lines_are ∙ omega arith) ∙ sym counts.2;
+        studies_are = j ∙ ap (λ (x : LineOutcome). studies + study_count x) same ∙ ap (λ i. i + study_count a.reported) r.studies_are ∙ sym counts.1;
       }
 
 -- ---- whatever is reported
@@ -470,16 +471,16 @@ gone_stops script now next line n fault (inr e) r t short lt =
     subst (λ (f : RunFault). IfSome script (λ bytes. Shape bytes next (Err f))) (sym e) (gone_memory next script now n r (omega arith))
 
 -- a line counts as at most one refusal or study
-pub few-told : (told : LineOutcome) → (refusal_count told ≤ 1) × (study_count told ≤ 1)
-few-told Nothing = (omega arith, omega arith)
-few-told AStudy = (omega arith, omega arith)
-few-told ARefusal = (omega arith, omega arith)
+pub few-reported : (reported : LineOutcome) → (refusal_count reported ≤ 1) × (study_count reported ≤ 1)
+few-reported Nothing = (omega arith, omega arith)
+few-reported AStudy = (omega arith, omega arith)
+few-reported ARefusal = (omega arith, omega arith)
 
 -- there is no memory for the first line
 pub none_before : (tells : PlainStudy → EntryInfo → List ℕ → Type 0) (refusal : ℕ → List ℕ → List ℕ → List ℕ)
     (remark : List ℕ → List ℕ) (Has : List Entry → Type 0)
-    (told : List Entry) (script out : Option (List ℕ)) (first : State) → Has told
-    → IfSome script (λ bytes. AreListedBefore tells refusal remark first bytes out out (λ more. Has (told ++ more)) OutOfMemory)
-none_before tells refusal remark Has told None out first h = tt
-none_before tells refusal remark Has told (Some bytes) out first h =
-    (0, omega arith, [], tt, Appends-nil out, subst Has (sym (append-nil told)) h)
+    (reported : List Entry) (script out : Option (List ℕ)) (first : State) → Has reported
+    → IfSome script (λ bytes. AreListedBefore tells refusal remark first bytes out out (λ more. Has (reported ++ more)) OutOfMemory)
+none_before tells refusal remark Has reported None out first h = tt
+none_before tells refusal remark Has reported (Some bytes) out first h =
+    (0, omega arith, [], tt, Appends-nil out, subst Has (sym (append-nil reported)) h)

@@ -17,9 +17,9 @@ use Rattle.study_report.specs.declared.line_outcome.LineOutcome.{LineOutcome}
 use Rattle.study_report.specs.declared.line_outcome.LineOutcome.TheVariants.{Nothing, Study as AStudy, Refusal as ARefusal}
 use Rattle.study_facts.specs.declared.entry.EntryInfo.{EntryInfo}
 use Rattle.study_report.specs.declared.line_outcome.ReportPosition.{ReportPosition}
-use Rattle.study_report.specs.Told.{study_count, Entry, entry_at, next_entry, IsAt, games_in, listed_in}
-use Rattle.study_report.specs.Told.{Point, Added, IsLeftOut, IsStudyTold, IsAddedAs, IsPgnAfter, IsCheckedAfter}
-use Rattle.study_report.specs.Told.{nothing_added, study_added, refusal_added, remark_added}
+use Rattle.study_report.specs.Reported.{study_count, Entry, entry_at, next_entry, IsAt, games_in, listed_in}
+use Rattle.study_report.specs.Reported.{Point, Added, IsLeftOut, IsStudyReported, IsAddedAs, IsPgnAfter, IsCheckedAfter}
+use Rattle.study_report.specs.Reported.{nothing_added, study_added, refusal_added, remark_added}
 use Rattle.study_report.specs.Written.{Adds, Stops, StopsIn, IsSection, IsSectionPart, IsReplied}
 
 abbrev pub entry : ℕ → Option ℕ → EntryInfo
@@ -33,7 +33,7 @@ at-next p at (lines, studies, unread) =
 
 -- what holds of every text written for a refusal
 abbrev pub RefusalWritten : List ℕ → Option (List ℕ) → Option (List ℕ) → LineOutcome → Type 0
-RefusalWritten text old new told = (told ≡ ARefusal) × Appends old new text
+RefusalWritten text old new reported = (reported ≡ ARefusal) × Appends old new text
 
 -- a refusal is no study
 pub refusal-none : (r : Result LineOutcome RunFault) (text : List ℕ) (old new : Option (List ℕ)) → IfOk r (RefusalWritten text old new)
@@ -43,7 +43,7 @@ refusal-none r text old new h =
 
 -- what holds of every text written for a remark
 abbrev pub RemarkWritten : List ℕ → Option (List ℕ) → Option (List ℕ) → LineOutcome → Type 0
-RemarkWritten text old new told = (told ≡ Nothing) × Appends old new text
+RemarkWritten text old new reported = (reported ≡ Nothing) × Appends old new text
 
 none-in : (line : List ℕ) (t : LineOutcome) (document : Document) (info : EntryInfo) → games_in line ≡ [] → study_count t ≡ 0
     → listed_in line t document info ≡ []
@@ -51,36 +51,39 @@ none-in line Nothing document info none e = none
 none-in line AStudy document info none e = absurd cc
 none-in line ARefusal document info none e = refl
 
-pub nothing-listed : (Lists : List Entry → Type 0) (told : List Entry) → Lists told → Lists (told ++ [])
-nothing-listed Lists told kept = subst Lists (sym (append-nil told)) kept
+pub nothing-listed : (Lists : List Entry → Type 0) (reported : List Entry) → Lists reported → Lists (reported ++ [])
+nothing-listed Lists reported kept = subst Lists (sym (append-nil reported)) kept
 
 -- if the line is no remark of a game, and no study was reported, the list is unchanged
-pub none-listed : (Lists : List Entry → Type 0) (r : Result LineOutcome RunFault) (told : List Entry) (line : List ℕ) (document : Document) (info : EntryInfo)
-    → games_in line ≡ [] → IfOk r (λ t. study_count t ≡ 0) → Lists told → IfOk r (λ t. Lists (told ++ listed_in line t document info))
-none-listed Lists r told line document info none h kept =
-    IfOk-weaker r (λ t. study_count t ≡ 0) (λ t. Lists (told ++ listed_in line t document info))
-    (λ t e. subst (λ (x : List Entry). Lists (told ++ x)) (sym (none-in line t document info none e)) (nothing-listed Lists told kept)) h
+pub none-listed : (Lists : List Entry → Type 0) (r : Result LineOutcome RunFault) (reported : List Entry) (line : List ℕ) (document : Document)
+    (info : EntryInfo)
+    → games_in line ≡ [] → IfOk r (λ t. study_count t ≡ 0) → Lists reported → IfOk r (λ t. Lists (reported ++ listed_in line t document info))
+none-listed Lists r reported line document info none h kept =
+    IfOk-weaker r (λ t. study_count t ≡ 0) (λ t. Lists (reported ++ listed_in line t document info))
+    (λ t e. subst (λ (x : List Entry). Lists (reported ++ x)) (sym (none-in line t document info none e)) (nothing-listed Lists reported kept)) h
 
 -- a refusal leaves it unchanged
-pub refusal-listed : (Lists : List Entry → Type 0) (r : Result LineOutcome RunFault) (told : List Entry) (line : List ℕ) (document : Document) (info : EntryInfo)
-    (text : List ℕ) (old new : Option (List ℕ)) → IfOk r (RefusalWritten text old new) → Lists told
-    → IfOk r (λ t. Lists (told ++ listed_in line t document info))
-refusal-listed Lists r told line document info text old new h kept =
-    IfOk-weaker r (RefusalWritten text old new) (λ t. Lists (told ++ listed_in line t document info))
-    (λ t (e, wrote). subst (λ (x : LineOutcome). Lists (told ++ listed_in line x document info)) (sym e) (nothing-listed Lists told kept)) h
+pub refusal-listed : (Lists : List Entry → Type 0) (r : Result LineOutcome RunFault) (reported : List Entry) (line : List ℕ) (document : Document)
+    (info : EntryInfo)
+    (text : List ℕ) (old new : Option (List ℕ)) → IfOk r (RefusalWritten text old new) → Lists reported
+    → IfOk r (λ t. Lists (reported ++ listed_in line t document info))
+refusal-listed Lists r reported line document info text old new h kept =
+    IfOk-weaker r (RefusalWritten text old new) (λ t. Lists (reported ++ listed_in line t document info))
+    (λ t (e, wrote). subst (λ (x : LineOutcome). Lists (reported ++ listed_in line x document info)) (sym e) (nothing-listed Lists reported kept)) h
 
 -- a remark adds the game that was left out
-pub remark-listed : (Lists : List Entry → Type 0) (r : Result LineOutcome RunFault) (told : List Entry) (line : List ℕ) (document : Document) (info : EntryInfo)
-    (text : List ℕ) (old new : Option (List ℕ)) → IfOk r (RemarkWritten text old new) → IfOk r (λ t. Lists (told ++ games_in line))
-    → IfOk r (λ t. Lists (told ++ listed_in line t document info))
-remark-listed Lists (Ok t) told line document info text old new (e, wrote) kept =
-    subst (λ (x : LineOutcome). Lists (told ++ listed_in line x document info)) (sym e) kept
-remark-listed Lists (Err fault) told line document info text old new h kept = tt
+pub remark-listed : (Lists : List Entry → Type 0) (r : Result LineOutcome RunFault) (reported : List Entry) (line : List ℕ) (document : Document)
+    (info : EntryInfo)
+    (text : List ℕ) (old new : Option (List ℕ)) → IfOk r (RemarkWritten text old new) → IfOk r (λ t. Lists (reported ++ games_in line))
+    → IfOk r (λ t. Lists (reported ++ listed_in line t document info))
+remark-listed Lists (Ok t) reported line document info text old new (e, wrote) kept =
+    subst (λ (x : LineOutcome). Lists (reported ++ listed_in line x document info)) (sym e) kept
+remark-listed Lists (Err fault) reported line document info text old new h kept = tt
 
 pub adds-weaker : (I J : Added → Type 0) (H K : State → Type 0) (r : Result LineOutcome RunFault) (old new : Option (List ℕ)) → ((a : Added) → I a → J a)
     → ((s : State) → H s → K s) → IfOk r (Adds I H old new) → IfOk r (Adds J K old new)
 adds-weaker I J H K r old new f g h =
-    IfOk-weaker r (Adds I H old new) (Adds J K old new) (λ told (a, is, wrote, held, same). (a, f a is, wrote, g a.after.state held, same)) h
+    IfOk-weaker r (Adds I H old new) (Adds J K old new) (λ reported (a, is, wrote, held, same). (a, f a is, wrote, g a.after.state held, same)) h
 
 stops-same : (I J : Added → Type 0) (old new : Option (List ℕ)) (fault : RunFault) → ((a : Added) → I a → J a) → Stops I old new fault
     → Stops J old new fault
@@ -112,7 +115,7 @@ module _ (tells : PlainStudy → EntryInfo → List ℕ → Type 0) (refusal : �
       let same : refusal number line bytes ≡ refusal (suc p.lines) line reply.text =
       ap (λ i. refusal i line bytes) n ∙ ap (refusal (suc p.lines) line) b in
       IfOk-weaker r (RefusalWritten (refusal number line bytes) old new) (Adds I H old new)
-      (λ told (t, wrote). (refusal_added tells refusal remark p line reply, is, subst (Appends old new) same wrote, held, t)) h
+      (λ reported (t, wrote). (refusal_added tells refusal remark p line reply, is, subst (Appends old new) same wrote, held, t)) h
 
   pub refusal-stops : (I : Added → Type 0) (p : Point) (line : List ℕ) (reply : Reply) (number : ℕ) (bytes : List ℕ)
       (r : Result LineOutcome RunFault) (old new : Option (List ℕ)) → number ≡ suc p.lines → bytes ≡ reply.text
@@ -130,7 +133,7 @@ module _ (tells : PlainStudy → EntryInfo → List ℕ → Type 0) (refusal : �
       → I (remark_added tells refusal remark p line) → H p.state → IfOk r (RemarkWritten (remark line) old new) → IfOk r (Adds I H old new)
   remark-adds I H p line r old new is held h =
       IfOk-weaker r (RemarkWritten (remark line) old new) (Adds I H old new)
-      (λ told (t, wrote). (remark_added tells refusal remark p line, is, wrote, held, t)) h
+      (λ reported (t, wrote). (remark_added tells refusal remark p line, is, wrote, held, t)) h
 
   pub remark-stops : (I : Added → Type 0) (p : Point) (line : List ℕ) (r : Result LineOutcome RunFault) (old new : Option (List ℕ))
       → I (remark_added tells refusal remark p line) → IfErr r (StopsIn (remark line) old new) → IfErr r (Stops I old new)
@@ -141,21 +144,21 @@ module _ (tells : PlainStudy → EntryInfo → List ℕ → Type 0) (refusal : �
   -- the study in the document is written
   pub section-adds : (H : State → Type 0) (p : Point) (s : State) (line : List ℕ) (info : EntryInfo) (plain : PlainStudy) (old new : Option (List ℕ))
       → s.document ≡ study plain → info ≡ next_entry p → H s → IsSection tells s.document info old new
-      → Adds (IsStudyTold tells refusal remark p s line) H old new AStudy
+      → Adds (IsStudyReported tells refusal remark p s line) H old new AStudy
   section-adds H p s line info plain old new b k held sec =
       let there = subst (λ (x : Document). IsSection tells x info old new) b sec in
       (study_added p line s there.0, inl (plain, there.0, b, subst (λ i. tells plain i there.0) k there.1, refl), there.2, held, refl)
 
   pub section-stops : (p : Point) (s : State) (line : List ℕ) (info : EntryInfo) (plain : PlainStudy) (old new : Option (List ℕ))
       → s.document ≡ study plain → info ≡ next_entry p → IsSectionPart tells s.document info old new
-      → Stops (IsStudyTold tells refusal remark p s line) old new WriteDevice
+      → Stops (IsStudyReported tells refusal remark p s line) old new WriteDevice
   section-stops p s line info plain old new b k sec =
       let there = subst (λ (x : Document). IsSectionPart tells x info old new) b sec in
       (study_added p line s there.0, inl (plain, there.0, b, subst (λ i. tells plain i there.0) k there.1, refl), there.2)
 
   -- a study that is refused
   pub left-out : (p : Point) (s : State) (line : List ℕ) (plain : PlainStudy) (why : Refusal) → s.document ≡ study plain → IsLeftOut s plain why
-      → IsStudyTold tells refusal remark p s line (refusal_added tells refusal remark p line (refused s why))
+      → IsStudyReported tells refusal remark p s line (refusal_added tells refusal remark p line (refused s why))
   left-out p s line plain why b h = inr (plain, why, b, h, refl)
 
   -- ---- after the script's reply
@@ -170,9 +173,9 @@ module _ (tells : PlainStudy → EntryInfo → List ℕ → Type 0) (refusal : �
   pgn-refused p line o reply is e = let a = refusal_added tells refusal remark p line reply in
       (o, reply, is, subst (λ b. IsPgnAfter tells refusal remark p line reply b a) (sym e) refl)
 
-  pub pgn-told : (p : Point) (line : List ℕ) (o : Environment) (reply : Reply) (a : Added) → IsReplyIn true p.state line o reply → reply.refused ≡ false
-      → IsStudyTold tells refusal remark p reply.state line a → IsAddedAs tells refusal remark Study p line a
-  pgn-told p line o reply a is e h = (o, reply, is, subst (λ b. IsPgnAfter tells refusal remark p line reply b a) (sym e) h)
+  pub pgn-reported : (p : Point) (line : List ℕ) (o : Environment) (reply : Reply) (a : Added) → IsReplyIn true p.state line o reply → reply.refused ≡ false
+      → IsStudyReported tells refusal remark p reply.state line a → IsAddedAs tells refusal remark Study p line a
+  pgn-reported p line o reply a is e h = (o, reply, is, subst (λ b. IsPgnAfter tells refusal remark p line reply b a) (sym e) h)
 
   pub replied-adds : (I : Added → Type 0) (H : State → Type 0) (p : Point) (line : List ℕ) (number : ℕ) (bytes : List ℕ) (was : Bool)
       (r : Result LineOutcome RunFault) (old new : Option (List ℕ))

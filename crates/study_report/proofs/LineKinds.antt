@@ -10,11 +10,11 @@ use Rattle.study_reply.specs.declared.refusal.Refusal.{Refusal}
 use Rattle.study_reply.specs.declared.refusal.Refusal.TheVariants.{NoStudy, OutOfMemory}
 use Rattle.study_script.specs.State.{State, Document, empty, start, study, Environment, quiet, no_path, no_room, no_room_for, unread, unopened}
 use Rattle.study_script.specs.State.{cut_off, file, header}
-use Rattle.study_script.specs.Replies.{Reply, refused, class_told, IsPgnReply, IsReplyWhere, IsReplyIn, begins_position, emptied}
+use Rattle.study_script.specs.Replies.{Reply, refused, class_parsed, IsPgnReply, IsReplyWhere, IsReplyIn, begins_position, emptied}
 use Rattle.study_report.specs.declared.line_kind.LineKind.{LineKind}
 use Rattle.study_report.specs.declared.line_kind.LineKind.TheVariants.{Remark, PassedOver, Study, Checked}
 use Rattle.study_report.specs.Remarks.{is_remark, is_left_out, is_original, is_omission}
-use Rattle.study_report.specs.Told.{kind_in, line_kind, class_kind, game_entry, games_in}
+use Rattle.study_report.specs.Reported.{kind_in, line_kind, class_kind, game_entry, games_in}
 use Rattle.study_report.specs.Written.{none_trusted}
 
 -- ---- a line that is no remark
@@ -45,7 +45,7 @@ no-class (Some c) h = absurd (h refl)
 pub trusted-ask : (asks : Asks) → (kind_in asks ≡ PassedOver → ⊥) → IsTrustedAsk none_trusted asks
 trusted-ask (Err fault) h = tt
 trusted-ask (Ok None) h = tt
-trusted-ask (Ok (Some (table_command Load name))) h = no-class (class_told name) h
+trusted-ask (Ok (Some (table_command Load name))) h = no-class (class_parsed name) h
 trusted-ask (Ok (Some (table_command Build name))) h = tt
 trusted-ask (Ok (Some (table_command Save name))) h = tt
 trusted-ask (Ok (Some (table_command Verify name))) h = tt
@@ -77,7 +77,7 @@ class-no-study (Some c) k = absurd cc
 pub pgn-asked : (s : State) (o : Environment) (reply : Reply) (asks : Asks) → kind_in asks ≡ Study → IsReplyWhere s o asks reply
     → IsPgnReply s o s.document reply
 pgn-asked s o reply (Ok (Some pgn)) k r = r
-pgn-asked s o reply (Ok (Some (table_command word name))) k r = absurd (class-no-study (class_told name) k)
+pgn-asked s o reply (Ok (Some (table_command word name))) k r = absurd (class-no-study (class_parsed name) k)
 pgn-asked s o reply (Ok (Some (fen_command word fen))) k r = absurd cc
 pgn-asked s o reply (Ok (Some (node_query word steps))) k r = absurd cc
 pgn-asked s o reply (Ok (Some (node_command word steps))) k r = absurd cc
@@ -110,7 +110,7 @@ pgn-finds s (unread fault) (study old) reply r f = found-study s old reply r
 pgn-finds s (unopened fault) (study old) reply r f = found-study s old reply r
 pgn-finds s cut_off (study old) reply r f = found-study s old reply r
 pgn-finds s (file bytes) (study old) reply r f = found-study s old reply r
-pgn-finds s (header told) (study old) reply r f = found-study s old reply r
+pgn-finds s (header reported) (study old) reply r f = found-study s old reply r
 
 -- the same if studies are kept apart
 pub study-finds : (s : State) (line : List ℕ) (o : Environment) (reply : Reply) → line_kind line ≡ Study → IsReplyIn true s line o reply

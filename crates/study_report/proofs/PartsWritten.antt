@@ -24,7 +24,7 @@ use Rattle.study_report.specs.declared.line_kind.LineKind.{LineKind}
 use Rattle.study_report.specs.declared.line_kind.LineKind.TheVariants.{Remark, PassedOver, NoClass, Study, Checked}
 use Rattle.study_report.specs.declared.line_outcome.LineOutcome.{LineOutcome}
 use Rattle.study_report.specs.declared.line_outcome.LineOutcome.TheVariants.{Nothing, Study as AStudy}
-use Rattle.study_report.specs.Told.{lacks_study, study_count, refusal_count}
+use Rattle.study_report.specs.Reported.{lacks_study, study_count, refusal_count}
 use Rattle.study_report.specs.Parts.{Part, nothing_part, study_part, parts_text, part_studies, part_refusals, WritesPart, IsReplyPiece, refused_part}
 use Rattle.study_report.specs.Parts.{remark_part, checked_part, IsPartAs, IsPart, AreParts, Fits}
 use Rattle.study_report.proofs.LineAdds.{RefusalWritten, RemarkWritten}
@@ -60,7 +60,7 @@ module _ (form : ℕ → List ℕ → Type 0) (refusal : ℕ → List ℕ → Li
   remark-part k line number next r old new e h =
       let part = remark_part form refusal remark line in
       IfOk-weaker r (RemarkWritten (remark line) old new) (WritesPart (IsPartAs form refusal remark k number next line) old new)
-      (λ told (t, wrote). (part, subst (λ (x : LineKind). IsPartAs form refusal remark x number next line part) e refl, wrote, t)) h
+      (λ reported (t, wrote). (part, subst (λ (x : LineKind). IsPartAs form refusal remark x number next line part) e refl, wrote, t)) h
 
   pub no-class-part : {E : Type 0} (k : LineKind) (line : List ℕ) (number next : ℕ) (r : Result LineOutcome E) (old new : Option (List ℕ)) → NoClass ≡ k
       → IfOk r (RefusalWritten (refusal number line (reply_line (codes "error ") (words_of NotAClass))) old new)
@@ -69,7 +69,7 @@ module _ (form : ℕ → List ℕ → Type 0) (refusal : ℕ → List ℕ → Li
       let part = refused_part form refusal remark number line (reply_line (codes "error ") (words_of NotAClass)) in
       IfOk-weaker r (RefusalWritten (refusal number line (reply_line (codes "error ") (words_of NotAClass))) old new)
       (WritesPart (IsPartAs form refusal remark k number next line) old new)
-      (λ told (t, wrote). (part, subst (λ (x : LineKind). IsPartAs form refusal remark x number next line part) e refl, wrote, t)) h
+      (λ reported (t, wrote). (part, subst (λ (x : LineKind). IsPartAs form refusal remark x number next line part) e refl, wrote, t)) h
 
   pub part-of-kind : {E : Type 0} (j k : LineKind) (line : List ℕ) (number next : ℕ) (r : Result LineOutcome E) (old new : Option (List ℕ)) → j ≡ k
       → IfOk r (WritesPart (IsPartAs form refusal remark j number next line) old new)
@@ -84,7 +84,7 @@ module _ (form : ℕ → List ℕ → Type 0) (refusal : ℕ → List ℕ → Li
   refusal-part line number next words r old new h =
       IfOk-weaker r (RefusalWritten (refusal number line (reply_line (codes "error ") words)) old new)
       (WritesPart (IsPartAs form refusal remark Study number next line) old new)
-      (λ told (e, wrote). (refused_part form refusal remark number line (reply_line (codes "error ") words), inl (words, refl), wrote, e)) h
+      (λ reported (e, wrote). (refused_part form refusal remark number line (reply_line (codes "error ") words), inl (words, refl), wrote, e)) h
 
   pub refusal-of-reply : {E : Type 0} (line : List ℕ) (number next : ℕ) (bytes : List ℕ) (was : Bool) (r : Result LineOutcome E) (old new : Option (List ℕ))
       → IsReplyPiece line bytes was → was ≡ true → IfOk r (RefusalWritten (refusal number line bytes) old new)
@@ -115,7 +115,7 @@ module _ (form : ℕ → List ℕ → Type 0) (refusal : ℕ → List ℕ → Li
       → IfOk r (WritesPart (IsPartAs form refusal remark Checked number next line) old new)
   checked-refusal line number next bytes was r old new (piece, is, b, same) so h =
       IfOk-weaker r (RefusalWritten (refusal number line bytes) old new) (WritesPart (IsPartAs form refusal remark Checked number next line) old new)
-      (λ told (e, wrote). (
+      (λ reported (e, wrote). (
         refused_part form refusal remark number line piece.text,
         (piece, is, checked-if number line piece (sym same ∙ so)),
         subst (λ (t : List ℕ). Appends old new (refusal number line t)) b wrote,
@@ -153,11 +153,11 @@ module _ (form : ℕ → List ℕ → Type 0) (refusal : ℕ → List ℕ → Li
   parts-more n k (l ∷ lines) [] line part h r = absurd h
   parts-more n k (l ∷ lines) (x ∷ parts) line part h r =
       let e : suc (n + length (l ∷ lines)) ≡ suc (suc n + length lines) = omega arith in
-      let split : part_studies (x ∷ parts) ≡ study_count x.told + part_studies parts =
-      sum_by-cons (λ (p : Part). study_count p.told) x parts in
-      let f : suc (k + part_studies (x ∷ parts)) ≡ suc ((k + study_count x.told) + part_studies parts) = omega (arith, split) in (
+      let split : part_studies (x ∷ parts) ≡ study_count x.reported + part_studies parts =
+      sum_by-cons (λ (p : Part). study_count p.reported) x parts in
+      let f : suc (k + part_studies (x ∷ parts)) ≡ suc ((k + study_count x.reported) + part_studies parts) = omega (arith, split) in (
         h.0,
-        parts-more (suc n) (k + study_count x.told) lines parts line part h.1
+        parts-more (suc n) (k + study_count x.reported) lines parts line part h.1
             (subst (λ i. IsPart form refusal remark (suc (suc n + length lines)) i line part) f
             (subst (λ i. IsPart form refusal remark i (suc (k + part_studies (x ∷ parts))) line part) e r)),
       )
@@ -190,15 +190,15 @@ module _ (form : ℕ → List ℕ → Type 0) (refusal : ℕ → List ℕ → Li
     known = record { left_is = refl; within = omega arith; parts = []; are = tt; written = Appends-nil out; refused_is = refl; studies_are = refl };
   }
 
-  pub parts_more : (script now next old mid new : Option (List ℕ)) (line : List ℕ) (n number refused refused' studies studies' : ℕ) (told : LineOutcome)
+  pub parts_more : (script now next old mid new : Option (List ℕ)) (line : List ℕ) (n number refused refused' studies studies' : ℕ) (reported : LineOutcome)
       → HasParts script now old mid n refused studies → TakesLine now next true line → number ≡ n + 1
-      → WritesPart (IsPart form refusal remark number (studies + 1) line) mid new told
-      → refused' ≡ refused + refusal_count told → studies' ≡ studies + study_count told
+      → WritesPart (IsPart form refusal remark number (studies + 1) line) mid new reported
+      → refused' ≡ refused + refusal_count reported → studies' ≡ studies + study_count reported
       → HasParts script next old new (n + 1) refused' studies'
-  parts_more None now next old mid new line n number refused refused' studies studies' told r t at w k j = record { known = tt }
-  parts_more (Some bs) None next old mid new line n number refused refused' studies studies' told r t at w k j = absurd r.known
-  parts_more (Some bs) (Some rest) None old mid new line n number refused refused' studies studies' told r t at w k j = absurd t
-  parts_more (Some bs) (Some rest) (Some rest') old mid new line n number refused refused' studies studies' told r t at (part, is, wrote, same) k j =
+  parts_more None now next old mid new line n number refused refused' studies studies' reported r t at w k j = record { known = tt }
+  parts_more (Some bs) None next old mid new line n number refused refused' studies studies' reported r t at w k j = absurd r.known
+  parts_more (Some bs) (Some rest) None old mid new line n number refused refused' studies studies' reported r t at w k j = absurd t
+  parts_more (Some bs) (Some rest) (Some rest') old mid new line n number refused refused' studies studies' reported r t at (part, is, wrote, same) k j =
       let v = r.known in
       let all = script_lines bs in
       let f = first_left all (script_lines rest') n line (v.left_is ∙ t) in
@@ -218,10 +218,10 @@ module _ (form : ℕ → List ℕ → Type 0) (refusal : ℕ → List ℕ → Li
           parts = v.parts ++ part ∷ [];
           are = rw grown (parts-more 0 0 (take n all) v.parts line part v.are there);
           written = rw (text-more v.parts part) (Appends-trans old mid new (parts_text v.parts) part.text v.written wrote);
-          refused_is = k ∙ ap (λ (x : LineOutcome). refused + refusal_count x) same ∙ ap (λ i. i + refusal_count part.told) v.refused_is
-              ∙ sym (sum_by_push (λ (p : Part). refusal_count p.told) v.parts part);
-          studies_are = j ∙ ap (λ (x : LineOutcome). studies + study_count x) same ∙ ap (λ i. i + study_count part.told) v.studies_are
-              ∙ sym (sum_by_push (λ (p : Part). study_count p.told) v.parts part);
+          refused_is = k ∙ ap (λ (x : LineOutcome). refused + refusal_count x) same ∙ ap (λ i. i + refusal_count part.reported) v.refused_is
+              ∙ sym (sum_by_push (λ (p : Part). refusal_count p.reported) v.parts part);
+          studies_are = j ∙ ap (λ (x : LineOutcome). studies + study_count x) same ∙ ap (λ i. i + study_count part.reported) v.studies_are
+              ∙ sym (sum_by_push (λ (p : Part). study_count p.reported) v.parts part);
         };
       }
 

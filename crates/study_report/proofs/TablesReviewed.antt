@@ -1,5 +1,5 @@
 -- The tables of a script, after a review with them.
-use Rattle.std.proofs.Common.{◌≡◌, ℕ, true, false, Result, Err, refl, sym, subst, arith}
+use Rattle.std.proofs.Common.{◌≡◌, true, false, Result, Err, refl, sym, subst, arith}
 use Rattle.study_board.specs.Position.{Position, IsValid}
 use Rattle.study_material.specs.declared.class.Class.{Class}
 use Rattle.study_values.specs.declared.fault.SourceFault.{SourceFault}
@@ -14,14 +14,14 @@ use Rattle.study_facts.specs.Order.{HasReviewed}
 use Rattle.study_script.specs.declared.tables.Tables.{Tables}
 use Rattle.study_script.specs.declared.tables.Tables.TheVariants as held
 use Rattle.study_script.specs.SessionHolds.{tables_honest, tables_held, tables_may_fail, are_paged}
-use Rattle.study_report.specs.Told.{IsUntoldBy}
+use Rattle.study_report.specs.Reported.{IsValueFaultBy}
 use Rattle.study_report.proofs.Reviewed.{reviewed-fails, reviewed-honest, reviewed-tables, reviewed-why}
 
 module _ {P : Type 0} (honest_of : HonestOf P) (gives : GivesOf P) (p : Position) (valid : IsValid p) where
   -- why a value could not be read, and what is unchanged
   pub record TablesReviewed {T A : Type 0} (old : Tables P A) (r : Result T ReviewFault) (new : Tables P A) : Type 0 where
     pub why : (fault : ProbeFault) → tables_honest honest_of old → r ≡ Err (Values fault)
-        → IsUntoldBy (tables_held old) (are_paged old) (tables_may_fail gives old) p fault
+        → IsValueFaultBy (tables_held old) (are_paged old) (tables_may_fail gives old) p fault
     pub honest : tables_honest honest_of old → tables_honest honest_of new
     pub tables : (c : Class) → tables_held new c ≡ tables_held old c
     pub fails : (c : Class) (f : SourceFault) → tables_may_fail gives new c f → tables_may_fail gives old c f

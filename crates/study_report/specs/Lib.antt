@@ -1,7 +1,7 @@
 pub mod Lines
 pub mod Remarks
 pub mod Unread
-pub mod Told
+pub mod Reported
 pub mod Written
 pub mod Outcome
 pub mod Parts

@@ -13,7 +13,7 @@ use Rattle.study_script.specs.State.{State, empty}
 use Rattle.study_material.specs.declared.class.Class.{Class}
 use Rattle.study_script.specs.Outcome.{AreShort, AreLeft, Shape as ScriptShape}
 use Rattle.study_facts.specs.declared.entry.EntryInfo.{EntryInfo}
-use Rattle.study_report.specs.Told.{Point, Added, IsAdded, refusal_count, Entry, entries_in}
+use Rattle.study_report.specs.Reported.{Point, Added, IsAdded, refusal_count, Entry, entries_in}
 
 -- no study and no start; the tables of these classes are loaded and may fail in any way; nothing is known of files
 abbrev pub over_tables : List Class → Bool → State
@@ -34,7 +34,7 @@ report_text added = flat_map (λ a. a.text) added
 
 -- the number of refused lines
 abbrev pub refusals : List Added → ℕ
-refusals added = sum_by (λ a. refusal_count a.told) added
+refusals added = sum_by (λ a. refusal_count a.reported) added
 
 -- the point of a report after these lines
 abbrev pub point_after : Point → List Added → Point
@@ -50,8 +50,8 @@ module _ (tells : PlainStudy → EntryInfo → List ℕ → Type 0) (refusal : �
   AreAdded p (line ∷ lines) (a ∷ more) = IsAdded tells refusal remark p line a × AreAdded a.after lines more
 
   -- the text of the lines is written
-  abbrev pub AreTold : Point → List (List ℕ) → Option (List ℕ) → Option (List ℕ) → Type 0
-  AreTold p lines old new = AreShort lines × (added : List Added) × AreAdded p lines added × Appends old new (report_text added)
+  abbrev pub AreReported : Point → List (List ℕ) → Option (List ℕ) → Option (List ℕ) → Type 0
+  AreReported p lines old new = AreShort lines × (added : List Added) × AreAdded p lines added × Appends old new (report_text added)
 
   -- the text of the lines is written, and then a proper prefix of the text of one line more
   abbrev pub AreBrokenOff : Point → List (List ℕ) → List ℕ → Option (List ℕ) → Option (List ℕ) → Type 0
@@ -96,19 +96,19 @@ module _ (tells : PlainStudy → EntryInfo → List ℕ → Type 0) (refusal : �
   Outcome first script left old new (Err ReadDevice) = (n : ℕ) × (n ≤ 100000) × (n ≤ length (script_lines script))
       × GaveFeeds (Some script) left n
       × (rest : List ℕ) × (drop n (script_lines script) ≡ script_lines rest) × GaveFeeds (Some rest) left 0
-      × AreTold (begun first) (take n (script_lines script)) old new
+      × AreReported (begun first) (take n (script_lines script)) old new
   -- if the writer failed, the lines after the one whose text it broke off are left
   Outcome first script left old new (Err WriteDevice) =
       (n : ℕ) × (n < 100000) × GaveFeeds (Some script) left (n + 1) × AreLeft left (drop (n + 1) (script_lines script))
       × IsSomeAnd (slice_get (script_lines script) n) (λ line. AreBrokenOff (begun first) (take n (script_lines script)) line old new)
   Outcome first script left old new (Err (LineTooLong n)) = (0 < n) × (n ≤ 100000)
       × IsSomeAnd (slice_get (script_lines script) (n - 1)) (λ line. 1024 < length line)
-      × AreTold (begun first) (take (n - 1) (script_lines script)) old new
+      × AreReported (begun first) (take (n - 1) (script_lines script)) old new
   Outcome first script left old new (Err TooManyLines) =
-      (100000 < length (script_lines script)) × AreTold (begun first) (take 100000 (script_lines script)) old new
+      (100000 < length (script_lines script)) × AreReported (begun first) (take 100000 (script_lines script)) old new
   -- nothing is written for the line for which there is no memory
   Outcome first script left old new (Err OutOfMemory) = (n : ℕ) × (n ≤ 100000) × (n ≤ length (script_lines script))
-      × AreTold (begun first) (take n (script_lines script)) old new
+      × AreReported (begun first) (take n (script_lines script)) old new
 
 -- The same without what is reported, whatever the state: the bytes of a script, what the reader has left of them, and the result. Memory may fail at any
 -- line.

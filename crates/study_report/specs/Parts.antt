@@ -14,32 +14,32 @@ use Rattle.study_report.specs.declared.line_kind.LineKind.{LineKind}
 use Rattle.study_report.specs.declared.line_kind.LineKind.TheVariants.{Remark, PassedOver, NoClass, Study, Checked}
 use Rattle.study_report.specs.declared.line_outcome.LineOutcome.{LineOutcome}
 use Rattle.study_report.specs.declared.line_outcome.LineOutcome.TheVariants.{Nothing, Study as AStudy, Refusal as ARefusal}
-use Rattle.study_report.specs.Told.{line_kind, study_count, refusal_count}
+use Rattle.study_report.specs.Reported.{line_kind, study_count, refusal_count}
 
 -- the text written for a line, and what the line reports
 pub record Part : Type 0 where
   pub text : List ℕ
-  pub told : LineOutcome
+  pub reported : LineOutcome
 
 abbrev pub nothing_part : Part
-nothing_part = record { text = []; told = Nothing }
+nothing_part = record { text = []; reported = Nothing }
 
 abbrev pub study_part : List ℕ → Part
-study_part text = record { text = text; told = AStudy }
+study_part text = record { text = text; reported = AStudy }
 
 abbrev pub parts_text : List Part → List ℕ
 parts_text parts = flat_map (λ part. part.text) parts
 
 -- the numbers of reported studies and of refused lines
 abbrev pub part_studies : List Part → ℕ
-part_studies parts = sum_by (λ part. study_count part.told) parts
+part_studies parts = sum_by (λ part. study_count part.reported) parts
 
 abbrev pub part_refusals : List Part → ℕ
-part_refusals parts = sum_by (λ part. refusal_count part.told) parts
+part_refusals parts = sum_by (λ part. refusal_count part.reported) parts
 
 -- a part with the property is written, and this was reported
 abbrev pub WritesPart : (Part → Type 0) → Option (List ℕ) → Option (List ℕ) → LineOutcome → Type 0
-WritesPart IsIt old new told = (part : Part) × IsIt part × Appends old new part.text × (told ≡ part.told)
+WritesPart IsIt old new reported = (part : Part) × IsIt part × Appends old new part.text × (reported ≡ part.reported)
 
 -- the reply of a script to a line
 abbrev pub IsReplyPiece : List ℕ → List ℕ → Bool → Type 0
@@ -47,10 +47,10 @@ IsReplyPiece line bytes was_refused = (piece : Piece) × IsPiece line piece × (
 
 module _ (form : ℕ → List ℕ → Type 0) (refusal : ℕ → List ℕ → List ℕ → List ℕ) (remark : List ℕ → List ℕ) where
   abbrev pub refused_part : ℕ → List ℕ → List ℕ → Part
-  refused_part number line reply = record { text = refusal number line reply; told = ARefusal }
+  refused_part number line reply = record { text = refusal number line reply; reported = ARefusal }
 
   abbrev pub remark_part : List ℕ → Part
-  remark_part line = record { text = remark line; told = Nothing }
+  remark_part line = record { text = remark line; reported = Nothing }
 
   -- an empty text if the script's reply is not an error
   abbrev pub checked_part : ℕ → List ℕ → Piece → Part
@@ -75,7 +75,7 @@ module _ (form : ℕ → List ℕ → Type 0) (refusal : ℕ → List ℕ → Li
   AreParts lines studies [] (part ∷ parts) = ⊥
   AreParts lines studies (line ∷ more) [] = ⊥
   AreParts lines studies (line ∷ more) (part ∷ parts) =
-      IsPart (suc lines) (suc studies) line part × AreParts (suc lines) (studies + study_count part.told) more parts
+      IsPart (suc lines) (suc studies) line part × AreParts (suc lines) (studies + study_count part.reported) more parts
 
   -- a part for each of these lines is written, and so many of them are refusals
   abbrev pub AreWritten : List (List ℕ) → Option (List ℕ) → Option (List ℕ) → ℕ → Type 0

@@ -10,7 +10,7 @@ use Rattle.study_script.specs.State.{State, Document, empty, start, study, Envir
 use Rattle.study_script.specs.Replies.{Reply, IsReplyIn}
 use Rattle.study_report.specs.declared.line_outcome.LineOutcome.{LineOutcome}
 use Rattle.study_facts.specs.declared.entry.EntryInfo.{EntryInfo}
-use Rattle.study_report.specs.Told.{Added}
+use Rattle.study_report.specs.Reported.{Added}
 
 -- no class's file has to be right, since a report opens none
 abbrev pub none_trusted : Class → Bool
@@ -18,7 +18,7 @@ none_trusted c = false
 
 -- a line with the property added its text, the state after it is its state, and this was reported
 abbrev pub Adds : (Added → Type 0) → (State → Type 0) → Option (List ℕ) → Option (List ℕ) → LineOutcome → Type 0
-Adds IsIt HoldsIt old new told = (added : Added) × IsIt added × Appends old new added.text × HoldsIt added.after.state × (told ≡ added.told)
+Adds IsIt HoldsIt old new reported = (added : Added) × IsIt added × Appends old new added.text × HoldsIt added.after.state × (reported ≡ added.reported)
 
 -- the run stops within the text: the writer failed and took a prefix of it, or there is no memory and nothing is written
 abbrev pub StopsIn : List ℕ → Option (List ℕ) → Option (List ℕ) → RunFault → Type 0

@@ -19,7 +19,7 @@ mod unread;
 pub use line_kind::{LineKind, kind_of};
 pub use lines::{Lines, refusal_words};
 pub use no_files::NoFiles;
-pub use remarks::{behind, is_left_out, is_original, statement, subject};
+pub use remarks::{begins, behind, is_left_out, is_original, statement, subject};
 pub use report::Report;
 pub use script_report::{follow, follow_over, follow_script};
 pub use study_facts::{ReviewFault, WriteFault};

@@ -1,8 +1,8 @@
 //! The kinds of lines in a report.
 ghost use Rattle.std.specs.Prelude.{◌≡◌};
 ghost use Rattle.study_command.specs.Parser.{command_of};
-ghost use Rattle.study_script.specs.Replies.{class_told};
-ghost use Rattle.study_report.specs.Told.{kind_in, line_kind, class_kind};
+ghost use Rattle.study_script.specs.Replies.{class_parsed};
+ghost use Rattle.study_report.specs.Reported.{kind_in, line_kind, class_kind};
 
 use crate::remarks::{is_left_out, is_omission, is_original};
 use study_command::{Command, read_command};
@@ -43,9 +43,9 @@ fn command_kind(line: &[u8]) -> LineKind
     }
 }
 
-#[tactic(auto, unfolding(study_script::specs::Replies::class_told))]
+#[tactic(auto, unfolding(study_script::specs::Replies::class_parsed))]
 fn class_kind(name: &str) -> LineKind
-    ensures { result ≡ class_kind (class_told name.now) }
+    ensures { result ≡ class_kind (class_parsed name.now) }
 {
     match Class::parse(name) {
         Ok(_) => LineKind::PassedOver,

@@ -1,6 +1,6 @@
 //! The position in a report, and the outcome of one line.
 ghost use Rattle.std.specs.Prelude.{◌≡◌};
-ghost use Rattle.study_report.specs.Told.{study_count, refusal_count};
+ghost use Rattle.study_report.specs.Reported.{study_count, refusal_count};
 
 /// The number of a line, the number of studies reported before it, and the first refused edit of the study in the document.
 #[derive(Clone, Copy, Debug)]

@@ -30,7 +30,7 @@ impl Report for Lines {
     ghost remark = { λ line. no_remark line };
 
     // Nothing is kept.
-    ghost lists = { λ lines told. Unit {0} };
+    ghost lists = { λ lines reported. Unit {0} };
 
     fn add_study<'a, 'b, A: Allocator, B: Allocator, V: Values, W: Write>(
         &mut self,

@@ -3,7 +3,8 @@ ghost use Rattle.std.specs.Prelude.{◌≡◌, ◌≤◌, length, drop};
 ghost use Rattle.std.specs.List.{prefix_len};
 ghost use Rattle.study_report.specs.Remarks.{begins, is_digit, behind_digits, colon_in, subject, statement, is_left_out, is_original, is_omission};
 
-fn begins(text: &[u8], word: &[u8]) -> bool
+/// Whether the text begins with the word.
+pub fn begins(text: &[u8], word: &[u8]) -> bool
     ensures { result ≡ begins text.now word.now }
 {
     text.starts_with(word)

@@ -9,7 +9,7 @@ ghost use Rattle.study_marks.specs.Study.{plain_study};
 ghost use Rattle.study_facts.specs.Asked.{within};
 ghost use Rattle.study_facts.specs.Order.{HasReviewed};
 ghost use Rattle.study_facts.specs.declared.entry.EntryInfo.{EntryInfo as AnEntry};
-ghost use Rattle.study_report.specs.Told.{Entry, study_entry, games_in};
+ghost use Rattle.study_report.specs.Reported.{Entry, study_entry, games_in};
 
 use std::alloc::Allocator;
 use std::io::Write;
@@ -44,7 +44,7 @@ pub trait Report {
         info: EntryInfo,
         out: &mut W,
     ) -> Result<(), ReviewFault>
-        ensures told { V.source.is_honest values.old → IsKeptRight bench.now
+        ensures reported { V.source.is_honest values.old → IsKeptRight bench.now
             → OnOk result ((text : List ℕ)
             × tells (plain_study (marked bench.now)) info text
             × Appends (W.contents out.old) (W.contents out.new) text) }
@@ -55,14 +55,14 @@ pub trait Report {
             × tells (plain_study (marked bench.now)) info text
             × TakesPrefix (W.contents out.old) (W.contents out.new) text }
         ensures memory { result ≡ Err ReviewFault.OutOfMemory → out.new ≡ out.old }
-        ensures untold { (fault : AProbeFault)
+        ensures no_value { (fault : AProbeFault)
             → result ≡ Err (ReviewFault.Values fault) → out.new ≡ out.old }
-        ensures listed { (told : List Entry) → V.source.is_honest values.old
-            → IsKeptRight bench.now → lists self.old told
+        ensures listed { (reported : List Entry) → V.source.is_honest values.old
+            → IsKeptRight bench.now → lists self.old reported
             → OnOk result
-            (lists self.new (told ++ study_entry (plain_study (marked bench.now)) info ∷ [])) }
-        ensures unlisted { (told : List Entry) → lists self.old told
-            → OnErr result (lists self.new told) }
+            (lists self.new (reported ++ study_entry (plain_study (marked bench.now)) info ∷ [])) }
+        ensures unlisted { (reported : List Entry) → lists self.old reported
+            → OnErr result (lists self.new reported) }
         ensures asked { HasReviewed (within (marked bench.now).start.position V.source)
             values.old result values.new };
 
@@ -75,14 +75,15 @@ pub trait Report {
         reply: &[u8],
         out: &mut W,
     ) -> Result<(), WriteFault>
-        ensures told { OnOk result
+        ensures reported { OnOk result
             (Appends (W.contents out.old) (W.contents out.new)
             (refusal number line.now reply.now)) }
         ensures device { result ≡ Err WriteFault.Device
             → TakesPrefix (W.contents out.old) (W.contents out.new)
             (refusal number line.now reply.now) }
         ensures memory { result ≡ Err WriteFault.OutOfMemory → out.new ≡ out.old }
-        ensures listed { (told : List Entry) → lists self.old told → lists self.new told };
+        ensures listed { (reported : List Entry) → lists self.old reported
+            → lists self.new reported };
 
     /// Reports a remark: a comment that says why a game is left out, or that has the original text of a tag.
     fn add_remark<'a, A: Allocator, W: Write>(
@@ -91,13 +92,13 @@ pub trait Report {
         line: &[u8],
         out: &mut W,
     ) -> Result<(), WriteFault>
-        ensures told { OnOk result
+        ensures reported { OnOk result
             (Appends (W.contents out.old) (W.contents out.new) (remark line.now)) }
         ensures device { result ≡ Err WriteFault.Device
             → TakesPrefix (W.contents out.old) (W.contents out.new) (remark line.now) }
         ensures memory { result ≡ Err WriteFault.OutOfMemory → out.new ≡ out.old }
-        ensures listed { (told : List Entry) → lists self.old told
-            → OnOk result (lists self.new (told ++ games_in line.now)) }
-        ensures unlisted { (told : List Entry) → lists self.old told
-            → OnErr result (lists self.new told) };
+        ensures listed { (reported : List Entry) → lists self.old reported
+            → OnOk result (lists self.new (reported ++ games_in line.now)) }
+        ensures unlisted { (reported : List Entry) → lists self.old reported
+            → OnErr result (lists self.new reported) };
 }

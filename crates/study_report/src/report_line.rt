@@ -9,7 +9,7 @@ ghost use Rattle.study_script.specs.State.{State, study};
 ghost use Rattle.study_script.specs.SessionHolds.{Holds, document_seen};
 ghost use Rattle.study_script.specs.Session.{SessionHolds};
 ghost use Rattle.study_script.specs.Stores.{HonestOn, IsTrusted};
-ghost use Rattle.study_report.specs.Told.{Point, line_kind, IsAdded, IsAddedAs, IsAt, IsStudyTold, study_count, Entry, entry_at, games_in, listed_in};
+ghost use Rattle.study_report.specs.Reported.{Point, line_kind, IsAdded, IsAddedAs, IsAt, IsStudyReported, study_count, Entry, entry_at, games_in, listed_in};
 ghost use Rattle.study_report.specs.Written.{none_trusted, Adds, StopsIn, Stops, IsReplied};
 ghost use Rattle.study_report.specs.Parts.{IsReplyPiece, IsPart, IsPartAs, WritesPart};
 
@@ -65,11 +65,12 @@ fn add_refusal<'a, A: Allocator, W: Write, T: Report>(
     reply: &[u8],
     out: &mut W,
 ) -> Result<LineOutcome, RunFault>
-    ensures ok { IfOk result (λ told. (told ≡ LineOutcome.Refusal)
+    ensures ok { IfOk result (λ reported. (reported ≡ LineOutcome.Refusal)
         × Appends (W.contents out.old) (W.contents out.new) (T.refusal number line.now reply.now)) }
     ensures err { IfErr result
         (StopsIn (T.refusal number line.now reply.now) (W.contents out.old) (W.contents out.new)) }
-    ensures listed { (told : List Entry) → T.lists report.old told → T.lists report.new told }
+    ensures listed { (reported : List Entry) → T.lists report.old reported
+        → T.lists report.new reported }
     ensures stops { IfErr result (λ e. (e ≡ WriteDevice) ⊎ (e ≡ OutOfMemory)) }
 {
     match report.add_refusal(alloc, number, line, reply, out) {
@@ -88,13 +89,14 @@ fn refuse_line<'a, A: Allocator, W: Write, T: Report>(
     refusal: Refusal,
     out: &mut W,
 ) -> Result<LineOutcome, RunFault>
-    ensures ok { IfOk result (λ told. (told ≡ LineOutcome.Refusal)
+    ensures ok { IfOk result (λ reported. (reported ≡ LineOutcome.Refusal)
         × Appends (W.contents out.old) (W.contents out.new)
         (T.refusal number line.now (reply_line (codes "error ") (words_of refusal)))) }
     ensures err { IfErr result
         (StopsIn (T.refusal number line.now (reply_line (codes "error ") (words_of refusal)))
         (W.contents out.old) (W.contents out.new)) }
-    ensures listed { (told : List Entry) → T.lists report.old told → T.lists report.new told }
+    ensures listed { (reported : List Entry) → T.lists report.old reported
+        → T.lists report.new reported }
     ensures stops { IfErr result (λ e. (e ≡ WriteDevice) ⊎ (e ≡ OutOfMemory)) }
 {
     let mut reply = MemoryWriter::new(alloc);
@@ -111,14 +113,14 @@ fn add_remark<'a, A: Allocator, W: Write, T: Report>(
     line: &[u8],
     out: &mut W,
 ) -> Result<LineOutcome, RunFault>
-    ensures ok { IfOk result (λ told. (told ≡ LineOutcome.Nothing)
+    ensures ok { IfOk result (λ reported. (reported ≡ LineOutcome.Nothing)
         × Appends (W.contents out.old) (W.contents out.new) (T.remark line.now)) }
     ensures err { IfErr result
         (StopsIn (T.remark line.now) (W.contents out.old) (W.contents out.new)) }
-    ensures listed { (told : List Entry) → T.lists report.old told
-        → IfOk result (λ t. T.lists report.new (told ++ games_in line.now)) }
-    ensures unlisted { (told : List Entry) → T.lists report.old told
-        → IfErr result (λ e. T.lists report.new told) }
+    ensures listed { (reported : List Entry) → T.lists report.old reported
+        → IfOk result (λ t. T.lists report.new (reported ++ games_in line.now)) }
+    ensures unlisted { (reported : List Entry) → T.lists report.old reported
+        → IfErr result (λ e. T.lists report.new reported) }
     ensures stops { IfErr result (λ e. (e ≡ WriteDevice) ⊎ (e ≡ OutOfMemory)) }
 {
     match report.add_remark(alloc, line, out) {
@@ -154,8 +156,9 @@ fn answer_silently<'a, 's, S: TableStore, A: Allocator, W: Write, T: Report>(
         → IfErr result
         (Stops (IsAddedAs T.tells T.refusal T.remark LineKind.Checked p line.now)
         (W.contents out.old) (W.contents out.new)) }
-    ensures listed { (told : List Entry) → T.lists report.old told → T.lists report.new told }
-    ensures told_none { IfOk result (λ t. study_count t ≡ 0) }
+    ensures listed { (reported : List Entry) → T.lists report.old reported
+        → T.lists report.new reported }
+    ensures none_reported { IfOk result (λ t. study_count t ≡ 0) }
     ensures written { (next : ℕ)
         → IfOk result
         (WritesPart (IsPartAs T.form T.refusal T.remark LineKind.Checked number next line.now)
@@ -184,21 +187,21 @@ fn report_study<'a, P: PageSource, A: Allocator, W: Write, T: Report>(
     ensures ok { (p : Point) (s : State) (plain : PlainStudy)
         → Holds P.honest P.gives document.now tables.old s → s.document ≡ study plain
         → IsAt p at
-        → IfOk result (Adds (IsStudyTold T.tells T.refusal T.remark p s line.now) (λ t. (t ≡ s)
+        → IfOk result (Adds (IsStudyReported T.tells T.refusal T.remark p s line.now) (λ t. (t ≡ s)
         × Holds P.honest P.gives document.now tables.new t)
         (W.contents out.old) (W.contents out.new)) }
     ensures err { (p : Point) (s : State) (plain : PlainStudy)
         → Holds P.honest P.gives document.now tables.old s → s.document ≡ study plain
         → IsAt p at
         → IfErr result
-        (Stops (IsStudyTold T.tells T.refusal T.remark p s line.now)
+        (Stops (IsStudyReported T.tells T.refusal T.remark p s line.now)
         (W.contents out.old) (W.contents out.new)) }
-    ensures listed { (s : State) (told : List Entry)
-        → Holds P.honest P.gives document.now tables.old s → T.lists report.old told
+    ensures listed { (s : State) (reported : List Entry)
+        → Holds P.honest P.gives document.now tables.old s → T.lists report.old reported
         → IfOk result (λ t.
-        T.lists report.new (told ++ listed_in line.now t s.document (entry_at at))) }
-    ensures unlisted { (told : List Entry) → T.lists report.old told
-        → IfErr result (λ e. T.lists report.new told) }
+        T.lists report.new (reported ++ listed_in line.now t s.document (entry_at at))) }
+    ensures unlisted { (reported : List Entry) → T.lists report.old reported
+        → IfErr result (λ e. T.lists report.new reported) }
     ensures written { IfOk result
         (WritesPart
         (IsPartAs T.form T.refusal T.remark LineKind.Study at.line (at.studies + 1) line.now)
@@ -251,16 +254,16 @@ fn add_pgn<'a, 's, S: TableStore, A: Allocator, W: Write, T: Report>(
         → IfErr result
         (Stops (IsAddedAs T.tells T.refusal T.remark LineKind.Study p line.now)
         (W.contents out.old) (W.contents out.new)) }
-    ensures listed { (p : Point) (told : List Entry) → line_kind line.now ≡ LineKind.Study →
+    ensures listed { (p : Point) (reported : List Entry) → line_kind line.now ≡ LineKind.Study →
         SessionHolds S.Pages.honest S.Pages.gives
         (HonestOn none_trusted S.honest) S.files S.headers S.faults
         session.old.document session.old.tables session.old.store.now p.state
-        → T.lists report.old told
+        → T.lists report.old reported
         → IfOk result (λ t.
         T.lists report.new
-        (told ++ listed_in line.now t (document_seen session.new.document) (entry_at at))) }
-    ensures unlisted { (told : List Entry) → T.lists report.old told
-        → IfErr result (λ e. T.lists report.new told) }
+        (reported ++ listed_in line.now t (document_seen session.new.document) (entry_at at))) }
+    ensures unlisted { (reported : List Entry) → T.lists report.old reported
+        → IfErr result (λ e. T.lists report.new reported) }
     ensures written { IfOk result
         (WritesPart
         (IsPartAs T.form T.refusal T.remark LineKind.Study at.line (at.studies + 1) line.now)
@@ -311,16 +314,16 @@ pub fn add_line<'a, 's, S: TableStore, A: Allocator, W: Write, T: Report>(
         → IfErr result
         (Stops (IsAdded T.tells T.refusal T.remark p line.now)
         (W.contents out.old) (W.contents out.new)) }
-    ensures listed { (p : Point) (told : List Entry) →
+    ensures listed { (p : Point) (reported : List Entry) →
         SessionHolds S.Pages.honest S.Pages.gives
         (HonestOn none_trusted S.honest) S.files S.headers S.faults
         session.old.document session.old.tables session.old.store.now p.state
-        → T.lists report.old told
+        → T.lists report.old reported
         → IfOk result (λ t.
         T.lists report.new
-        (told ++ listed_in line.now t (document_seen session.new.document) (entry_at at))) }
-    ensures unlisted { (told : List Entry) → T.lists report.old told
-        → IfErr result (λ e. T.lists report.new told) }
+        (reported ++ listed_in line.now t (document_seen session.new.document) (entry_at at))) }
+    ensures unlisted { (reported : List Entry) → T.lists report.old reported
+        → IfErr result (λ e. T.lists report.new reported) }
     ensures written { IfOk result
         (WritesPart (IsPart T.form T.refusal T.remark at.line (at.studies + 1) line.now)
         (W.contents out.old) (W.contents out.new)) }

@@ -7,7 +7,7 @@ ghost use Rattle.study_script.specs.Session.{SessionHolds};
 ghost use Rattle.study_script.specs.Stores.{HonestOn};
 ghost use Rattle.study_report.specs.Outcome.{IsFollowed, AreListed, AreListedBefore, Outcome, Shape, over_tables};
 ghost use Rattle.study_report.specs.Parts.{Fits};
-ghost use Rattle.study_report.specs.Told.{Entry};
+ghost use Rattle.study_report.specs.Reported.{Entry};
 ghost use Rattle.study_report.specs.Written.{none_trusted};
 
 use crate::line_outcome::ReportPosition;
@@ -49,24 +49,24 @@ pub fn follow<'a, 's, R: Read, W: Write, S: TableStore, A: Allocator, T: Report>
         (SessionHolds S.Pages.honest S.Pages.gives
         (HonestOn none_trusted S.honest) S.files S.headers S.faults
         session.new.document session.new.tables session.new.store.now))) }
-    ensures listed { (first : State) (told : List Entry)
+    ensures listed { (first : State) (reported : List Entry)
         → SessionHolds S.Pages.honest S.Pages.gives (HonestOn none_trusted S.honest)
         S.files S.headers S.faults session.old.document session.old.tables
         session.old.store.now first
-        → T.lists report.old told
+        → T.lists report.old reported
         → OnOk result (IfSome (R.remaining script.old) (λ bytes.
         AreListed T.tells T.refusal T.remark first bytes (W.contents out.old) (W.contents out.new)
-        (λ more. T.lists report.new (told ++ more)))) }
-    ensures listed_before { (first : State) (told : List Entry)
+        (λ more. T.lists report.new (reported ++ more)))) }
+    ensures listed_before { (first : State) (reported : List Entry)
         → SessionHolds S.Pages.honest S.Pages.gives (HonestOn none_trusted S.honest)
         S.files S.headers S.faults session.old.document session.old.tables
         session.old.store.now first
-        → T.lists report.old told
+        → T.lists report.old reported
         → IfErr result (λ fault.
         IfSome (R.remaining script.old) (λ bytes.
         AreListedBefore T.tells T.refusal T.remark first bytes
         (W.contents out.old) (W.contents out.new) (λ more.
-        T.lists report.new (told ++ more)) fault)) }
+        T.lists report.new (reported ++ more)) fault)) }
     ensures shape { IfSome (R.remaining script.old) (λ bytes.
         Shape bytes (R.remaining script.new) result) }
     ensures fits { IfSome (R.remaining script.old) (λ bytes.
@@ -90,10 +90,10 @@ pub fn follow<'a, 's, R: Read, W: Write, S: TableStore, A: Allocator, T: Report>
         };
         match add_line(session, report, at, line.as_slice(), out) {
             Err(fault) => return Err(fault),
-            Ok(told) => {
-                studies += told.studies();
-                refused += told.refusals();
-                unread = unread_after(unread, n + 1, line.as_slice(), told);
+            Ok(reported) => {
+                studies += reported.studies();
+                refused += reported.refusals();
+                unread = unread_after(unread, n + 1, line.as_slice(), reported);
             }
         }
     }
@@ -122,21 +122,24 @@ pub fn follow_script<'a, R: Read, W: Write, P: PageSource, A: Allocator, T: Repo
         Outcome T.tells T.refusal T.remark
         (over_tables classes (are_paged tables.entry)) bytes (R.remaining script.new)
         (W.contents out.old) (W.contents out.new) result) }
-    ensures listed { (classes : List AClass) (told : List Entry)
+    ensures listed { (classes : List AClass) (reported : List Entry)
         → tables_honest P.honest tables.entry
-        → ((c : AClass) → tables_held tables.entry c ≡ is_among classes c) → T.lists report.old told
+        → ((c : AClass) → tables_held tables.entry c ≡ is_among classes c)
+        → T.lists report.old reported
         → OnOk result (IfSome (R.remaining script.old) (λ bytes.
         AreListed T.tells T.refusal T.remark (over_tables classes (are_paged tables.entry)) bytes
-        (W.contents out.old) (W.contents out.new) (λ more. T.lists report.new (told ++ more)))) }
-    ensures listed_before { (classes : List AClass) (told : List Entry)
+        (W.contents out.old) (W.contents out.new)
+        (λ more. T.lists report.new (reported ++ more)))) }
+    ensures listed_before { (classes : List AClass) (reported : List Entry)
         → tables_honest P.honest tables.entry
-        → ((c : AClass) → tables_held tables.entry c ≡ is_among classes c) → T.lists report.old told
+        → ((c : AClass) → tables_held tables.entry c ≡ is_among classes c)
+        → T.lists report.old reported
         → IfErr result (λ fault.
         IfSome (R.remaining script.old) (λ bytes.
         AreListedBefore T.tells T.refusal T.remark (over_tables classes (are_paged
         tables.entry))
         bytes (W.contents out.old) (W.contents out.new) (λ more.
-        T.lists report.new (told ++ more)) fault)) }
+        T.lists report.new (reported ++ more)) fault)) }
     ensures shape { IfSome (R.remaining script.old) (λ bytes.
         Shape bytes (R.remaining script.new) result) }
     ensures fits { IfSome (R.remaining script.old) (λ bytes.
@@ -164,22 +167,22 @@ pub fn follow_over<'a, R: Read, W: Write, S: TableStore, A: Allocator, T: Report
         (λ bytes.
         Outcome T.tells T.refusal T.remark first bytes (R.remaining script.new) (W.contents out.old)
         (W.contents out.new) result) }
-    ensures listed { (first : State) (told : List Entry)
+    ensures listed { (first : State) (reported : List Entry)
         → SessionHolds S.Pages.honest S.Pages.gives (HonestOn none_trusted S.honest)
         S.files S.headers S.faults Document.Empty tables.entry store.old first
-        → T.lists report.old told
+        → T.lists report.old reported
         → OnOk result (IfSome (R.remaining script.old) (λ bytes.
         AreListed T.tells T.refusal T.remark first bytes (W.contents out.old) (W.contents out.new)
-        (λ more. T.lists report.new (told ++ more)))) }
-    ensures listed_before { (first : State) (told : List Entry)
+        (λ more. T.lists report.new (reported ++ more)))) }
+    ensures listed_before { (first : State) (reported : List Entry)
         → SessionHolds S.Pages.honest S.Pages.gives (HonestOn none_trusted S.honest)
         S.files S.headers S.faults Document.Empty tables.entry store.old first
-        → T.lists report.old told
+        → T.lists report.old reported
         → IfErr result (λ fault.
         IfSome (R.remaining script.old) (λ bytes.
         AreListedBefore T.tells T.refusal T.remark first bytes
         (W.contents out.old) (W.contents out.new) (λ more.
-        T.lists report.new (told ++ more)) fault)) }
+        T.lists report.new (reported ++ more)) fault)) }
     ensures shape { IfSome (R.remaining script.old) (λ bytes.
         Shape bytes (R.remaining script.new) result) }
     ensures fits { IfSome (R.remaining script.old) (λ bytes.

@@ -10,7 +10,7 @@ ghost use Rattle.study_marks.specs.BenchState.{marked, IsKeptRight};
 ghost use Rattle.study_marks.specs.Study.{plain_study};
 ghost use Rattle.study_script.specs.State.{State, study};
 ghost use Rattle.study_script.specs.SessionHolds.{Holds, document_seen, tables_honest, tables_held, tables_may_fail, are_paged};
-ghost use Rattle.study_report.specs.Told.{IsUntoldBy, IsUntoldIn, lacks_study, Entry, study_entry, studies_on};
+ghost use Rattle.study_report.specs.Reported.{IsValueFaultBy, IsValueFaultIn, lacks_study, Entry, study_entry, studies_on};
 ghost use Rattle.study_report.specs.Written.{IsSection, IsSectionPart};
 
 use crate::report::Report;
@@ -32,7 +32,7 @@ pub fn add_study<'a, P: PageSource, A: Allocator, W: Write, T: Report>(
     out: &mut W,
 ) -> Result<(), ReviewFault>
     // Many clauses: what is reported, why nothing is, and what stays of the tables.
-    ensures told { tables_honest P.honest tables.old → IsKeptRight bench.now
+    ensures reported { tables_honest P.honest tables.old → IsKeptRight bench.now
         → OnOk result ((text : List ℕ)
         × T.tells (plain_study (marked bench.now)) info text
         × Appends (W.contents out.old) (W.contents out.new) text) }
@@ -43,17 +43,17 @@ pub fn add_study<'a, P: PageSource, A: Allocator, W: Write, T: Report>(
         × T.tells (plain_study (marked bench.now)) info text
         × TakesPrefix (W.contents out.old) (W.contents out.new) text }
     ensures memory { result ≡ Err ReviewFault.OutOfMemory → out.new ≡ out.old }
-    ensures untold { (fault : AProbeFault)
+    ensures no_value { (fault : AProbeFault)
         → result ≡ Err (ReviewFault.Values fault) → out.new ≡ out.old }
-    ensures listed { (told : List Entry) → tables_honest P.honest tables.old
-        → IsKeptRight bench.now → T.lists report.old told
+    ensures listed { (reported : List Entry) → tables_honest P.honest tables.old
+        → IsKeptRight bench.now → T.lists report.old reported
         → OnOk result
-        (T.lists report.new (told ++ study_entry (plain_study (marked bench.now)) info ∷ [])) }
-    ensures unlisted { (told : List Entry) → T.lists report.old told
-        → OnErr result (T.lists report.new told) }
+        (T.lists report.new (reported ++ study_entry (plain_study (marked bench.now)) info ∷ [])) }
+    ensures unlisted { (reported : List Entry) → T.lists report.old reported
+        → OnErr result (T.lists report.new reported) }
     ensures why { (fault : AProbeFault) → tables_honest P.honest tables.old
         → result ≡ Err (ReviewFault.Values fault)
-        → IsUntoldBy (tables_held tables.old) (are_paged tables.old)
+        → IsValueFaultBy (tables_held tables.old) (are_paged tables.old)
         (tables_may_fail P.gives tables.old) (marked bench.now).start.position fault }
     ensures honest { tables_honest P.honest tables.old → tables_honest P.honest tables.new }
     ensures tables { (c : AClass) → tables_held tables.new c ≡ tables_held tables.old c }
@@ -77,7 +77,7 @@ pub fn add_section<'a, P: PageSource, A: Allocator, W: Write, T: Report>(
     info: EntryInfo,
     out: &mut W,
 ) -> Result<(), ReviewFault>
-    ensures told { (s : State) → Holds P.honest P.gives document.now tables.old s
+    ensures reported { (s : State) → Holds P.honest P.gives document.now tables.old s
         → OnOk result
         (IsSection T.tells s.document info (W.contents out.old) (W.contents out.new)) }
     ensures formed { lacks_study (document_seen document.now) ≡ false
@@ -87,16 +87,16 @@ pub fn add_section<'a, P: PageSource, A: Allocator, W: Write, T: Report>(
         → result ≡ Err ReviewFault.Device
         → IsSectionPart T.tells s.document info (W.contents out.old) (W.contents out.new) }
     ensures memory { result ≡ Err ReviewFault.OutOfMemory → out.new ≡ out.old }
-    ensures untold { (fault : AProbeFault)
+    ensures no_value { (fault : AProbeFault)
         → result ≡ Err (ReviewFault.Values fault) → out.new ≡ out.old }
-    ensures listed { (s : State) (told : List Entry)
-        → Holds P.honest P.gives document.now tables.old s → T.lists report.old told
-        → OnOk result (T.lists report.new (told ++ studies_on s.document info)) }
-    ensures unlisted { (told : List Entry) → T.lists report.old told
-        → OnErr result (T.lists report.new told) }
+    ensures listed { (s : State) (reported : List Entry)
+        → Holds P.honest P.gives document.now tables.old s → T.lists report.old reported
+        → OnOk result (T.lists report.new (reported ++ studies_on s.document info)) }
+    ensures unlisted { (reported : List Entry) → T.lists report.old reported
+        → OnErr result (T.lists report.new reported) }
     ensures why { (s : State) (plain : PlainStudy) (fault : AProbeFault)
         → Holds P.honest P.gives document.now tables.old s → s.document ≡ study plain
-        → result ≡ Err (ReviewFault.Values fault) → IsUntoldIn s plain.start.position fault }
+        → result ≡ Err (ReviewFault.Values fault) → IsValueFaultIn s plain.start.position fault }
     ensures holds { (s : State) → Holds P.honest P.gives document.now tables.old s
         → Holds P.honest P.gives document.now tables.new s }
 {

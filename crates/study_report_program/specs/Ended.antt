@@ -4,7 +4,7 @@ use Rattle.std.specs.Io.KnownBytes.{Keeps}
 use Rattle.study_script.specs.declared.running.Summary.{Summary}
 use Rattle.study_script.specs.declared.running.RunFault.{RunFault}
 use Rattle.study_script.specs.declared.running.RunFault.TheVariants.{WriteDevice, OutOfMemory}
-use Rattle.study_program.specs.Status.{status_told}
+use Rattle.study_program.specs.Status.{status_reported}
 use Rattle.study_report.specs.Outcome.{Shape}
 use Rattle.study_report.specs.Parts.{Fits}
 use Rattle.study_report.specs.Lines.{refusal_line, no_remark, IsReviewForm}
@@ -42,4 +42,4 @@ IsReported form script left old new answer = (written : Option (List ℕ)) × Ha
 -- nothing, for want of memory: tests do.
 abbrev pub EndsBy : (Result Summary RunFault → Type 0) → Bool → ℕ → Option (List ℕ) → Option (List ℕ) → Type 0
 EndsBy Ran progress status old new = (ran answer : Result Summary RunFault) × Ran ran × ((answer ≡ ran) ⊎ (answer ≡ Err WriteDevice))
-    × (status ≡ status_told answer) × AreErrors progress answer old new
+    × (status ≡ status_reported answer) × AreErrors progress answer old new

@@ -11,7 +11,7 @@ const ABOUT: &str =
 
 const LINES: &str =
     "The script is that of studybench. Its lines 'build', 'load', 'save' and 'verify' are passed over: each table whose file is in
-the folder is opened before the first line. A line that is refused is told where it stands.
+the folder is opened before the first line. A line that is refused is reported where it stands.
 
 Exit status: 0 no line was refused; 1 some line was; 2 the command line was; 3 the run stopped at a fault.";
 

@@ -2,7 +2,7 @@
 ghost use Rattle.std.specs.Prelude.{◌≡◌, Bool, false};
 ghost use Rattle.study_material.specs.Class.{class_list};
 ghost use Rattle.clap.specs.Values.{kind_of};
-ghost use Rattle.study_program.specs.Status.{status_told, status_unread};
+ghost use Rattle.study_program.specs.Status.{status_reported, status_unread};
 ghost use Rattle.study_report_program.specs.Ended.{EndsBy, HasReported, IsReported};
 ghost use Rattle.study_report_program.specs.Errors.{AreFaultsOf, IsStopReported};
 
@@ -104,7 +104,7 @@ pub fn report_script<F: Files, A: Allocator, R: Read, W: Write, E: Write>(
 
 /// Reports why a run stopped, if it did. A failure of standard error cannot be reported.
 fn ended<E: Write>(errors: &mut E, answer: &Result<Summary, RunFault>) -> u8
-    ensures status { result ≡ status_told answer.now }
+    ensures status { result ≡ status_reported answer.now }
     ensures stop { IsStopReported answer.now (E.contents errors.old) (E.contents errors.new) }
 {
     if let Err(fault) = answer {

@@ -1,5 +1,6 @@
 -- The positions before quiet moves, by the men that a number encodes.
-use Rattle.std.proofs.Common.{◌≡◌, ℕ, ◌+◌, ◌<◌, ◌≤◌, ◌⊎◌, inl, inr, arith, Bool, true, false, List, slice_index, Contains, Option, Some, None, refl, sym, ◌∙◌, ap, subst}
+use Rattle.std.proofs.Common.{◌≡◌, ℕ, ◌+◌, ◌<◌, ◌≤◌, ◌⊎◌, inl, inr, arith, Bool, true, false, List, slice_index, Contains, Option, Some, None, refl}
+use Rattle.std.proofs.Common.{sym, ◌∙◌, ap, subst}
 use Rattle.std.proofs.lemmas.Bool.{and_parts, false≢true}
 use Rattle.std.specs.List.Sorted.{IsPermutation}
 use Rattle.study_board.specs.declared.men.Side.{Side}
@@ -19,13 +20,13 @@ use Rattle.study_moves.proofs.AnyOrder.{men-tell-moves}
 use Rattle.study_material.specs.declared.class.Class.{Class}
 use Rattle.study_material.specs.Class.{is_of}
 use Rattle.study_values.specs.Number.{cells_of, without_bit}
-use Rattle.study_index.specs.Decoded.{slots_of, told_men, told_side}
+use Rattle.study_index.specs.Decoded.{slots_of, decoded_men, decoded_side}
 use Rattle.study_index.specs.Computed.{position_numbered}
 use Rattle.study_values.specs.Index.{index_of}
 use Rattle.study_index.specs.Moved.{IsMoved}
 use Rattle.study_index.proofs.ClassLaws.{below}
-use Rattle.study_index.proofs.ComputedIndex.{told_decoded}
-use Rattle.study_index.proofs.DecodedNumbers.{told_of}
+use Rattle.study_index.proofs.ComputedIndex.{decoded_of_numbered}
+use Rattle.study_index.proofs.DecodedNumbers.{encoded_by}
 use Rattle.study_levels.specs.Propagation.{AreAdded, AreLowered, AreSet, IsSetWhere, LeadsTo}
 use Rattle.study_table.specs.Table.{Table}
 use Rattle.study_values.specs.Cells.{value_of}
@@ -33,7 +34,7 @@ use Rattle.study_values.specs.declared.value.Value.TheVariants.{Win}
 use Rattle.study_retro.specs.ClassGame.{class_game}
 use Rattle.study_levels.specs.Numbered.{Numbered, IsNumberedClass, LosesBy, NoLossBy}
 use Rattle.study_retro.specs.Still.{IsWonAfter, QuietMovesLose, QuietMovesLoseBy, move_to}
-use Rattle.study_retro.specs.Predecessors.{AreTold, IsBefore, IsBeforeBy, IsBeforeFrom, IsNumberBefore, LeavesNone}
+use Rattle.study_retro.specs.Predecessors.{AreEncoded, IsBefore, IsBeforeBy, IsBeforeFrom, IsNumberBefore, LeavesNone}
 use Rattle.study_retro.proofs.EarlierChess.{before_leads, leads_before, leads_numbered, small_index}
 use Rattle.study_retro.proofs.MovedSteps.{moved_before, index_after, quiet_below, quiet_label}
 use Rattle.study_moves.specs.EnPassant.{has_legal_en_passant}
@@ -87,21 +88,21 @@ module _ (c : Class) (number : ℕ) (q : Position) (at : position_numbered c num
   pub one_position : (p : Position) → position_numbered c number ≡ Some p → p ≡ q
   one_position p e = let s : Some p ≡ Some q = sym e ∙ at in cc
 
-  module _ (men : List Man) (side : Side) (told : AreTold c number men side) where
-    pub told_origins : HasOrigins q men
-    told_origins =
-        let d = told_decoded c number q at in
-        let t = told_of c number q d in
-        (men-tell-moves q men d.valid (subst (λ (zs : List Man). IsPermutation zs q.men) (sym told.0) t.same_men)).1
+  module _ (men : List Man) (side : Side) (encodes : AreEncoded c number men side) where
+    pub origins_found : HasOrigins q men
+    origins_found =
+        let d = decoded_of_numbered c number q at in
+        let t = encoded_by c number q d in
+        (men-tell-moves q men d.valid (subst (λ (zs : List Man). IsPermutation zs q.men) (sym encodes.0) t.same_men)).1
 
     pub side_is : side ≡ q.to_move
-    side_is = told.1 ∙ sym (told_of c number q (told_decoded c number q at)).same_side
+    side_is = encodes.1 ∙ sym (encoded_by c number q (decoded_of_numbered c number q at)).same_side
 
     module _ (man : Man) (among : Contains men man) where
       -- an origin of the man gives a position before
       pub came_led : same_side man.side (other_side side) ≡ true → (a : ℕ) → a < 64 → is_unmove_origin men side man a ≡ true → CanHaveLed q (move_from man a)
       came_led s a on e =
-          (told_origins.led man a among on).1
+          (origins_found.led man a among on).1
           (rw (ap (λ (t : Side). same_side man.side (other_side t)) (sym side_is) ∙ s, ap (λ (t : Side). is_unmove_origin men t man a) (sym side_is) ∙ e) refl)
 
       -- and only such an origin, and only for the side that moved
@@ -112,7 +113,7 @@ module _ (c : Class) (number : ℕ) (q : Position) (at : position_numbered c num
             from = b.before.from;
             leads = subst (λ (p : Position). LeadsQuietly b.before.from (move_from man a) p) (one_position b.to b.at) b.before.leads;
           } in
-          let parts = and_parts (same_side man.side (other_side q.to_move)) (is_unmove_origin men q.to_move man a) ((told_origins.led man a among on).0 led) in
+          let parts = and_parts (same_side man.side (other_side q.to_move)) (is_unmove_origin men q.to_move man a) ((origins_found.led man a among on).0 led) in
           (ap (λ (t : Side). same_side man.side (other_side t)) side_is ∙ parts.0, ap (λ (t : Side). is_unmove_origin men t man a) side_is ∙ parts.1)
 
       -- the set of those squares, and a number that fits the position before from one of them
@@ -129,7 +130,7 @@ module _ (c : Class) (number : ℕ) (q : Position) (at : position_numbered c num
     -- a number before the number is so by one of the men
     pub before_among : (m : Move) (n : ℕ) → IsNumberBefore c q number m n → (man : Man) × Contains men man × IsBeforeBy c number man n
     before_among m n b =
-        let t = told_origins.mover m (record { from = b.from; leads = b.leads }) in (
+        let t = origins_found.mover m (record { from = b.from; leads = b.leads }) in (
           t.0,
           t.1,
           (
@@ -139,8 +140,8 @@ module _ (c : Class) (number : ℕ) (q : Position) (at : position_numbered c num
           ),
         )
 
-    pub before_told : (n : ℕ) → IsBefore c number n → (man : Man) × Contains men man × IsBeforeBy c number man n
-    before_told n h =
+    pub before_found : (n : ℕ) → IsBefore c number n → (man : Man) × Contains men man × IsBeforeBy c number man n
+    before_found n h =
         let b = h.1.2 in
         before_among (move_from h.0 h.1.0) n (subst (λ (p : Position). IsNumberBefore c p number (move_from h.0 h.1.0) n) (one_position b.to b.at) b.before)
 
@@ -172,30 +173,31 @@ module _ (c : Class) (number : ℕ) (q : Position) (at : position_numbered c num
 -- ---- positions after quiet moves
 
 module _ (c : Class) (number : ℕ) (q : Position) (at : position_numbered c number ≡ Some q) (plain : number < 16777216) (men : List Man)
-    (side : Side) (told : AreTold c number men side) where
+    (side : Side) (encodes : AreEncoded c number men side) where
   dead : has_legal_en_passant q ≡ false
   dead = dead_plain c number q at plain
 
-  pub told_targets : HasSafeTargets q men
-  told_targets =
-      let d = told_decoded c number q at in
-      let t = told_of c number q d in
-      (men-tell-moves q men d.valid (subst (λ (zs : List Man). IsPermutation zs q.men) (sym told.0) t.same_men)).0
+  pub targets_found : HasSafeTargets q men
+  targets_found =
+      let d = decoded_of_numbered c number q at in
+      let t = encoded_by c number q d in
+      (men-tell-moves q men d.valid (subst (λ (zs : List Man). IsPermutation zs q.men) (sym encodes.0) t.same_men)).0
       dead
 
   pub occupied_same : (x : ℕ) → is_occupied men x ≡ is_occupied q.men x
   occupied_same x =
-      is_occupied_same men q.men (subst (λ (zs : List Man). IsPermutation zs q.men) (sym told.0) (told_of c number q (told_decoded c number q at)).same_men) x
+      is_occupied_same men q.men (subst (λ (zs : List Man). IsPermutation zs q.men) (sym encodes.0)
+      (encoded_by c number q (decoded_of_numbered c number q at)).same_men) x
 
   -- a quiet move of a man to a safe target is legal, and its number fits
   module _ (man : Man) (among : Contains men man) (his : same_side man.side side ≡ true) (x : ℕ) (on : x < 64) where
     module _ (safe : is_safe_target men side man x ≡ true) (free : is_occupied men x ≡ false) (stays : reaches_last_rank man x ≡ false) where
       pub safe_legal : is_legal q (move_to man x) ≡ true
       safe_legal =
-          told_targets.legal man (move_to man x) among refl on
+          targets_found.legal man (move_to man x) among refl on
           ∙ rw (
-            ap (λ (t : Side). same_side man.side t) (sym (side_is c number q at men side told)) ∙ his,
-            ap (λ (t : Side). is_safe_target men t man x) (sym (side_is c number q at men side told)) ∙ safe,
+            ap (λ (t : Side). same_side man.side t) (sym (side_is c number q at men side encodes)) ∙ his,
+            ap (λ (t : Side). is_safe_target men t man x) (sym (side_is c number q at men side encodes)) ∙ safe,
             stays,
           ) refl
 
@@ -211,7 +213,8 @@ module _ (c : Class) (number : ℕ) (q : Position) (at : position_numbered c num
         safe_below = quiet_below c number q at dead (move_to man x) safe_legal safe_quiet held laws cells k safe_index
 
         -- if the move does not lead to a won position, the position does not lose
-        pub safe_escape : (level : ℕ) → (((m : ℕ) × (value_of (slice_index cells k) ≡ Win m) × (m ≤ level)) → ⊥) → NoLossBy (class_game c held) cells level number
+        pub safe_escape : (level : ℕ) → (((m : ℕ) × (value_of (slice_index cells k) ≡ Win m) × (m ≤ level)) → ⊥)
+            → NoLossBy (class_game c held) cells level number
         safe_escape level unwon p e h =
             let same = one_position c number q at p e in
             let w = subst (λ (r : Position). LosesBy (class_game c held) cells level r) same h in
@@ -229,20 +232,20 @@ module _ (c : Class) (number : ℕ) (q : Position) (at : position_numbered c num
   pub safe_by : (m : Move) → is_legal q m ≡ true → (man : Man) → Contains men man → m.origin ≡ man.at
       → (m.target < 64) × (same_side man.side side ≡ true) × (is_safe_target men side man m.target ≡ true)
   safe_by m legal man among origin =
-      let on = (told_targets.mover m legal).3 in
-      let is = and_parts _ _ (sym (told_targets.legal man m among origin on) ∙ legal) in
+      let on = (targets_found.mover m legal).3 in
+      let is = and_parts _ _ (sym (targets_found.legal man m among origin on) ∙ legal) in
       let own = and_parts _ _ is.0 in (
         on,
-        ap (λ (t : Side). same_side man.side t) (side_is c number q at men side told) ∙ own.0,
-        ap (λ (t : Side). is_safe_target men t man m.target) (side_is c number q at men side told) ∙ own.1,
+        ap (λ (t : Side). same_side man.side t) (side_is c number q at men side encodes) ∙ own.0,
+        ap (λ (t : Side). is_safe_target men t man m.target) (side_is c number q at men side encodes) ∙ own.1,
       )
 
   -- a legal move without a promotion does not reach the last rank
   pub safe_plain : (m : Move) → is_legal q m ≡ true → (man : Man) → Contains men man → m.origin ≡ man.at → m.promoted ≡ None
       → reaches_last_rank man m.target ≡ false
   safe_plain m legal man among origin none =
-      let on = (told_targets.mover m legal).3 in
-      let is = and_parts _ _ (sym (told_targets.legal man m among origin on) ∙ legal) in
+      let on = (targets_found.mover m legal).3 in
+      let is = and_parts _ _ (sym (targets_found.legal man m among origin on) ∙ legal) in
       unreached (reaches_last_rank man m.target) (sym (ap (λ (o : Option Kind). is_promotion_choice (reaches_last_rank man m.target) o) none) ∙ is.1)
     where
       unreached : (b : Bool) → is_promotion_choice b None ≡ true → b ≡ false
@@ -253,7 +256,7 @@ module _ (c : Class) (number : ℕ) (q : Position) (at : position_numbered c num
   pub lose_each : (g : Numbered Position) (cells : List ℕ) (k : ℕ) → ((man : Man) → Contains men man → QuietMovesLoseBy g cells k q man)
       → QuietMovesLose g cells k q
   lose_each g cells k each m legal quiet =
-      let t = told_targets.mover m legal in
+      let t = targets_found.mover m legal in
       let same : m ≡ move_to t.0 m.target = by_fields m t.0 t.2 quiet.1 in
       subst (λ (x : Move). IsWonAfter g cells k q x) (sym same)
       (each t.0 t.1 m.target (subst (λ (x : Move). is_legal q x ≡ true) same legal) (quiet.0, refl))
@@ -270,10 +273,10 @@ module _ (c : Class) (number : ℕ) (q : Position) (at : position_numbered c num
       let choice : Option Kind = chosen (reaches_last_rank man x) in
       let m : Move = record { origin = man.at; target = x; promoted = choice } in (
         m,
-        told_targets.legal man m among refl on
+        targets_found.legal man m among refl on
             ∙ rw (
-              ap (λ (t : Side). same_side man.side t) (sym (side_is c number q at men side told)) ∙ his,
-              ap (λ (t : Side). is_safe_target men t man x) (sym (side_is c number q at men side told)) ∙ safe,
+              ap (λ (t : Side). same_side man.side t) (sym (side_is c number q at men side encodes)) ∙ his,
+              ap (λ (t : Side). is_safe_target men t man x) (sym (side_is c number q at men side encodes)) ∙ safe,
             ) (is_chosen (reaches_last_rank man x)),
       )
     where
@@ -293,7 +296,7 @@ leads_is_before c number i t =
     let q = leads_numbered c number i t in
     let b = leads_before c number i q.0 q.1 t in
     let h =
-    before_among c number q.0 q.1 (told_men (slots_of c) (without_bit number)) (told_side (slots_of c) (without_bit number)) (refl, refl) b.by i b.is in
+    before_among c number q.0 q.1 (decoded_men (slots_of c) (without_bit number)) (decoded_side (slots_of c) (without_bit number)) (refl, refl) b.by i b.is in
     (h.0, h.2)
 
 -- a number before the number leads to it
@@ -304,4 +307,4 @@ before_is_leads c number i h = let b = h.1.2 in before_leads c number i b.to (mo
 pub before_below : (c : Class) (number : ℕ) (man : Man) (a i : ℕ) → IsBeforeFrom c number man a i → i < cells_of c
 before_below c number man a i b =
     let t = before_leads c number i b.to (move_from man a) b.at b.before in
-    below c i t.0 (told_decoded c i t.0 t.2)
+    below c i t.0 (decoded_of_numbered c i t.0 t.2)

@@ -17,7 +17,8 @@ use Rattle.study_board.proofs.Faults.{list_any_same}
 use Rattle.study_board.proofs.Lists.{count_by-cons}
 use Rattle.study_moves.proofs.KingSafety.{not_at_end}
 use Rattle.study_moves.proofs.MenOfList.{IsAmong, none_among}
-use Rattle.study_retro.specs.RowMoves.{AreOnDistinctSquares, AreAttackers, AreRest, IsOnlyKing, attacked_with_last, keeps_attack_past, keeps_attack_with, gone_to}
+use Rattle.study_retro.specs.RowMoves.{AreOnDistinctSquares, AreAttackers, AreRest, IsOnlyKing, attacked_with_last, keeps_attack_past}
+use Rattle.study_retro.specs.RowMoves.{keeps_attack_with, gone_to}
 use Rattle.study_retro.specs.RowMoves.{king_attacked_with, does_not_block}
 use Rattle.study_retro.specs.declared.rows.checks.Attacker.{Attacker}
 use Rattle.study_retro.specs.Still.{facing, on_square}

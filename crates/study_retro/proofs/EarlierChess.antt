@@ -27,12 +27,12 @@ use Rattle.study_material.specs.declared.class.Class.{Class}
 use Rattle.study_material.specs.Lists.{Lists, lists, ordered}
 use Rattle.study_material.specs.Class.{IsOf}
 use Rattle.study_values.specs.Number.{IsIndex, with_bit, without_bit}
-use Rattle.study_index.specs.Decoded.{slots_of, told_men, told_side}
-use Rattle.study_index.specs.Computed.{position_told, is_entry, position_numbered}
+use Rattle.study_index.specs.Decoded.{slots_of, decoded_men, decoded_side}
+use Rattle.study_index.specs.Computed.{position_decoded, is_entry, position_numbered}
 use Rattle.study_values.specs.Index.{index_of}
 use Rattle.study_index.specs.Laws.{AreAlikeIn}
 use Rattle.study_index.proofs.ClassLaws.{entry, numbered, same_class, same_index, alike_back, alike_move}
-use Rattle.study_index.proofs.ComputedIndex.{IsIndex-index_of, index_of-only, told_decoded, decoded_told}
+use Rattle.study_index.proofs.ComputedIndex.{IsIndex-index_of, index_of-only, decoded_of_numbered, numbered_of_decoded}
 use Rattle.study_index.proofs.ImageNumbers.{IsLeastNumber-passed}
 use Rattle.study_index.proofs.LivePassing.{live_along, not_live_passed}
 use Rattle.study_index.proofs.WithBit.{HasParts-from}
@@ -103,7 +103,12 @@ before_alike c p q m v u o l k h =
         alike = record {
           left = va;
           right = IsValid-after r m' w l';
-          images = record { by = s; admitted = h.alike.images.admitted; is = ap without_idle_passed_square to ∙ bare_image s (after p m) (IsTurnable-from_valid s (after p m) va b) };
+          images = record {
+            by = s;
+            admitted = h.alike.images.admitted;
+            is = ap without_idle_passed_square to
+                ∙ bare_image s (after p m) (IsTurnable-from_valid s (after p m) va b);
+          };
         };
         kept = h.kept;
       };
@@ -159,12 +164,12 @@ small_index p v u =
     let is : index_of p ≡ without_bit (index_of p) = h.is ∙ ap (λ (b : Bool). with_bit b (without_bit (index_of p))) dead in
     subst (λ (n : ℕ). n < 16777216) (sym is) h.small
 
-position_is : (c : Class) (n : ℕ) (q : Position) → position_numbered c n ≡ Some q → q ≡ position_told c n
+position_is : (c : Class) (n : ℕ) (q : Position) → position_numbered c n ≡ Some q → q ≡ position_decoded c n
 unfolding position_numbered
 position_is c n q e = by_entry (is_entry c n) e
   where
-    by_entry : (b : Bool) → cond b (Some (position_told c n)) None ≡ Some q → q ≡ position_told c n
-    by_entry true k = let no : Some (position_told c n) ≡ Some q = k in cc
+    by_entry : (b : Bool) → cond b (Some (position_decoded c n)) None ≡ Some q → q ≡ position_decoded c n
+    by_entry true k = let no : Some (position_decoded c n) ≡ Some q = k in cc
     by_entry false k = absurd (let no : None ≡ Some q = k in cc)
 
 unpassed_same : (x : Position) → x.passed ≡ None → without_passed x ≡ x
@@ -184,13 +189,13 @@ module _ (c : Class) where
   -- numbers that differ only in the bit encode the same men and side to move
   same_plain : (k : ℕ) (o p : Position) → position_numbered c k ≡ Some o → position_numbered c (k + 16777216) ≡ Some p → without_passed p ≡ without_passed o
   same_plain k o p e f =
-      let plain : ℕ → Position = λ j. record { men = in_order (told_men (slots_of c) j); to_move = told_side (slots_of c) j; passed = None } in
+      let plain : ℕ → Position = λ j. record { men = in_order (decoded_men (slots_of c) j); to_move = decoded_side (slots_of c) j; passed = None } in
       let bit : without_bit (k + 16777216) ≡ without_bit k = omega arith in
       ap without_passed (position_is c (k + 16777216) p f) ∙ ap plain bit ∙ sym (ap without_passed (position_is c k o e))
 
   pub lands_home : (n : ℕ) (q r : Position) (m : Move) → position_numbered c n ≡ Some q → LeadsQuietly r m q → IsOf c (after r m)
   lands_home n q r m e b =
-      let d = entry c n q (told_decoded c n q e) in
+      let d = entry c n q (decoded_of_numbered c n q e) in
       d.of_class ∙ ap (λ (y : Position). ordered (lists y.men)) (sym b.leads)
 
   pub starts_home : (n : ℕ) (q r : Position) (m : Move) → position_numbered c n ≡ Some q → LeadsQuietly r m q → IsOf c r
@@ -207,11 +212,12 @@ module _ (c : Class) where
       let ix : IsIndex x n = subst (λ (k : ℕ). IsIndex x k) lands (IsIndex-index_of x vx) in
       let it : IsIndex t.0 n = same_index c x t.0 n t.2 ox ix in
       let d = entry c (index_of r) p.0 p.1 in
-      let dead : has_legal_en_passant p.0 ≡ false = sym (live_along p.2.alike.images.by p.0 r p.2.alike.images.is) ∙ ap (λ (o : Option ℕ). is_capturable_en_passant r o) b.unpassed in
+      let dead : has_legal_en_passant p.0 ≡ false = sym (live_along p.2.alike.images.by p.0 r p.2.alike.images.is)
+      ∙ ap (λ (o : Option ℕ). is_capturable_en_passant r o) b.unpassed in
       record {
         from = p.0;
         to = t.0;
-        at = decoded_told c (index_of r) p.0 p.1;
+        at = numbered_of_decoded c (index_of r) p.0 p.1;
         unpassed = not_live_passed p.0 d.is_bare dead;
         leads = t.1;
         home = same_class x t.0 c t.2.alike ox;
@@ -223,7 +229,7 @@ module _ (c : Class) where
       → IsOf c t → position_numbered c (index_of r + 16777216) ≡ Some p → Leads p t
   twin_leads n r o p t e u l home f =
       let m = l.0 in
-      let d = entry c (index_of r) o (told_decoded c (index_of r) o e) in
+      let d = entry c (index_of r) o (decoded_of_numbered c (index_of r) o e) in
       let same : without_passed p ≡ o = same_plain (index_of r) o p e f ∙ unpassed_same o u in
       let men : p.men ≡ o.men = ap (λ (x : Position). x.men) same in
       let k : IsOf c (after o m) = subst (λ (x : Position). IsOf c x) (sym l.2) home in
@@ -263,7 +269,7 @@ module _ (c : Class) where
   pub leads_before : (n i : ℕ) (q : Position) → position_numbered c n ≡ Some q
       → LeadsTo Leads (is_of c) index_of (position_numbered c) i n → ComesBefore c q n i
   leads_before n i q e t =
-      let d = entry c i t.0 (told_decoded c i t.0 t.2) in
+      let d = entry c i t.0 (decoded_of_numbered c i t.0 t.2) in
       let m = t.3.0 in
       let l = t.3.1 in
       let x = after t.0 m in
@@ -271,7 +277,7 @@ module _ (c : Class) where
       let ox : IsOf c x = subst (λ (y : Position). IsOf c y) (sym t.3.2) (IsOf-is_of c t.1 t.4) in
       let ix : index_of x ≡ n = ap index_of t.3.2 ∙ t.5 in
       let p = numbered c x (index_of x) vx ox (IsIndex-index_of x vx) in
-      let there : position_numbered c n ≡ Some p.0 = subst (λ (k : ℕ). position_numbered c k ≡ Some p.0) ix (decoded_told c (index_of x) p.0 p.1) in
+      let there : position_numbered c n ≡ Some p.0 = subst (λ (k : ℕ). position_numbered c k ≡ Some p.0) ix (numbered_of_decoded c (index_of x) p.0 p.1) in
       let same : p.0 ≡ q = (let f : Some p.0 ≡ Some q = sym there ∙ e in cc) in
       let h : AreAlikeIn c x q = subst (λ (y : Position). AreAlikeIn c x y) same (alike_back c p.0 x p.2) in
       let has = HasMover-from_is_legal t.0 m l in
@@ -294,7 +300,12 @@ module _ (c : Class) where
       (subst (λ (k : ℕ). IsIndex x k) ix (IsIndex-index_of x vx))) in
       record {
         by = r.by;
-        is = record { from = r.from; leads = r.leads; lands = sym (index_of-only (after r.from r.by) n vy iy); is = by_live (has_legal_en_passant t.0) plain.is at };
+        is = record {
+          from = r.from;
+          leads = r.leads;
+          lands = sym (index_of-only (after r.from r.by) n vy iy);
+          is = by_live (has_legal_en_passant t.0) plain.is at;
+        };
       }
     where
       by_live : (b : Bool) {k : ℕ} → i ≡ with_bit b (without_bit i) → without_bit i ≡ k → (i ≡ k)
@@ -305,22 +316,22 @@ module _ (c : Class) where
   -- a number that another leads to has a position
   pub leads_numbered : (n i : ℕ) → LeadsTo Leads (is_of c) index_of (position_numbered c) i n → (q : Position) × (position_numbered c n ≡ Some q)
   leads_numbered n i t =
-      let d = entry c i t.0 (told_decoded c i t.0 t.2) in
+      let d = entry c i t.0 (decoded_of_numbered c i t.0 t.2) in
       let vx : IsValid t.1 = subst IsValid t.3.2 (IsValid-after t.0 t.3.0 d.valid t.3.1) in
       let p = numbered c t.1 (index_of t.1) vx (IsOf-is_of c t.1 t.4) (IsIndex-index_of t.1 vx) in
-      (p.0, subst (λ (k : ℕ). position_numbered c k ≡ Some p.0) t.5 (decoded_told c (index_of t.1) p.0 p.1))
+      (p.0, subst (λ (k : ℕ). position_numbered c k ≡ Some p.0) t.5 (numbered_of_decoded c (index_of t.1) p.0 p.1))
 
   -- a quiet move stays in the class
   pub quiet_home : (n : ℕ) (p : Position) (m : Move) → position_numbered c n ≡ Some p → is_legal p m ≡ true
       → m.promoted ≡ None → p.passed ≡ None → man_at p.men m.target ≡ None → is_of c (after p m) ≡ true
   quiet_home n p m e l o u none =
-      let d = entry c n p (told_decoded c n p e) in
+      let d = entry c n p (decoded_of_numbered c n p e) in
       is_of-IsOf c (after p m)
       (d.of_class ∙ ap (λ (k : Lists). ordered k)
       (sym (quiet_lists p m d.valid l (unpassing p m d.valid l u) (unoccupied p.men m.target none, o))))
 
   pub numbered_index : (n : ℕ) (q : Position) → position_numbered c n ≡ Some q → index_of q ≡ n
-  numbered_index n q e = let d = entry c n q (told_decoded c n q e) in sym (index_of-only q n d.valid d.index)
+  numbered_index n q e = let d = entry c n q (decoded_of_numbered c n q e) in sym (index_of-only q n d.valid d.index)
 
   module _ (q : Position) (number : ℕ) (m : Move) (k : ℕ) (h : IsPlainNumber q number m k) (old : List ℕ) where
     plain_first : IsNumberBefore c q number m k

@@ -21,13 +21,13 @@ use Rattle.study_material.specs.Lists.{ordered}
 use Rattle.study_material.specs.Class.{lists_of, IsOf}
 use Rattle.study_material.proofs.Classes.{is_of-IsOf}
 use Rattle.study_values.specs.Number.{with_bit, without_bit, has_both_pawns, cells_of}
-use Rattle.study_index.specs.Decoded.{slots_of, told_men, told_side}
+use Rattle.study_index.specs.Decoded.{slots_of, decoded_men, decoded_side}
 use Rattle.study_index.specs.Computed.{position_numbered}
 use Rattle.study_values.specs.Index.{index_of, least_number}
 use Rattle.study_index.specs.Moved.{IsMoved}
 use Rattle.study_index.proofs.ClassLaws.{entry}
-use Rattle.study_index.proofs.ComputedIndex.{told_decoded}
-use Rattle.study_index.proofs.DecodedNumbers.{told_of}
+use Rattle.study_index.proofs.ComputedIndex.{decoded_of_numbered}
+use Rattle.study_index.proofs.DecodedNumbers.{encoded_by}
 use Rattle.study_index.proofs.LivePassing.{not_live_passed}
 use Rattle.study_table.specs.Table.{Table}
 use Rattle.study_values.specs.Cells.{value_of}
@@ -39,7 +39,7 @@ use Rattle.study_table.proofs.ClassLemmas.{label-home}
 use Rattle.study_retro.proofs.QuietClass.{quiet_men, quiet_lists, unpassing}
 use Rattle.study_retro.proofs.QuietSteps.{other_turn, dead_of, dead_after}
 use Rattle.study_retro.proofs.EarlierChess.{lands_home, numbered_index, valid_without}
-use Rattle.study_retro.proofs.Twins.{dead_twinless}
+use Rattle.study_retro.proofs.Twins.{dead_without_en_passant}
 
 -- a man that moves to an empty square and back
 man_back : (x a : ℕ) (m : Man) → (m.at == a) ≡ false → moved_if a x (moved_if x a m) ≡ m
@@ -78,28 +78,29 @@ plain_index x y d e s =
 dead_left : (c : Class) (x r : Position) (m : Move) → after r m ≡ x → IsValid x → IsOf c x → is_legal r m ≡ true → (k : ℕ)
     → index_of (without_passed x) ≡ k → LeavesNone c m.origin m.target k → has_legal_en_passant x ≡ false
 dead_left c x r m e v o legal k is (inl passes) =
-    subst (λ (y : Position). has_legal_en_passant y ≡ false) e (dead_after c r m (subst IsValid (sym e) v) (subst (λ (y : Position). IsOf c y) (sym e) o) legal passes)
-dead_left c x r m e v o legal k is (inr none) = dead_twinless c x v o k is none
+    subst (λ (y : Position). has_legal_en_passant y ≡ false) e (dead_after c r m (subst IsValid (sym e) v) (subst (λ (y : Position). IsOf c y) (sym e) o)
+    legal passes)
+dead_left c x r m e v o legal k is (inr none) = dead_without_en_passant c x v o k is none
 
 module _ (c : Class) (n : ℕ) (q : Position) (at : position_numbered c n ≡ Some q) where
   -- the position before a quiet move
   pub moved_before : (r : Position) (m : Move) → LeadsQuietly r m q → IsMoved c n m.target m.origin r
   moved_before r m b =
-      let t = told_of c n q (told_decoded c n q at) in
+      let t = encoded_by c n q (decoded_of_numbered c n q at) in
       let f = moved_if m.origin m.target in
       let g = moved_if m.target m.origin in
-      let told = told_men (slots_of c) (without_bit n) in
+      let encodes = decoded_men (slots_of c) (without_bit n) in
       let men : (after r m).men ≡ q.men = ap (λ (p : Position). p.men) b.leads in
       let turn : (after r m).to_move ≡ q.to_move = ap (λ (p : Position). p.to_move) b.leads in
       let moved : IsPermutation (map f r.men) q.men =
       subst (λ (zs : List Man). IsPermutation (map f r.men) zs) men
       (quiet_men r m b.valid b.legal (unpassing r m b.valid b.legal b.unpassed) b.quiet) in
-      let to : IsPermutation (map f r.men) told = IsPermutation-trans (map f r.men) q.men told moved (IsPermutation-sym told q.men t.same_men) in
-      let other : other_side r.to_move ≡ told_side (slots_of c) (without_bit n) = sym (other_turn r m b.legal) ∙ (turn ∙ t.same_side) in
+      let to : IsPermutation (map f r.men) encodes = IsPermutation-trans (map f r.men) q.men encodes moved (IsPermutation-sym encodes q.men t.same_men) in
+      let other : other_side r.to_move ≡ decoded_side (slots_of c) (without_bit n) = sym (other_turn r m b.legal) ∙ (turn ∙ t.same_side) in
       record {
         valid = b.valid;
-        men = subst (λ (zs : List Man). IsPermutation zs (map g told)) (men_back m.origin m.target r.men b.quiet.0)
-            (IsPermutation-map g (map f r.men) told to);
+        men = subst (λ (zs : List Man). IsPermutation zs (map g encodes)) (men_back m.origin m.target r.men b.quiet.0)
+            (IsPermutation-map g (map f r.men) encodes to);
         to_move = sym (other_again r.to_move) ∙ ap (λ s. other_side s) other;
         dead = ap (λ (o : Option ℕ). is_capturable_en_passant r o) b.unpassed;
       }
@@ -120,33 +121,33 @@ module _ (c : Class) (n : ℕ) (q : Position) (at : position_numbered c n ≡ So
   -- and if only one side has pawns
   pub lands_single : has_both_pawns (lists_of c) ≡ false → (r : Position) (m : Move) → LeadsQuietly r m q → index_of (after r m) ≡ n
   lands_single single r m b =
-      let d = told_decoded c n q at in
+      let d = decoded_of_numbered c n q at in
       lands_there (dead_of c q d.valid (entry c n q d).of_class single) r m b
       (dead_of c (after r m) (IsValid-after r m b.valid b.legal) (lands_home c n q r m at b) single)
 
   module _ (dead : has_legal_en_passant q ≡ false) (m : Move) (legal : is_legal q m ≡ true) (quiet : IsQuiet q m) where
     no_passing : is_en_passant q.passed (HasMover-from_is_legal q m legal).man m.target ≡ false
     no_passing =
-        let d = told_decoded c n q at in
+        let d = decoded_of_numbered c n q at in
         unpassing q m d.valid legal (not_live_passed q (entry c n q d).is_bare dead)
 
     pub quiet_stays : IsOf c (after q m)
     quiet_stays =
-        let d = told_decoded c n q at in
+        let d = decoded_of_numbered c n q at in
         (entry c n q d).of_class ∙ ap (λ l. ordered l) (sym (quiet_lists q m d.valid legal no_passing quiet))
 
     -- the position after a quiet move, without its passed square
     moved_bare : IsMoved c n m.origin m.target (without_passed (after q m))
     moved_bare =
-        let d = told_decoded c n q at in
-        let t = told_of c n q d in
-        let told = told_men (slots_of c) (without_bit n) in
+        let d = decoded_of_numbered c n q at in
+        let t = encoded_by c n q d in
+        let encodes = decoded_men (slots_of c) (without_bit n) in
         let f = moved_if m.origin m.target in
         let moved = quiet_men q m d.valid legal no_passing quiet in
         record {
           valid = valid_without (after q m) (IsValid-after q m d.valid legal);
-          men = IsPermutation-trans (after q m).men (map f q.men) (map f told) (IsPermutation-sym (map f q.men) (after q m).men moved)
-              (IsPermutation-map f q.men told (IsPermutation-sym told q.men t.same_men));
+          men = IsPermutation-trans (after q m).men (map f q.men) (map f encodes) (IsPermutation-sym (map f q.men) (after q m).men moved)
+              (IsPermutation-map f q.men encodes (IsPermutation-sym encodes q.men t.same_men));
           to_move = other_turn q m legal ∙ ap (λ s. other_side s) t.same_side;
           dead = refl;
         }
@@ -155,7 +156,7 @@ module _ (c : Class) (n : ℕ) (q : Position) (at : position_numbered c n ≡ So
     pub index_after : (k : ℕ) → ((p : Position) → IsMoved c n m.origin m.target p → index_of p ≡ k) → LeavesNone c m.origin m.target k
         → index_of (after q m) ≡ k
     index_after k fits leaves =
-        let w = IsValid-after q m (told_decoded c n q at).valid legal in
+        let w = IsValid-after q m (decoded_of_numbered c n q at).valid legal in
         let bare : index_of (without_passed (after q m)) ≡ k = fits (without_passed (after q m)) moved_bare in
         plain_index (after q m) (without_passed (after q m)) (dead_left c (after q m) q m refl w quiet_stays legal k bare leaves) refl refl ∙ bare
 

@@ -11,7 +11,7 @@ use Rattle.study_values.specs.Number.{IsIndex, cells_of}
 use Rattle.study_index.specs.Computed.{position_numbered}
 use Rattle.study_values.specs.Index.{index_of}
 use Rattle.study_index.specs.Decoded.{IsDecoded}
-use Rattle.study_index.proofs.ComputedIndex.{index_of-only, told_decoded, decoded_told}
+use Rattle.study_index.proofs.ComputedIndex.{index_of-only, decoded_of_numbered, numbered_of_decoded}
 use Rattle.study_values.specs.declared.value.Value.{Value}
 use Rattle.study_values.specs.Cells.{value_of}
 use Rattle.study_table.specs.Table.{Table, table_of, IsReady, IsClosed}
@@ -23,8 +23,8 @@ use Rattle.study_table.proofs.ChessClass.{chess_class, value_in-held}
 
 pub decode_at : (c : Class) (n : ℕ) (o : Option Position) → IfSome o (λ q. IsDecoded c n q)
     → IfNone o ((q : Position) → IsDecoded c n q → ⊥) → o ≡ position_numbered c n
-decode_at c n (Some q) h k = sym (decoded_told c n q h)
-decode_at c n None h k = elim (some_or_none (position_numbered c n)) [ inl s ↦ absurd (k s.0 (told_decoded c n s.0 s.1)) | inr e ↦ sym e ]
+decode_at c n (Some q) h k = sym (numbered_of_decoded c n q h)
+decode_at c n None h k = elim (some_or_none (position_numbered c n)) [ inl s ↦ absurd (k s.0 (decoded_of_numbered c n s.0 s.1)) | inr e ↦ sym e ]
 
 one_class : (c d : Class) (p : Position) → IsOf c p → IsOf d p → c ≡ d
 one_class c d p h k = lists_of-injective c d (h ∙ sym k)

@@ -21,7 +21,8 @@ use Rattle.study_board.specs.Geometry.{file_of, rank_of}
 use Rattle.study_board.specs.Men.{same_side, other_side, is_man, is_pawn, moved_if}
 use Rattle.study_board.specs.Position.{Position, IsValid, AllAbove, IsAscending, is_occupied, has_man, man_at}
 use Rattle.study_moves.specs.declared.moves.Move.{Move}
-use Rattle.study_moves.specs.Rules.{is_en_passant, is_square, has_side, survives, moved, is_legal, after, is_promotion_choice, is_promotion_piece, reaches_last_rank, last_rank}
+use Rattle.study_moves.specs.Rules.{is_en_passant, is_square, has_side, survives, moved, is_legal, after, is_promotion_choice, is_promotion_piece}
+use Rattle.study_moves.specs.Rules.{reaches_last_rank, last_rank}
 use Rattle.study_moves.specs.Unmoves.{IsQuiet}
 use Rattle.study_moves.proofs.MenOfList.{IsAmong, none_among, some_among, found_among}
 use Rattle.study_moves.proofs.NoMoveBetween.{HasMover-from_is_legal}

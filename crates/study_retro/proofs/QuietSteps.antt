@@ -13,7 +13,7 @@ use Rattle.study_material.specs.Class.{lists_of, IsOf}
 use Rattle.study_moves.specs.EnPassant.{has_legal_en_passant, is_capturable_en_passant}
 use Rattle.study_values.specs.Number.{with_bit, without_bit}
 use Rattle.study_index.specs.Computed.{position_numbered}
-use Rattle.study_index.proofs.ComputedIndex.{told_decoded}
+use Rattle.study_index.proofs.ComputedIndex.{decoded_of_numbered}
 use Rattle.study_index.proofs.WithBit.{HasParts-from}
 use Rattle.study_retro.specs.Predecessors.{PassesNone}
 use Rattle.study_retro.proofs.Jumps.{unjumped}
@@ -33,7 +33,7 @@ dead_of c p v o h = by_test (has_legal_en_passant p) refl
 
 -- nor is one in the position of a number without the bit
 pub dead_plain : (c : Class) (n : ℕ) (q : Position) → position_numbered c n ≡ Some q → n < 16777216 → has_legal_en_passant q ≡ false
-dead_plain c n q at l = let d = told_decoded c n q at in by_live (has_legal_en_passant q) (HasParts-from q n d.valid d.index).is
+dead_plain c n q at l = let d = decoded_of_numbered c n q at in by_live (has_legal_en_passant q) (HasParts-from q n d.valid d.index).is
   where
     by_live : (b : Bool) → n ≡ with_bit b (without_bit n) → b ≡ false
     by_live false e = refl

@@ -5,14 +5,14 @@ use Rattle.study_values.specs.Cells.{value_of}
 use Rattle.study_retro.specs.Report.{IsGreatest, greater}
 
 module _ (distance : Value → Option ℕ) (xs : List ℕ) where
-  abbrev told : ℕ → Option ℕ
-  told i = distance (value_of (slice_index xs i))
+  abbrev encodes : ℕ → Option ℕ
+  encodes i = distance (value_of (slice_index xs i))
 
   -- a distance among the first cells
   pub record TellsBelow (i n : ℕ) : Type 0 where
     pub cell : ℕ
     pub inside : cell < i
-    pub is : told cell ≡ Some n
+    pub is : encodes cell ≡ Some n
 
   abbrev pub IsGreatestBelow : ℕ → Option ℕ → Type 0
   IsGreatestBelow i None = (n : ℕ) → TellsBelow i n → ⊥
@@ -28,31 +28,31 @@ module _ (distance : Value → Option ℕ) (xs : List ℕ) where
   more i n t = let l = t.inside in record { cell = t.cell; inside = omega arith; is = t.is }
 
   -- a distance below one more is below, or there
-  split : (i n : ℕ) → TellsBelow (i + 1) n → TellsBelow i n ⊎ (told i ≡ Some n)
+  split : (i n : ℕ) → TellsBelow (i + 1) n → TellsBelow i n ⊎ (encodes i ≡ Some n)
   split i n t = elim (last_or t.cell i t.inside) [
     | inl l ↦ inl (record { cell = t.cell; inside = l; is = t.is })
-    | inr e ↦ inr (subst (λ (k : ℕ). told k ≡ Some n) e t.is)
+    | inr e ↦ inr (subst (λ (k : ℕ). encodes k ≡ Some n) e t.is)
   ]
 
   same_some : (m n : ℕ) (o : Option ℕ) → o ≡ Some m → o ≡ Some n → n ≡ m
   same_some m n o e f = let s : Some m ≡ Some n = sym e ∙ f in let t : m ≡ n = cc in sym t
 
-  by_told : (i : ℕ) (o d : Option ℕ) → told i ≡ d → IsGreatestBelow i o → IsGreatestBelow (i + 1) (greater o d)
-  by_told i None None e h = λ n t. elim (split i n t) [ inl u ↦ h n u | inr f ↦ absurd (let s : None ≡ Some n = sym e ∙ f in let no : ⊥ = cc in no) ]
-  by_told i None (Some k) e h = (
+  by_one_more : (i : ℕ) (o d : Option ℕ) → encodes i ≡ d → IsGreatestBelow i o → IsGreatestBelow (i + 1) (greater o d)
+  by_one_more i None None e h = λ n t. elim (split i n t) [ inl u ↦ h n u | inr f ↦ absurd (let s : None ≡ Some n = sym e ∙ f in let no : ⊥ = cc in no) ]
+  by_one_more i None (Some k) e h = (
     record { cell = i; inside = omega arith; is = e },
-    λ m t. elim (split i m t) [ inl u ↦ absurd (h m u) | inr f ↦ let s = same_some k m (told i) e f in omega arith ],
+    λ m t. elim (split i m t) [ inl u ↦ absurd (h m u) | inr f ↦ let s = same_some k m (encodes i) e f in omega arith ],
   )
-  by_told i (Some n) None e h = (
+  by_one_more i (Some n) None e h = (
     more i n h.0,
     λ m t. elim (split i m t) [ inl u ↦ h.1 m u | inr f ↦ absurd (let s : None ≡ Some m = sym e ∙ f in let no : ⊥ = cc in no) ],
   )
-  by_told i (Some n) (Some k) e h = (
+  by_one_more i (Some n) (Some k) e h = (
     elim (less_or n k) [
       | inl l ↦ let top : k ≡ max n k = omega arith in subst (λ (x : ℕ). TellsBelow (i + 1) x) top (record { cell = i; inside = omega arith; is = e })
       | inr l ↦ let top : n ≡ max n k = omega arith in subst (λ (x : ℕ). TellsBelow (i + 1) x) top (more i n h.0)
     ],
-    λ m t. elim (split i m t) [ inl u ↦ let b = h.1 m u in omega arith | inr f ↦ let s = same_some k m (told i) e f in omega arith ],
+    λ m t. elim (split i m t) [ inl u ↦ let b = h.1 m u in omega arith | inr f ↦ let s = same_some k m (encodes i) e f in omega arith ],
   )
     where
       less_or : (a b : ℕ) → (a ≤ b) ⊎ (b ≤ a)
@@ -60,7 +60,7 @@ module _ (distance : Value → Option ℕ) (xs : List ℕ) where
 
   pub IsGreatestBelow-more : (i : ℕ) (o p : Option ℕ) (v : Value) → v ≡ value_of (slice_index xs i)
       → p ≡ greater o (distance v) → IsGreatestBelow i o → IsGreatestBelow (i + 1) p
-  IsGreatestBelow-more i o p v e f h = subst (λ (q : Option ℕ). IsGreatestBelow (i + 1) q) (sym f) (by_told i o (distance v) (ap distance (sym e)) h)
+  IsGreatestBelow-more i o p v e f h = subst (λ (q : Option ℕ). IsGreatestBelow (i + 1) q) (sym f) (by_one_more i o (distance v) (ap distance (sym e)) h)
 
   pub IsGreatest-below : (i : ℕ) (o : Option ℕ) → length xs ≡ i → IsGreatestBelow i o → IsGreatest distance xs o
   IsGreatest-below i None e h = λ n t. h n (record { cell = t.cell; inside = (let l = t.inside in omega arith); is = t.is })

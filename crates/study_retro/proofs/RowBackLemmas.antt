@@ -1,5 +1,6 @@
 -- The positions before those of a row, if the numbers after a man has moved are a row.
-use Rattle.std.proofs.Common.{◌≡◌, ◌==◌, ℕ, ◌<◌, ◌+◌, ◌*◌, ◌&&◌, ◌||◌, ◌++◌, ◌∷◌, [], arith, Bool, true, false, not, List, Contains, Some, inl, inr, refl, sym, ◌∙◌, subst}
+use Rattle.std.proofs.Common.{◌≡◌, ◌==◌, ℕ, ◌<◌, ◌+◌, ◌*◌, ◌&&◌, ◌||◌, ◌++◌, ◌∷◌, [], arith, Bool, true, false, not, List, Contains, Some, inl, inr}
+use Rattle.std.proofs.Common.{refl, sym, ◌∙◌, subst}
 use Rattle.std.specs.List.Sorted.{IsPermutation}
 use Rattle.std.proofs.lemmas.List.Elements.{Contains-append_left, Contains-push}
 use Rattle.study_board.specs.declared.men.Man.{Man}
@@ -19,9 +20,9 @@ use Rattle.study_values.specs.Number.{cells_of}
 use Rattle.study_index.specs.Computed.{position_numbered}
 use Rattle.study_values.specs.Index.{index_of}
 use Rattle.study_index.specs.Moved.{IsMoved}
-use Rattle.study_index.proofs.ComputedIndex.{told_decoded}
-use Rattle.study_index.proofs.DecodedNumbers.{told_of}
-use Rattle.study_retro.specs.Predecessors.{AreTold, IsBeforeFrom, PassesNone}
+use Rattle.study_index.proofs.ComputedIndex.{decoded_of_numbered}
+use Rattle.study_index.proofs.DecodedNumbers.{encoded_by}
+use Rattle.study_retro.specs.Predecessors.{AreEncoded, IsBeforeFrom, PassesNone}
 use Rattle.study_retro.specs.RowBack.{ComesWithoutEnPassant, IsItOrTwin, double_step_rank}
 use Rattle.study_retro.specs.RowMoves.{AreOnDistinctSquares}
 use Rattle.study_retro.specs.Still.{on_square}
@@ -48,38 +49,39 @@ module _ (c : Class) (number : ℕ) (q : Position) (at : position_numbered c num
 -- ---- the men of a row
 
 module _ (c : Class) (number y : ℕ) (q : Position) (at : position_numbered c number ≡ Some q) (others : List Man) (last : Man) (side : Side)
-    (told : AreTold c number (others ++ on_square last y ∷ []) side) where
+    (encodes : AreEncoded c number (others ++ on_square last y ∷ []) side) where
   abbrev pub row_men : List Man
   row_men = others ++ on_square last y ∷ []
 
   -- no two of them share a square
   pub row_apart : AreOnDistinctSquares row_men
   row_apart =
-      let d = told_decoded c number q at in
-      AreApart-position q row_men d.valid (subst (λ (zs : List Man). IsPermutation zs q.men) (sym told.0) (told_of c number q d).same_men)
+      let d = decoded_of_numbered c number q at in
+      AreApart-position q row_men d.valid (subst (λ (zs : List Man). IsPermutation zs q.men) (sym encodes.0) (encoded_by c number q d).same_men)
 
   -- the last man can have led to the position from its possible origins
   pub last_led : same_side last.side (other_side side) ≡ true → (a : ℕ) → a < 64 → is_unmove_origin row_men side (on_square last y) a ≡ true
       → CanHaveLed q (move_from (on_square last y) a)
-  last_led his a on e = came_led c number q at row_men side told (on_square last y) (Contains-push others (on_square last y)) his a on e
+  last_led his a on e = came_led c number q at row_men side encodes (on_square last y) (Contains-push others (on_square last y)) his a on e
 
   -- and only from those
   pub last_came : (a n : ℕ) → a < 64 → IsBeforeFrom c number (on_square last y) a n → (same_side last.side (other_side side) ≡ true)
       × (is_unmove_origin row_men side (on_square last y) a ≡ true)
-  last_came a n on b = led_came c number q at row_men side told (on_square last y) (Contains-push others (on_square last y)) a n on b
+  last_came a n on b = led_came c number q at row_men side encodes (on_square last y) (Contains-push others (on_square last y)) a n on b
 
   module _ (man : Man) (among : Contains others man) where
     -- one of the other men can have led to the position from its possible origins with the last man on y
-    pub row_led : same_side man.side (other_side side) ≡ true → (a : ℕ) → a < 64 → (led : ℕ) → (AreOnDistinctSquares row_men → has led y ≡ is_unmove_origin row_men side man a)
+    pub row_led : same_side man.side (other_side side) ≡ true → (a : ℕ) → a < 64 → (led : ℕ)
+        → (AreOnDistinctSquares row_men → has led y ≡ is_unmove_origin row_men side man a)
         → has led y ≡ true → CanHaveLed q (move_from man a)
     row_led his a on led word e =
-        came_led c number q at row_men side told man (Contains-append_left others (on_square last y ∷ []) man among) his a on (sym (word row_apart) ∙ e)
+        came_led c number q at row_men side encodes man (Contains-append_left others (on_square last y ∷ []) man among) his a on (sym (word row_apart) ∙ e)
 
     -- and only from those
     pub row_came : (a n : ℕ) → a < 64 → IsBeforeFrom c number man a n → (same_side man.side (other_side side) ≡ true)
         × (is_unmove_origin row_men side man a ≡ true) × (comes others man a ≡ true)
     row_came a n on b =
-        let h = led_came c number q at row_men side told man (Contains-append_left others (on_square last y ∷ []) man among) a n on b in
+        let h = led_came c number q at row_men side encodes man (Contains-append_left others (on_square last y ∷ []) man among) a n on b in
         (h.0, h.1, came_less others last y side man a h.1)
 
 -- ---- the targets of double steps
@@ -116,7 +118,8 @@ no_double White men y a off e =
     let double = (rank_of a == 1) && is_ahead White 2 a y && is_empty men (half_way a y) in
     elim (or_cases step double (and_parts (step || double) (is_empty men a) e).0) [
       | inl one ↦
-          let s = eqb-true (rank_of y) (rank_of a + 1) (and_parts (file_of y == file_of a) (rank_of y == rank_of a + 1) (and_parts (is_ahead White 1 a y) first one).0).1 in
+          let s = eqb-true (rank_of y) (rank_of a + 1)
+          (and_parts (file_of y == file_of a) (rank_of y == rank_of a + 1) (and_parts (is_ahead White 1 a y) first one).0).1 in
           let d : ranks_apart a y ≡ 1 = omega (arith, s) in
           rw d refl
       | inr two ↦
@@ -132,7 +135,8 @@ no_double Black men y a off e =
     let double = (rank_of a == 6) && is_ahead Black 2 a y && is_empty men (half_way a y) in
     elim (or_cases step double (and_parts (step || double) (is_empty men a) e).0) [
       | inl one ↦
-          let s = eqb-true (rank_of y + 1) (rank_of a) (and_parts (file_of y == file_of a) (rank_of y + 1 == rank_of a) (and_parts (is_ahead Black 1 a y) first one).0).1 in
+          let s = eqb-true (rank_of y + 1) (rank_of a)
+          (and_parts (file_of y == file_of a) (rank_of y + 1 == rank_of a) (and_parts (is_ahead Black 1 a y) first one).0).1 in
           let d : ranks_apart a y ≡ 1 = omega (arith, s) in
           rw d refl
       | inr two ↦

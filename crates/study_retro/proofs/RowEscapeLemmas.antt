@@ -16,7 +16,7 @@ use Rattle.study_moves.specs.Unmoves.{IsQuiet}
 use Rattle.study_moves.specs.AnyOrder.{is_safe_target}
 use Rattle.study_material.specs.declared.class.Class.{Class}
 use Rattle.study_values.specs.Number.{cells_of, without_bit}
-use Rattle.study_index.specs.Decoded.{slots_of, told_men, told_side}
+use Rattle.study_index.specs.Decoded.{slots_of, decoded_men, decoded_side}
 use Rattle.study_index.specs.Computed.{position_numbered}
 use Rattle.study_values.specs.Index.{index_of}
 use Rattle.study_index.specs.Moved.{IsMoved}
@@ -26,7 +26,7 @@ use Rattle.study_values.specs.Cells.{value_of}
 use Rattle.study_values.specs.declared.value.Value.TheVariants.{Win}
 use Rattle.study_retro.specs.ClassGame.{class_game}
 use Rattle.study_levels.specs.Numbered.{IsNumberedClass, NoLossBy, Numbered}
-use Rattle.study_retro.specs.Predecessors.{AreTold, PassesNone}
+use Rattle.study_retro.specs.Predecessors.{AreEncoded, PassesNone}
 use Rattle.study_retro.specs.RowEscapes.{CanGo, goes_beside}
 use Rattle.study_retro.specs.RowMoves.{AreOnDistinctSquares, goes_quietly}
 use Rattle.study_retro.specs.Still.{HasMove, IsWonAfter, QuietMovesLose, QuietMovesLoseBy, move_to, on_square}
@@ -39,10 +39,10 @@ use Rattle.study_retro.proofs.RowMoveLemmas.{going_less}
 module _ (c : Class) (number : ℕ) (q : Position) (at : position_numbered c number ≡ Some q) (plain : number < 16777216) (man : Man) (x : ℕ) (on : x < 64)
     (go : CanGo c number man x) where
   abbrev the_men : List Man
-  the_men = told_men (slots_of c) (without_bit number)
+  the_men = decoded_men (slots_of c) (without_bit number)
 
   abbrev the_side : Side
-  the_side = told_side (slots_of c) (without_bit number)
+  the_side = decoded_side (slots_of c) (without_bit number)
 
   pub go_some : HasMove q
   go_some = some_legal c number q at plain the_men the_side (refl, refl) man go.among go.own x on go.safe
@@ -88,19 +88,19 @@ module _ (losing going lost less new : ℕ) (less-is : (x : ℕ) → x < 64 → 
 -- ---- the men of a row
 
 module _ (c : Class) (number y : ℕ) (q : Position) (at : position_numbered c number ≡ Some q) (plain : number < 16777216) (others : List Man) (last : Man)
-    (side : Side) (told : AreTold c number (others ++ on_square last y ∷ []) side) where
+    (side : Side) (encodes : AreEncoded c number (others ++ on_square last y ∷ []) side) where
   -- if the quiet moves of the other men lose, and those of the last, all do
   pub row_lose : (g : Numbered Position) (cells : List ℕ) (k : ℕ) → ((m : Man) → Contains others m → QuietMovesLoseBy g cells k q m)
       → QuietMovesLoseBy g cells k q (on_square last y) → QuietMovesLose g cells k q
   row_lose g cells k each final =
-      lose_each c number q at plain (others ++ on_square last y ∷ []) side told g cells k
+      lose_each c number q at plain (others ++ on_square last y ∷ []) side encodes g cells k
       (λ m i. elim (Contains-push_cases others (on_square last y) m i) [
         | inl h ↦ each m h
         | inr e ↦ subst (λ (x : Man). QuietMovesLoseBy g cells k q x) e final
       ])
 
 module _ (c : Class) (number y : ℕ) (q : Position) (at : position_numbered c number ≡ Some q) (plain : number < 16777216) (others : List Man) (last : Man)
-    (side : Side) (told : AreTold c number (others ++ on_square last y ∷ []) side) (man : Man) (among : Contains others man) where
+    (side : Side) (encodes : AreEncoded c number (others ++ on_square last y ∷ []) side) (man : Man) (among : Contains others man) where
   abbrev men : List Man
   men = others ++ on_square last y ∷ []
 
@@ -108,13 +108,13 @@ module _ (c : Class) (number y : ℕ) (q : Position) (at : position_numbered c n
   pub row_can : same_side man.side side ≡ true → (x set : ℕ)
       → (AreOnDistinctSquares men → has set y ≡ (is_safe_target men side man x && not (is_occupied men x))) → has set y ≡ true → CanGo c number man x
   row_can his x set word e =
-      let both = and_parts (is_safe_target men side man x) (not (is_occupied men x)) (sym (word (row_apart c number y q at others last side told)) ∙ e) in
+      let both = and_parts (is_safe_target men side man x) (not (is_occupied men x)) (sym (word (row_apart c number y q at others last side encodes)) ∙ e) in
       record {
-        among = subst (λ (ms : List Man). Contains ms man) told.0 (Contains-append_left others (on_square last y ∷ []) man among);
-        own = ap (λ (s : Side). same_side man.side s) (sym told.1) ∙ his;
-        safe = ap (λ (s : Side). is_safe_target (told_men (slots_of c) (without_bit number)) s man x) (sym told.1)
-            ∙ (ap (λ (ms : List Man). is_safe_target ms side man x) (sym told.0) ∙ both.0);
-        free = ap (λ (ms : List Man). is_occupied ms x) (sym told.0) ∙ negated (is_occupied men x) both.1;
+        among = subst (λ (ms : List Man). Contains ms man) encodes.0 (Contains-append_left others (on_square last y ∷ []) man among);
+        own = ap (λ (s : Side). same_side man.side s) (sym encodes.1) ∙ his;
+        safe = ap (λ (s : Side). is_safe_target (decoded_men (slots_of c) (without_bit number)) s man x) (sym encodes.1)
+            ∙ (ap (λ (ms : List Man). is_safe_target ms side man x) (sym encodes.0) ∙ both.0);
+        free = ap (λ (ms : List Man). is_occupied ms x) (sym encodes.0) ∙ negated (is_occupied men x) both.1;
       }
     where
       negated : (b : Bool) → not b ≡ true → b ≡ false
@@ -126,21 +126,21 @@ module _ (c : Class) (number y : ℕ) (q : Position) (at : position_numbered c n
     pub row_goes : (x < 64) × (same_side man.side side ≡ true) × (goes_quietly others man x ≡ true)
         × ((set : ℕ) → (AreOnDistinctSquares men → has set y ≡ (is_safe_target men side man x && not (is_occupied men x))) → has set y ≡ true)
     row_goes =
-        let s = safe_by c number q at plain men side told (move_to man x) legal man (Contains-append_left others (on_square last y ∷ []) man among) refl in
-        let free = occupied_same c number q at plain men side told x ∙ quiet.0 in (
+        let s = safe_by c number q at plain men side encodes (move_to man x) legal man (Contains-append_left others (on_square last y ∷ []) man among) refl in
+        let free = occupied_same c number q at plain men side encodes x ∙ quiet.0 in (
           s.0,
           s.1,
           going_less others last y side man x s.2 free,
-          λ set word. word (row_apart c number y q at others last side told) ∙ rw (s.2, free) refl,
+          λ set word. word (row_apart c number y q at others last side encodes) ∙ rw (s.2, free) refl,
         )
 
     -- and it does not promote
     pub row_stays : reaches_last_rank man x ≡ false
     row_stays =
-        safe_plain c number q at plain men side told (move_to man x) legal man (Contains-append_left others (on_square last y ∷ []) man among) refl refl
+        safe_plain c number q at plain men side encodes (move_to man x) legal man (Contains-append_left others (on_square last y ∷ []) man among) refl refl
 
 module _ (c : Class) (number y : ℕ) (q : Position) (at : position_numbered c number ≡ Some q) (plain : number < 16777216) (others : List Man) (last : Man)
-    (side : Side) (told : AreTold c number (others ++ on_square last y ∷ []) side) where
+    (side : Side) (encodes : AreEncoded c number (others ++ on_square last y ∷ []) side) where
   abbrev all_men : List Man
   all_men = others ++ on_square last y ∷ []
 
@@ -149,24 +149,24 @@ module _ (c : Class) (number y : ℕ) (q : Position) (at : position_numbered c n
   last_can his x e =
       let both = and_parts (is_safe_target all_men side (on_square last y) x) (not (is_occupied all_men x)) e in
       record {
-        among = subst (λ (ms : List Man). Contains ms (on_square last y)) told.0 (Contains-push others (on_square last y));
-        own = ap (λ (s : Side). same_side last.side s) (sym told.1) ∙ his;
-        safe = ap (λ (s : Side). is_safe_target (told_men (slots_of c) (without_bit number)) s (on_square last y) x) (sym told.1)
-            ∙ (ap (λ (ms : List Man). is_safe_target ms side (on_square last y) x) (sym told.0) ∙ both.0);
-        free = ap (λ (ms : List Man). is_occupied ms x) (sym told.0) ∙ not-true (is_occupied all_men x) both.1;
+        among = subst (λ (ms : List Man). Contains ms (on_square last y)) encodes.0 (Contains-push others (on_square last y));
+        own = ap (λ (s : Side). same_side last.side s) (sym encodes.1) ∙ his;
+        safe = ap (λ (s : Side). is_safe_target (decoded_men (slots_of c) (without_bit number)) s (on_square last y) x) (sym encodes.1)
+            ∙ (ap (λ (ms : List Man). is_safe_target ms side (on_square last y) x) (sym encodes.0) ∙ both.0);
+        free = ap (λ (ms : List Man). is_occupied ms x) (sym encodes.0) ∙ not-true (is_occupied all_men x) both.1;
       }
 
   -- and its quiet moves go there, and do not promote
   pub last_goes : (x : ℕ) → is_legal q (move_to (on_square last y) x) ≡ true → IsQuiet q (move_to (on_square last y) x)
       → (x < 64) × (same_side last.side side ≡ true) × (goes_beside others last side y x ≡ true) × (reaches_last_rank last x ≡ false)
   last_goes x legal quiet =
-      let s = safe_by c number q at plain all_men side told (move_to (on_square last y) x) legal (on_square last y)
+      let s = safe_by c number q at plain all_men side encodes (move_to (on_square last y) x) legal (on_square last y)
       (Contains-push others (on_square last y)) refl in
-      let free = occupied_same c number q at plain all_men side told x ∙ quiet.0 in (
+      let free = occupied_same c number q at plain all_men side encodes x ∙ quiet.0 in (
         s.0,
         s.1,
         rw (s.2, free) refl,
-        safe_plain c number q at plain all_men side told (move_to (on_square last y) x) legal (on_square last y)
+        safe_plain c number q at plain all_men side encodes (move_to (on_square last y) x) legal (on_square last y)
             (Contains-push others (on_square last y)) refl refl,
       )
 

@@ -22,14 +22,15 @@ use Rattle.study_moves.proofs.MenOfList.{All-among, IsAmong, list_any-none, none
 use Rattle.study_material.specs.declared.class.Class.{Class}
 use Rattle.study_index.specs.declared.decoding.Slot.{Slot}
 use Rattle.study_index.specs.Computed.{position_numbered}
-use Rattle.study_index.specs.Decoded.{AreSlots, man, men_of, slots_of, told_men, told_side, head, slots_have_pawn, side_numbered}
+use Rattle.study_index.specs.Decoded.{AreSlots, man, men_of, slots_of, decoded_men, decoded_side, head, slots_have_pawn, side_numbered}
 use Rattle.study_values.specs.Number.{king_places, without_bit}
 use Rattle.study_index.proofs.ClassSlots.{AreSlots-class}
-use Rattle.study_index.proofs.ComputedIndex.{told_decoded}
-use Rattle.study_index.proofs.DecodedNumbers.{told_of}
+use Rattle.study_index.proofs.ComputedIndex.{decoded_of_numbered}
+use Rattle.study_index.proofs.DecodedNumbers.{encoded_by}
 use Rattle.study_index.proofs.Symmetries.{all_below, at_below}
-use Rattle.study_retro.specs.Predecessors.{AreTold}
-use Rattle.study_retro.specs.Still.{AreQuietPositions, AreStillOrNone, IsQuietPosition, facing, is_capturable_or_promotes, has_forcing_move, is_relevant_target, on_square, rank_before_last}
+use Rattle.study_retro.specs.Predecessors.{AreEncoded}
+use Rattle.study_retro.specs.Still.{AreQuietPositions, AreStillOrNone, IsQuietPosition, facing, is_capturable_or_promotes, has_forcing_move}
+use Rattle.study_retro.specs.Still.{is_relevant_target, on_square, rank_before_last}
 use Rattle.study_retro.proofs.BackLemmas.{side_is}
 use Rattle.study_retro.proofs.StillChess.{no_capture_of_king, stays_quiet}
 
@@ -104,7 +105,8 @@ blocked_same others l a x e = list_any-append (λ m. strictly_between a m.at x) 
     or_none true = refl
     or_none false = refl
 
-reaches_same : (men more : List Man) (side : Side) (kind : Kind) (a x : ℕ) → is_blocked more a x ≡ is_blocked men a x → reaches more side kind a x ≡ reaches men side kind a x
+reaches_same : (men more : List Man) (side : Side) (kind : Kind) (a x : ℕ) → is_blocked more a x ≡ is_blocked men a x
+    → reaches more side kind a x ≡ reaches men side kind a x
 unfolding reaches
 reaches_same men more side King a x e = refl
 reaches_same men more side Queen a x e = rw e refl
@@ -113,8 +115,10 @@ reaches_same men more side Bishop a x e = rw e refl
 reaches_same men more side Knight a x e = refl
 reaches_same men more side Pawn a x e = refl
 
-bears_still : (others : List Man) (l m : Man) (x : ℕ) → strictly_between m.at l.at x ≡ false → attacks_square others m x ≡ true → attacks_square (others ++ l ∷ []) m x ≡ true
-bears_still others l m x e b = ap (λ (r : Bool). not (m.at == x) && r) (reaches_same others (others ++ l ∷ []) m.side m.kind m.at x (blocked_same others l m.at x e)) ∙ b
+bears_still : (others : List Man) (l m : Man) (x : ℕ) → strictly_between m.at l.at x ≡ false → attacks_square others m x ≡ true
+    → attacks_square (others ++ l ∷ []) m x ≡ true
+bears_still others l m x e b = ap (λ (r : Bool). not (m.at == x) && r)
+    (reaches_same others (others ++ l ∷ []) m.side m.kind m.at x (blocked_same others l m.at x e)) ∙ b
 
 IsAmong-more : (xs : List Man) (l m : Man) → IsAmong m xs → IsAmong m (xs ++ l ∷ [])
 IsAmong-more [] l m i = absurd i
@@ -214,7 +218,8 @@ module _ (others : List Man) (last : Man) (side : Side) (ours theirs y : ℕ)
       own ls s e f = elim (cases_Bool (same_side last.side side)) [
         | inl t ↦ rw (not_other last.side side t) refl
         | inr t ↦ and_less (same_side last.side (other_side side)) false _ (λ g. clear side ours attacked y on
-            (let x : is_capturable_or_promotes last side ours y ≡ has ours y = rw t refl in sym x ∙ exposed) (rw t refl)) (never (same_side last.side (other_side side)))
+            (let x : is_capturable_or_promotes last side ours y ≡ has ours y = rw t refl in sym x ∙ exposed) (rw t refl))
+            (never (same_side last.side (other_side side)))
       ]
         where
           not_other : (a b : Side) → same_side a b ≡ true → same_side a (other_side b) ≡ false
@@ -234,7 +239,8 @@ module _ (others : List Man) (last : Man) (side : Side) (ours theirs y : ℕ)
     where
       own : (is_man side Pawn l && (rank_of y == rank_before_last side)) ≡ false
       own = elim (cases_Bool (same_side last.side side)) [
-        | inl t ↦ (let x : is_capturable_or_promotes last side ours y ≡ (is_pawn last && (rank_of y == rank_before_last side)) = rw t refl in rw t (sym x ∙ exposed))
+        | inl t ↦ (let x : is_capturable_or_promotes last side ours y ≡ (is_pawn last && (rank_of y == rank_before_last side)) = rw t refl in
+            rw t (sym x ∙ exposed))
         | inr t ↦ rw t refl
       ]
 
@@ -269,7 +275,8 @@ move_last-append [] last y = refl
 move_last-append (m ∷ []) last y = refl
 move_last-append (m ∷ n ∷ ms) last y = ap (λ (zs : List Man). m ∷ zs) (move_last-append (n ∷ ms) last y)
 
-row_men : (pawns : Bool) (slots : List Slot) (row y : ℕ) → y < 64 → AreSlots slots → men_of pawns slots (64 * row + y) ≡ move_last (men_of pawns slots (64 * row)) y
+row_men : (pawns : Bool) (slots : List Slot) (row y : ℕ) → y < 64 → AreSlots slots
+    → men_of pawns slots (64 * row + y) ≡ move_last (men_of pawns slots (64 * row)) y
 row_men pawns [] row y ly a = elim a [ ]
 row_men pawns (k ∷ []) row y ly a = elim a [ ]
 row_men pawns (k ∷ b ∷ x ∷ z ∷ w ∷ ms) row y ly a = elim a [ ]
@@ -294,42 +301,43 @@ row_head (k ∷ b ∷ []) row y ly a = omega arith
 row_head (k ∷ b ∷ x ∷ []) row y ly a = omega arith
 row_head (k ∷ b ∷ x ∷ z ∷ []) row y ly a = omega arith
 
-pub row_told : (c : Class) (row y : ℕ) → y < 64 → row < 262144 → (others : List Man) (last : Man) (side : Side)
-    → AreTold c (64 * row) (others ++ last ∷ []) side → AreTold c (64 * row + y) (others ++ on_square last y ∷ []) side
-row_told c row y ly lr others last side told =
+pub row_decoded : (c : Class) (row y : ℕ) → y < 64 → row < 262144 → (others : List Man) (last : Man) (side : Side)
+    → AreEncoded c (64 * row) (others ++ last ∷ []) side → AreEncoded c (64 * row + y) (others ++ on_square last y ∷ []) side
+row_decoded c row y ly lr others last side encodes =
     let low : without_bit (64 * row) ≡ 64 * row = omega arith in
     let high : without_bit (64 * row + y) ≡ 64 * row + y = omega arith in (
       sym (move_last-append others last y)
-          ∙ ap (λ (zs : List Man). move_last zs y) (told.0 ∙ ap (λ (n : ℕ). told_men (slots_of c) n) low)
+          ∙ ap (λ (zs : List Man). move_last zs y) (encodes.0 ∙ ap (λ (n : ℕ). decoded_men (slots_of c) n) low)
           ∙ sym (row_men (slots_have_pawn (slots_of c)) (slots_of c) row y ly (AreSlots-class c))
-          ∙ ap (λ (n : ℕ). told_men (slots_of c) n) (sym high),
-      told.1 ∙ ap (λ (n : ℕ). told_side (slots_of c) n) low
+          ∙ ap (λ (n : ℕ). decoded_men (slots_of c) n) (sym high),
+      encodes.1 ∙ ap (λ (n : ℕ). decoded_side (slots_of c) n) low
           ∙ ap (λ (h : ℕ). side_numbered (h / king_places (slots_have_pawn (slots_of c)))) (sym (row_head (slots_of c) row y ly (AreSlots-class c)))
-          ∙ ap (λ (n : ℕ). told_side (slots_of c) n) (sym high),
+          ∙ ap (λ (n : ℕ). decoded_side (slots_of c) n) (sym high),
     )
 
 -- positions whose men are still are
-module _ (c : Class) (number : ℕ) (q : Position) (at : position_numbered c number ≡ Some q) (low : number < 16777216) (others : List Man) (l : Man) (side : Side)
-    (told : AreTold c number (others ++ l ∷ []) side) where
+module _ (c : Class) (number : ℕ) (q : Position) (at : position_numbered c number ≡ Some q) (low : number < 16777216) (others : List Man) (l : Man)
+    (side : Side)
+    (encodes : AreEncoded c number (others ++ l ∷ []) side) where
   pub others_on_board : All (λ m. m.at < 64) others
   others_on_board =
       (All-pop (λ (k : Man). k.at < 64) (others ++ l ∷ []) others (Some l) refl
       (All-permutation (λ (k : Man). k.at < 64) q.men (others ++ l ∷ []) (IsPermutation-sym (others ++ l ∷ []) q.men same)
-      (told_decoded c number q at).valid.on_board)).0
+      (decoded_of_numbered c number q at).valid.on_board)).0
     where
       same : IsPermutation (others ++ l ∷ []) q.men
-      same = subst (λ (zs : List Man). IsPermutation zs q.men) (sym told.0) (told_of c number q (told_decoded c number q at)).same_men
+      same = subst (λ (zs : List Man). IsPermutation zs q.men) (sym encodes.0) (encoded_by c number q (decoded_of_numbered c number q at)).same_men
 
   same : IsPermutation (others ++ l ∷ []) q.men
-  same = subst (λ (zs : List Man). IsPermutation zs q.men) (sym told.0) (told_of c number q (told_decoded c number q at)).same_men
+  same = subst (λ (zs : List Man). IsPermutation zs q.men) (sym encodes.0) (encoded_by c number q (decoded_of_numbered c number q at)).same_men
 
   pub still_position : AreStillOrNone (others ++ l ∷ []) side → IsQuietPosition q
   still_position (inl still) = (
     λ mate. false≢true (sym still.safe ∙ in_check_same (others ++ l ∷ []) q.men same side
-        ∙ ap (λ (s : Side). in_check q.men s) (side_is c number q at (others ++ l ∷ []) side told) ∙ mate.0),
-    stays_quiet c number q at low (others ++ l ∷ []) side told still.spares still.keeps,
+        ∙ ap (λ (s : Side). in_check q.men s) (side_is c number q at (others ++ l ∷ []) side encodes) ∙ mate.0),
+    stays_quiet c number q at low (others ++ l ∷ []) side encodes still.spares still.keeps,
   )
-  still_position (inr check) = absurd (no_capture_of_king c number q at (others ++ l ∷ []) side told
+  still_position (inr check) = absurd (no_capture_of_king c number q at (others ++ l ∷ []) side encodes
       (sym (in_check_same (others ++ l ∷ []) q.men same (other_side side)) ∙ check))
 
 -- ---- the rank from which a pawn promotes

@@ -27,18 +27,18 @@ use Rattle.study_material.specs.declared.class.Class.{Class}
 use Rattle.study_material.specs.Class.{is_of}
 use Rattle.study_material.proofs.Classes.{is_of-IsOf}
 use Rattle.study_index.specs.Computed.{position_numbered}
-use Rattle.study_index.proofs.ComputedIndex.{told_decoded}
-use Rattle.study_index.proofs.DecodedNumbers.{told_of}
+use Rattle.study_index.proofs.ComputedIndex.{decoded_of_numbered}
+use Rattle.study_index.proofs.DecodedNumbers.{encoded_by}
 use Rattle.study_moves.specs.Game.{IsMate}
 use Rattle.study_table.specs.Table.{Table}
 use Rattle.study_retro.specs.ClassGame.{class_game}
 use Rattle.study_levels.specs.Numbered.{CellIsHeld, IsNumberedClass, OutsideIsRight, leads_in}
 use Rattle.study_levels.specs.Propagation.{IsHeldCell}
-use Rattle.study_retro.specs.Predecessors.{AreTold}
+use Rattle.study_retro.specs.Predecessors.{AreEncoded}
 use Rattle.study_levels.proofs.FirstLemmas.{held-draw}
 use Rattle.study_retro.specs.Still.{is_about_to_promote, HasOnlyQuiet, IsQuietPosition, rank_before_last}
 use Rattle.study_retro.proofs.LeavingLemmas.{far_plain, unpromoted}
-use Rattle.study_retro.proofs.BackLemmas.{occupied_same, side_is, told_targets}
+use Rattle.study_retro.proofs.BackLemmas.{occupied_same, side_is, targets_found}
 use Rattle.study_retro.proofs.MovedSteps.{quiet_stays}
 use Rattle.study_retro.proofs.QuietSteps.{dead_plain}
 use Rattle.study_moves.specs.EnPassant.{has_legal_en_passant}
@@ -84,7 +84,8 @@ module _ (men : List Man) (side : Side) where
         by_test m i bears false e = refl
         by_test m i bears true e =
             let mine = first_false _ _ (none_among (λ k. same_side k.side side && (k.at == x)) men m own i) e in
-            let free = last_false _ _ (none_among (λ k. same_side k.side (other_side side) && list_any (λ n. same_side n.side side && attacks_square men n k.at) men) men m takes i) (other_than m.side side mine) in
+            let free = last_false _ _ (none_among (λ k. same_side k.side (other_side side)
+            && list_any (λ n. same_side n.side side && attacks_square men n k.at) men) men m takes i) (other_than m.side side mine) in
             let at : m.at ≡ x = eqb-true m.at x e in
             absurd (false≢true (sym (none_among (λ n. same_side n.side side && attacks_square men n m.at) men man free among)
             ∙ rw (his, at, bears) refl))
@@ -126,18 +127,18 @@ module _ (men : List Man) (side : Side) (man : Man) (ours : ℕ) (word : (x : �
 
 -- so each move is quiet
 pub stays_quiet : (c : Class) (number : ℕ) (q : Position) → position_numbered c number ≡ Some q → number < 16777216
-    → (men : List Man) (side : Side) → AreTold c number men side
+    → (men : List Man) (side : Side) → AreEncoded c number men side
     → list_any (λ m. same_side m.side (other_side side) && is_attacked men side m.at) men ≡ false
     → list_any (λ m. is_man side Pawn m && (rank_of m.at == rank_before_last side)) men ≡ false → HasOnlyQuiet q
 unfolding is_safe_target
-stays_quiet c number q at low men side told takes promotes = quiet
+stays_quiet c number q at low men side encodes takes promotes = quiet
   where
     turn : side ≡ q.to_move
-    turn = side_is c number q at men side told
+    turn = side_is c number q at men side encodes
 
     quiet : (m : Move) → is_legal q m ≡ true → IsQuiet q m
     quiet m legal =
-        let targets = told_targets c number q at low men side told in
+        let targets = targets_found c number q at low men side encodes in
         let t = targets.mover m legal in
         let man = t.0 in
         let is = and_parts _ _ (sym (targets.legal man m t.1 t.2 t.3) ∙ legal) in
@@ -152,7 +153,7 @@ stays_quiet c number q at low men side told takes promotes = quiet
             let free = target_empty men side takes man (among-of men man among) his m.target goes.0
             (ap (λ (t : Side). has_side men t m.target) turn ∙ not_true (has_side men q.to_move m.target) goes.1) in
             let plain = target_plain men side promotes man (among-of men man among) his m.target goes.0 in
-            (sym (occupied_same c number q at low men side told m.target) ∙ free, unpromoted (reaches_last_rank man m.target) m.promoted plain choice)
+            (sym (occupied_same c number q at low men side encodes m.target) ∙ free, unpromoted (reaches_last_rank man m.target) m.promoted plain choice)
 
 -- ---- sets of squares
 
@@ -171,17 +172,17 @@ any_alike p r (x ∷ xs) h = rw (h x (inl refl), any_alike p r xs (λ m i. h m (
 
 -- the encoded men determine the position
 module _ (c : Class) (number : ℕ) (q : Position) (at : position_numbered c number ≡ Some q) (men : List Man) (side : Side)
-    (told : AreTold c number men side) where
-  told_men_are : IsPermutation men q.men
-  told_men_are = subst (λ (zs : List Man). IsPermutation zs q.men) (sym told.0) (told_of c number q (told_decoded c number q at)).same_men
+    (encodes : AreEncoded c number men side) where
+  decoded_men_are : IsPermutation men q.men
+  decoded_men_are = subst (λ (zs : List Man). IsPermutation zs q.men) (sym encodes.0) (encoded_by c number q (decoded_of_numbered c number q at)).same_men
 
   on_board : (m : Man) → IsAmong m men → m.at < 64
   on_board m i =
       All-among (λ (k : Man). k.at < 64) men m
-      (All-permutation (λ (k : Man). k.at < 64) q.men men (IsPermutation-sym men q.men told_men_are) (told_decoded c number q at).valid.on_board) i
+      (All-permutation (λ (k : Man). k.at < 64) q.men men (IsPermutation-sym men q.men decoded_men_are) (decoded_of_numbered c number q at).valid.on_board) i
 
   faultless : IsFaultless q.men q.to_move q.passed
-  faultless = IsFaultless-from_first q.men q.to_move q.passed (told_decoded c number q at).valid.faultless
+  faultless = IsFaultless-from_first q.men q.to_move q.passed (decoded_of_numbered c number q at).valid.faultless
 
   -- a set of the squares on which the men of a side bear
   module _ (by : Side) (set : ℕ) (word : (x : ℕ) → x < 64 → has set x ≡ is_attacked men by x) where
@@ -195,12 +196,12 @@ module _ (c : Class) (number : ℕ) (q : Position) (at : position_numbered c num
     check_by_word s o =
         by_word (λ m. is_man s King m)
         ∙ ap (λ (t : Side). list_any (λ m. is_man s King m && is_attacked men t m.at) men) o
-        ∙ in_check_same men q.men told_men_are s
+        ∙ in_check_same men q.men decoded_men_are s
 
   -- if the side to move bears on the other king the position is not valid
   pub no_capture_of_king : in_check q.men (other_side side) ≡ true → ⊥
   no_capture_of_king e =
-      false≢true (sym faultless.safe ∙ ap (λ (t : Side). in_check q.men (other_side t)) (sym (side_is c number q at men side told)) ∙ e)
+      false≢true (sym faultless.safe ∙ ap (λ (t : Side). in_check q.men (other_side t)) (sym (side_is c number q at men side encodes)) ∙ e)
 
 -- before the levels the cell of its number is 0, as is that of a number without a position
 pub still_held : (c : Class) (held : List (Option Table)) (number : ℕ) → IsNumberedClass (class_game c held) → OutsideIsRight (class_game c held)
@@ -222,7 +223,8 @@ still_held c held number laws outer still = by_position (position_numbered c num
           holds = inr ((λ x. x), (λ r l. leaves q e low s r l));
         }))
       where
-        leaves : (q : Position) → position_numbered c number ≡ Some q → number < 16777216 → IsQuietPosition q → (r : Position) → leads_in (class_game c held) q r × (is_of c r ≡ false) → ⊥
+        leaves : (q : Position) → position_numbered c number ≡ Some q → number < 16777216 → IsQuietPosition q → (r : Position)
+            → leads_in (class_game c held) q r × (is_of c r ≡ false) → ⊥
         leaves q e low s r l =
             let home = is_of-IsOf c (after q l.0.0) (quiet_stays c number q e (dead_plain c number q e low) l.0.0 l.0.1 (s.1 l.0.0 l.0.1)) in
             false≢true (sym l.1 ∙ ap (λ (p : Position). is_of c p) (sym l.0.2) ∙ home)
@@ -233,5 +235,5 @@ module _ (c : Class) (number : ℕ) (q : Position) (at : position_numbered c num
   -- the men of the position determine its legal moves
   pub own_targets : HasSafeTargets q q.men
   own_targets =
-      let d = told_decoded c number q at in
+      let d = decoded_of_numbered c number q at in
       (men-tell-moves q q.men d.valid (IsPermutation-refl q.men)).0 dead

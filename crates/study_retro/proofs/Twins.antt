@@ -24,15 +24,15 @@ use Rattle.study_material.specs.declared.class.Class.TheVariants.{KPKP}
 use Rattle.study_material.specs.Class.{lists_of, IsOf}
 use Rattle.study_material.proofs.Classes.{lists_of-injective}
 use Rattle.study_values.specs.Number.{with_bit, without_bit, has_both_pawns}
-use Rattle.study_index.specs.Decoded.{slots_of, told_men}
+use Rattle.study_index.specs.Decoded.{slots_of, decoded_men}
 use Rattle.study_index.specs.Computed.{position_numbered}
 use Rattle.study_values.specs.Index.{index_of, least_number}
 use Rattle.study_index.proofs.ClassLaws.{entry, numbered}
-use Rattle.study_index.proofs.ComputedIndex.{IsIndex-index_of, told_decoded, decoded_told}
-use Rattle.study_index.proofs.DecodedNumbers.{told_of}
+use Rattle.study_index.proofs.ComputedIndex.{IsIndex-index_of, decoded_of_numbered, numbered_of_decoded}
+use Rattle.study_index.proofs.DecodedNumbers.{encoded_by}
 use Rattle.study_index.proofs.LivePassing.{live_class, live_pawns}
 use Rattle.study_index.proofs.WithBit.{HasParts-from}
-use Rattle.study_retro.specs.Predecessors.{IsTwinless}
+use Rattle.study_retro.specs.Predecessors.{IsWithoutEnPassant}
 use Rattle.study_retro.proofs.QuietSteps.{dead_of}
 
 -- the pawn that captures in passing stands one rank behind the passed square, on a file beside it
@@ -130,27 +130,27 @@ AreAbreast-live p v live =
     abreast_by p p.to_move r.0 t.at r.2 t.there t.takes
 
 -- the squares of the pawns that a number encodes
-told_white : (n a : ℕ) → list_any (λ m. is_man White Pawn m && (m.at == a)) (told_men (slots_of KPKP) n) ≡ true → n / 64 % 64 ≡ a
-told_white n a e = elim (or_cases (n / 64 % 64 == a) false e) [ inl t ↦ eqb-true (n / 64 % 64) a t | inr f ↦ absurd (false≢true f) ]
+white_decoded : (n a : ℕ) → list_any (λ m. is_man White Pawn m && (m.at == a)) (decoded_men (slots_of KPKP) n) ≡ true → n / 64 % 64 ≡ a
+white_decoded n a e = elim (or_cases (n / 64 % 64 == a) false e) [ inl t ↦ eqb-true (n / 64 % 64) a t | inr f ↦ absurd (false≢true f) ]
 
-told_black : (n b : ℕ) → list_any (λ m. is_man Black Pawn m && (m.at == b)) (told_men (slots_of KPKP) n) ≡ true → n % 64 ≡ b
-told_black n b e = elim (or_cases (n % 64 == b) false e) [ inl t ↦ eqb-true (n % 64) b t | inr f ↦ absurd (false≢true f) ]
+black_decoded : (n b : ℕ) → list_any (λ m. is_man Black Pawn m && (m.at == b)) (decoded_men (slots_of KPKP) n) ≡ true → n % 64 ≡ b
+black_decoded n b e = elim (or_cases (n % 64 == b) false e) [ inl t ↦ eqb-true (n % 64) b t | inr f ↦ absurd (false≢true f) ]
 
 -- a number with the bit that has a position has a live one, with the same men
 record HasTwin (c : Class) (n : ℕ) (p : Position) : Type 0 where
   pub live : has_legal_en_passant p ≡ true
   pub class : c ≡ KPKP
-  pub men : IsPermutation (told_men (slots_of c) n) p.men
+  pub men : IsPermutation (decoded_men (slots_of c) n) p.men
 
 HasTwin-from : (c : Class) (n : ℕ) (p : Position) → position_numbered c (n + 16777216) ≡ Some p → HasTwin c n p
 HasTwin-from c n p at =
-    let d = told_decoded c (n + 16777216) p at in
+    let d = decoded_of_numbered c (n + 16777216) p at in
     let h = HasParts-from p (n + 16777216) d.valid d.index in
     let b = by_live (has_legal_en_passant p) h.is h.small in
     record {
       live = b.0;
       class = lists_of-injective c KPKP (live_class c p d.valid (entry c (n + 16777216) p d).of_class b.0);
-      men = subst (λ (k : ℕ). IsPermutation (told_men (slots_of c) k) p.men) b.1 (told_of c (n + 16777216) p d).same_men;
+      men = subst (λ (k : ℕ). IsPermutation (decoded_men (slots_of c) k) p.men) b.1 (encoded_by c (n + 16777216) p d).same_men;
     }
   where
     by_live : (b : Bool) → n + 16777216 ≡ with_bit b (without_bit (n + 16777216)) → without_bit (n + 16777216) < 16777216
@@ -159,25 +159,25 @@ HasTwin-from c n p at =
     by_live false e l = absurd (omega (arith, e, l))
 
 -- if only one side of a class has pawns, or the pawns that the number encodes are not side by side, there is none
-pub single_twinless : (c : Class) (n : ℕ) → has_both_pawns (lists_of c) ≡ false → IsTwinless c n
-single_twinless c n single p at =
+pub single_without_en_passant : (c : Class) (n : ℕ) → has_both_pawns (lists_of c) ≡ false → IsWithoutEnPassant c n
+single_without_en_passant c n single p at =
     let t = HasTwin-from c n p at in
-    let d = told_decoded c (n + 16777216) p at in
+    let d = decoded_of_numbered c (n + 16777216) p at in
     false≢true (sym (dead_of c p d.valid (entry c (n + 16777216) p d).of_class single) ∙ t.live)
 
-pub apart_twinless : (c : Class) (n : ℕ)
+pub apart_without_en_passant : (c : Class) (n : ℕ)
     → (rank_of (n / 64 % 64) ≡ rank_of (n % 64) → files_apart (n / 64 % 64) (n % 64) ≡ 1 → 3 ≤ rank_of (n / 64 % 64) → rank_of (n / 64 % 64) ≤ 4 → ⊥)
-    → IsTwinless c n
+    → IsWithoutEnPassant c n
 unfolding has_man
-apart_twinless c n none p at =
+apart_without_en_passant c n none p at =
     let t = HasTwin-from c n p at in
-    let d = told_decoded c (n + 16777216) p at in
+    let d = decoded_of_numbered c (n + 16777216) p at in
     let a = AreAbreast-live p d.valid t.live in
-    let men : IsPermutation (told_men (slots_of KPKP) n) p.men = subst (λ (k : Class). IsPermutation (told_men (slots_of k) n) p.men) t.class t.men in
-    let w : n / 64 % 64 ≡ a.white = told_white n a.white
-    (list_any-IsPermutation (λ m. is_man White Pawn m && (m.at == a.white)) (told_men (slots_of KPKP) n) p.men men ∙ a.is_white) in
-    let b : n % 64 ≡ a.black = told_black n a.black
-    (list_any-IsPermutation (λ m. is_man Black Pawn m && (m.at == a.black)) (told_men (slots_of KPKP) n) p.men men ∙ a.is_black) in
+    let men : IsPermutation (decoded_men (slots_of KPKP) n) p.men = subst (λ (k : Class). IsPermutation (decoded_men (slots_of k) n) p.men) t.class t.men in
+    let w : n / 64 % 64 ≡ a.white = white_decoded n a.white
+    (list_any-IsPermutation (λ m. is_man White Pawn m && (m.at == a.white)) (decoded_men (slots_of KPKP) n) p.men men ∙ a.is_white) in
+    let b : n % 64 ≡ a.black = black_decoded n a.black
+    (list_any-IsPermutation (λ m. is_man Black Pawn m && (m.at == a.black)) (decoded_men (slots_of KPKP) n) p.men men ∙ a.is_black) in
     none
     (ap (λ (x : ℕ). rank_of x) w ∙ a.rank ∙ sym (ap (λ (x : ℕ). rank_of x) b))
     (ap (λ (x : ℕ). files_apart x (n % 64)) w ∙ ap (λ (y : ℕ). files_apart a.white y) b ∙ a.files)
@@ -185,9 +185,10 @@ apart_twinless c n none p at =
     (subst (λ (x : ℕ). rank_of x ≤ 4) (sym w) a.high)
 
 -- a position of the class has no legal capture in passing if no position with its men has one
-pub dead_twinless : (c : Class) (p : Position) → IsValid p → IsOf c p → (n : ℕ) → index_of (without_passed p) ≡ n → IsTwinless c n → has_legal_en_passant p ≡ false
+pub dead_without_en_passant : (c : Class) (p : Position) → IsValid p → IsOf c p → (n : ℕ) → index_of (without_passed p) ≡ n → IsWithoutEnPassant c n
+    → has_legal_en_passant p ≡ false
 unfolding index_of least_number
-dead_twinless c p v o n is none = by_live (has_legal_en_passant p) refl
+dead_without_en_passant c p v o n is none = by_live (has_legal_en_passant p) refl
   where
     by_live : (b : Bool) → has_legal_en_passant p ≡ b → b ≡ false
     by_live false e = refl
@@ -196,4 +197,4 @@ dead_twinless c p v o n is none = by_live (has_legal_en_passant p) refl
         let is_live : index_of p ≡ 16777216 + least_number p = ap (λ (b : Bool). with_bit b (least_number p)) e in
         let plain : least_number p ≡ n = is in
         let at : index_of p ≡ n + 16777216 = omega (arith, is_live, plain) in
-        absurd (none q.0 (subst (λ (k : ℕ). position_numbered c k ≡ Some q.0) at (decoded_told c (index_of p) q.0 q.1)))
+        absurd (none q.0 (subst (λ (k : ℕ). position_numbered c k ≡ Some q.0) at (numbered_of_decoded c (index_of p) q.0 q.1)))

@@ -10,7 +10,7 @@ use Rattle.study_moves.specs.Unmoves.{LeadsQuietly, move_from}
 use Rattle.study_material.specs.declared.class.Class.{Class}
 use Rattle.study_material.specs.Class.{lists_of}
 use Rattle.study_values.specs.Number.{has_both_pawns, without_bit}
-use Rattle.study_index.specs.Decoded.{slots_of, told_men, told_side}
+use Rattle.study_index.specs.Decoded.{slots_of, decoded_men, decoded_side}
 use Rattle.study_index.specs.Computed.{position_numbered}
 use Rattle.study_values.specs.Index.{index_of}
 
@@ -39,16 +39,16 @@ abbrev pub PassesNone : Class → ℕ → ℕ → Type 0
 PassesNone c a x = (has_both_pawns (lists_of c) ≡ false) ⊎ ((ranks_apart a x == 2) ≡ false)
 
 -- no position with the men and the side to move of the number has a legal capture in passing
-abbrev pub IsTwinless : Class → ℕ → Type 0
-IsTwinless c n = (p : Position) → position_numbered c (n + 16777216) ≡ Some p → ⊥
+abbrev pub IsWithoutEnPassant : Class → ℕ → Type 0
+IsWithoutEnPassant c n = (p : Position) → position_numbered c (n + 16777216) ≡ Some p → ⊥
 
 -- so a quiet move after which the number is n leaves no capture in passing
 abbrev pub LeavesNone : Class → ℕ → ℕ → ℕ → Type 0
-LeavesNone c a x n = PassesNone c a x ⊎ IsTwinless c n
+LeavesNone c a x n = PassesNone c a x ⊎ IsWithoutEnPassant c n
 
 -- the men and the side to move are those that the number encodes
-abbrev pub AreTold : Class → ℕ → List Man → Side → Type 0
-AreTold c number men side = (men ≡ told_men (slots_of c) (without_bit number)) × (side ≡ told_side (slots_of c) (without_bit number))
+abbrev pub AreEncoded : Class → ℕ → List Man → Side → Type 0
+AreEncoded c number men side = (men ≡ decoded_men (slots_of c) (without_bit number)) × (side ≡ decoded_side (slots_of c) (without_bit number))
 
 -- n is the number of a position from which a quiet move of the man, from a, leads to the position of the number
 pub record IsBeforeFrom (c : Class) (number : ℕ) (man : Man) (a n : ℕ) : Type 0 where

@@ -8,7 +8,7 @@ use Rattle.study_board.specs.Sets.{has}
 use Rattle.study_moves.specs.AnyOrder.{is_safe_target}
 use Rattle.study_material.specs.declared.class.Class.{Class}
 use Rattle.study_values.specs.Number.{without_bit}
-use Rattle.study_index.specs.Decoded.{slots_of, told_men, told_side}
+use Rattle.study_index.specs.Decoded.{slots_of, decoded_men, decoded_side}
 use Rattle.study_index.specs.Computed.{position_numbered}
 use Rattle.study_levels.specs.Numbered.{Numbered, NoLossBy}
 use Rattle.study_retro.specs.Still.{HasMove, IsWonAfter, QuietMovesLose, QuietMovesLoseBy, move_to, on_square}
@@ -19,10 +19,10 @@ AreAmong few all = (y : ℕ) → y < 64 → has few y ≡ true → has all y ≡
 
 -- by the men that the number encodes, the man belongs to the side to move, and goes to the square, which is empty
 pub record CanGo (c : Class) (number : ℕ) (man : Man) (x : ℕ) : Type 0 where
-  pub among : Contains (told_men (slots_of c) (without_bit number)) man
-  pub own : same_side man.side (told_side (slots_of c) (without_bit number)) ≡ true
-  pub safe : is_safe_target (told_men (slots_of c) (without_bit number)) (told_side (slots_of c) (without_bit number)) man x ≡ true
-  pub free : is_occupied (told_men (slots_of c) (without_bit number)) x ≡ false
+  pub among : Contains (decoded_men (slots_of c) (without_bit number)) man
+  pub own : same_side man.side (decoded_side (slots_of c) (without_bit number)) ≡ true
+  pub safe : is_safe_target (decoded_men (slots_of c) (without_bit number)) (decoded_side (slots_of c) (without_bit number)) man x ≡ true
+  pub free : is_occupied (decoded_men (slots_of c) (without_bit number)) x ≡ false
 
 -- the man can go to the square at each number of a row whose square is in the set
 abbrev pub CanAllGo : Class → ℕ → ℕ → Man → ℕ → Type 0

@@ -2,9 +2,9 @@ pub mod WonHolds
 pub mod PlaysBack
 pub mod AlternativesCounted
 pub mod Refuted
-pub mod NodesTold
+pub mod NodesReported
 pub mod OneReview
 pub mod TimeFaultsAll
-pub mod ToldMoves
-pub mod MovesTold
+pub mod ReportedMoves
+pub mod MovesReported
 pub mod WholeReview

@@ -66,9 +66,11 @@ module _ (law : EachHasAtMostOneValue) (s : Study Mark) where
                 refl,
                 λ list alt.
                     let move : m ≡ j = let both : Some m ≡ Some j = sym p ∙ q in cc in
-                    let other = subst (λ x. AreTimedAlternatives (aim_of s) (length (parent_path path)) (line_to s (parent_path path)) (position_at s (parent_path path)) x list)
+                    let other = subst (λ x. AreTimedAlternatives (aim_of s) (length (parent_path path)) (line_to s (parent_path path))
+                    (position_at s (parent_path path)) x list)
                     (sym move) alt in
-                    ap all_lose_time (one-alternatives law (aim_of s) (length (parent_path path)) (line_to s (parent_path path)) (position_at s (parent_path path)) m
+                    ap all_lose_time (one-alternatives law (aim_of s) (length (parent_path path)) (line_to s (parent_path path))
+                    (position_at s (parent_path path)) m
                     list h.0 other h.1) ∙ e,
               )),
               (λ so. one),
@@ -217,7 +219,8 @@ module _ (law : EachHasAtMostOneValue) (s : Study Mark) where
       later : ((in_solution (aim_of s) 0 path ≡ false) ⊎ ((j : ℕ) → (not (hero_moves (aim_of s) (length path)) || (k + j == 0)) ≡ false))
           → ((in_solution (aim_of s) 0 path ≡ false) ⊎ ((j : ℕ) → (not (hero_moves (aim_of s) (length path)) || (k + 1 + j == 0)) ≡ false))
       later (inl e) = inl e
-      later (inr e) = inr (λ j. ap (λ i. not (hero_moves (aim_of s) (length path)) || (i == 0)) (let z : k + 1 + j ≡ k + (1 + j) = omega arith in z) ∙ e (1 + j))
+      later (inr e) = inr (λ j. ap (λ i. not (hero_moves (aim_of s) (length path)) || (i == 0)) (let z : k + 1 + j ≡ k + (1 + j) = omega arith in z)
+          ∙ e (1 + j))
 
   own-weight : (path : List ℕ) (k d : ℕ) (x : Mark) → d ≡ length path → mark_at s (path ++ k ∷ []) ≡ x.on_move
       → in_solution (aim_of s) 0 (path ++ k ∷ []) ≡ true → weight (path ++ k ∷ []) ≡ own_faults (hero_moves (aim_of s) d) x.on_move
@@ -273,7 +276,8 @@ all-or-not law s n annotated h =
     let f = s.tree.below in
     let moved = all-moved law s [] 0 f refl in
     let count = counts-all law s (paths_from [] 0 f) h.1 moved h.3 in
-    let number : total law s (paths_from [] 0 f) ≡ s.tree.label.faults = inside law s [] 0 0 f refl refl refl (first (hero_moves (aim_of s) 0)) ∙ sym annotated.faults in
+    let number : total law s (paths_from [] 0 f) ≡ s.tree.label.faults = inside law s [] 0 0 f refl refl refl (first (hero_moves (aim_of s) 0))
+    ∙ sym annotated.faults in
     let root : h.0 ≡ 0 = h.2 in
     let same : n ≡ h.1 = let sum = h.4 in omega (arith, sum, root) in (
       (λ e. (root-none, (count.1).0 (sym same ∙ e ∙ sym number))),

@@ -11,7 +11,7 @@ use Rattle.study_review.specs.Review.{study_line, stipulation_line, empty_line, 
 use Rattle.study_facts.specs.Order.{LinesOfEach, AreTimeFaults, written_order}
 use Rattle.study_review.specs.NodeFacts.{HereLines}
 use Rattle.study_facts.proofs.NodesShown.{are-there, not-there}
-use Rattle.study_review.proofs.NodesTold.{node-told}
+use Rattle.study_review.proofs.NodesReported.{node-evaluated}
 
 module _ (s : Study Mark) where
   -- no move leads to the root
@@ -28,8 +28,8 @@ module _ (s : Study Mark) where
   pub root-fault : (text : List ℕ) → Grew (FaultLines s []) text text
   root-fault text = ([], refl, sym (append-nil text))
 
-  pub root-told : (old new : List ℕ) → Grew (HereLines s []) old new → Grew (NodeLines s []) old new
-  root-told old new h = node-told s [] old old new (root-also old) h
+  pub root-evaluated : (old new : List ℕ) → Grew (HereLines s []) old new → Grew (NodeLines s []) old new
+  root-evaluated old new h = node-evaluated s [] old old new (root-also old) h
 
 pub whole : (s : Study Mark) (number time : ℕ) (t0 t1 f0 f1 f2 t2 n0 n2 text : List ℕ) → t0 ≡ [] → f0 ≡ [] → n0 ≡ []
     → t1 ≡ t0 ++ (study_line s number ++ (stipulation_line s ++ empty_line s))

@@ -21,8 +21,8 @@ use Rattle.study_facts.specs.Defences.{only_move, AreAnswered}
 use Rattle.study_facts.specs.Words.{also_line, missing_line, times_lost}
 
 -- these moves were added, with the values after them
-abbrev pub AreTold : Position → List Move → List EvaluatedMove → List EvaluatedMove → Type 0
-AreTold p ms old new = (all : List Value) × AreValuesAfter p ms all × (new ≡ old ++ wanted_moves (λ v. true) ms all)
+abbrev pub AreReported : Position → List Move → List EvaluatedMove → List EvaluatedMove → Type 0
+AreReported p ms old new = (all : List Value) × AreValuesAfter p ms all × (new ≡ old ++ wanted_moves (λ v. true) ms all)
 
 -- the evaluated moves at depth d after which the position does not hold
 abbrev pub failing : Aim → ℕ → List EvaluatedMove → List EvaluatedMove

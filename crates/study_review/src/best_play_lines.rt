@@ -20,12 +20,12 @@ use study_text::Text;
 use study_values::{Value, Values};
 
 /// The first of these moves with the best value.
-fn best_of(p: &Position, told: &[EvaluatedMove]) -> Option<EvaluatedMove>
-    requires { All (λ x. is_legal p.now x.played ≡ true) told.now }
-    ensures best { result ≡ first_best told.now }
+fn best_of(p: &Position, evaluated: &[EvaluatedMove]) -> Option<EvaluatedMove>
+    requires { All (λ x. is_legal p.now x.played ≡ true) evaluated.now }
+    ensures best { result ≡ first_best evaluated.now }
     ensures legal { IfSome result (λ x. is_legal p.now x.played ≡ true) }
 {
-    match told.split_first() {
+    match evaluated.split_first() {
         None => None,
         Some((x, rest)) => {
             let later = best_of(p, rest);
@@ -37,24 +37,24 @@ fn best_of(p: &Position, told: &[EvaluatedMove]) -> Option<EvaluatedMove>
 /// Best play of at most 20 plies, beginning with one of these legal moves.
 fn play_from<V: Values>(
     p: &Position,
-    told: &[EvaluatedMove],
+    evaluated: &[EvaluatedMove],
     values: &mut V,
 ) -> Result<ArrayVec<EvaluatedMove, 20>, TextFault>
-    requires { All (λ x. is_legal p.now x.played ≡ true) told.now }
-    ensures game { AreChosen (λ v. true) p.now (legal_list p.now) told.now
+    requires { All (λ x. is_legal p.now x.played ≡ true) evaluated.now }
+    ensures game { AreChosen (λ v. true) p.now (legal_list p.now) evaluated.now
         → V.source.is_honest values.old → IfOk result (λ list.
         IsBestPlay 20 p.now list.items) }
     ensures legal { IfOk result (λ list. ArePlayed p.now list.items) }
     ensures asked { HasAsked (within p.now V.source) values.old result values.new }
 {
     let mut list = ArrayVec::new();
-    match best_of(p, told) {
+    match best_of(p, evaluated) {
         None => Ok(list),
         Some(best) => {
             let next = played(p, best.played);
             list.push(best);
             match play_on(&next, 19, values, &mut list) {
-                Err(fault) => Err(TextFault::Untold(fault)),
+                Err(fault) => Err(TextFault::NoValue(fault)),
                 Ok(_) => Ok(list),
             }
         }
@@ -67,16 +67,16 @@ fn add_best<A: Allocator, V: Values>(
     steps: &[u16],
     p: &Position,
     value: Value,
-    told: &[EvaluatedMove],
+    evaluated: &[EvaluatedMove],
     values: &mut V,
 ) -> Result<(), TextFault>
-    requires { All (λ x. is_legal p.now x.played ≡ true) told.now }
-    ensures text { AreChosen (λ v. true) p.now (legal_list p.now) told.now
+    requires { All (λ x. is_legal p.now x.played ≡ true) evaluated.now }
+    ensures text { AreChosen (λ v. true) p.now (legal_list p.now) evaluated.now
         → V.source.is_honest values.old
         → OnOk result (Grew (IsPlay steps.now p.now value) text.old text.new) }
     ensures asked { HasAsked (within p.now V.source) values.old result values.new }
 {
-    let list = play_from(p, told, values)?;
+    let list = play_from(p, evaluated, values)?;
     add_play(text, steps, p, value, list.as_slice())?;
     Ok(())
 }
@@ -87,22 +87,22 @@ pub fn add_best_play_or_draws<A: Allocator, V: Values>(
     steps: &[u16],
     p: &Position,
     value: Value,
-    told: &[EvaluatedMove],
+    evaluated: &[EvaluatedMove],
     values: &mut V,
 ) -> Result<(), TextFault>
-    requires legal { All (λ x. is_legal p.now x.played ≡ true) told.now }
-    requires all { length told.now ≡ length (legal_list p.now) }
-    requires few { length told.now < 2 ^ 32 }
-    ensures text { AreChosen (λ v. true) p.now (legal_list p.now) told.now
+    requires legal { All (λ x. is_legal p.now x.played ≡ true) evaluated.now }
+    requires all { length evaluated.now ≡ length (legal_list p.now) }
+    requires few { length evaluated.now < 2 ^ 32 }
+    ensures text { AreChosen (λ v. true) p.now (legal_list p.now) evaluated.now
         → V.source.is_honest values.old
         → OnOk result (Grew (IsEnd steps.now p.now value) text.old text.new) }
     ensures asked { HasAsked (within p.now V.source) values.old result values.new }
 {
     match value {
         Value::Draw => {
-            add_drawing_moves_line(text, steps, p, told)?;
+            add_drawing_moves_line(text, steps, p, evaluated)?;
             Ok(())
         }
-        _ => add_best(text, steps, p, value, told, values),
+        _ => add_best(text, steps, p, value, evaluated, values),
     }
 }

@@ -115,18 +115,18 @@ pub fn add_defences<A: Allocator, V: Values>(
     steps: &[u16],
     node: &NodeContext<'_>,
     there: &[Move],
-    told: &[EvaluatedMove],
+    evaluated: &[EvaluatedMove],
     values: &mut V,
 ) -> Result<(), TextFault>
     requires depth { node.now.depth + 2 < 2 ^ 64 }
-    requires legal { All (λ x. is_legal node.now.position.now x.played ≡ true) told.now }
+    requires legal { All (λ x. is_legal node.now.position.now x.played ≡ true) evaluated.now }
     ensures text { V.source.is_honest values.old
         → OnOk result
         (Grew (AreMissingLines steps.now node.now.aim.now node.now.depth node.now.position.now
-        there.now told.now) text.old text.new) }
+        there.now evaluated.now) text.old text.new) }
     ensures asked { HasAsked (within node.now.position.now V.source) values.old result values.new }
 {
-    match told.split_first() {
+    match evaluated.split_first() {
         None => Ok(()),
         Some((x, rest)) => {
             if contains_move(&x.played, there) {

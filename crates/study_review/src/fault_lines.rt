@@ -7,9 +7,9 @@ ghost use Rattle.study_marks.specs.Goals.{holds};
 ghost use Rattle.study_facts.specs.Asked.{within};
 ghost use Rattle.study_facts.specs.Continuations.{contains_move};
 ghost use Rattle.study_facts.specs.Made.{Grew, Rose, HasAsked};
-ghost use Rattle.study_facts.specs.Nodes.{AlsoLines, FaultLines, is_solution_move, mark_at, value_at};
+ghost use Rattle.study_facts.specs.Nodes.{AlsoLines, FaultLines};
 ghost use Rattle.study_review.specs.NodeFacts.{AreAlsoLines, besides};
-ghost use Rattle.study_facts.specs.WalkState.{IsStep};
+ghost use Rattle.study_facts.specs.StudyNode.{IsStudyMove};
 ghost use Rattle.study_facts.specs.TimeFaults.{IsTimeFault};
 ghost use Rattle.study_facts.specs.Words.{dual_line};
 
@@ -17,25 +17,14 @@ use crate::lines::{add_also_line, add_dual, add_mistake};
 use crate::probe::evaluate_legal_moves;
 use crate::review_lines::ReviewLines;
 use std::alloc::{AllocError, Allocator};
-use study_board::Position;
 use study_facts::{
-    Alternative, EvaluatedMove, NodeContext, TextFault, contains_move, count_where,
+    Alternative, EvaluatedMove, StudyMove, TextFault, contains_move, count_where,
     waste_of_time_for_goal,
 };
-use study_marks::{Bench, Mark, MoveMark, holds};
-use study_moves::{Move, played};
+use study_marks::{Bench, MoveMark, holds};
+use study_moves::played;
 use study_text::Text;
-use study_values::{Value, Values};
-
-/// A move of a study: the node before it, the positions from the root to that node, the path of the node that it leads
-/// to, and the move.
-#[derive(Clone, Copy)]
-pub struct StudyMove<'n> {
-    pub before: NodeContext<'n>,
-    pub line: &'n [Position],
-    pub steps: &'n [u16],
-    pub played: Move,
-}
+use study_values::Values;
 
 /// A line for another move, with the time that it loses, and 1 if it loses time; no line, and 0, if it is the move itself or does not hold.
 fn add_alternative<A: Allocator, V: Values>(
@@ -60,7 +49,7 @@ fn add_alternative<A: Allocator, V: Values>(
     }
     let next = played(before.position, x.played);
     match waste_of_time_for_goal(before.aim.goal, step.line, &next, values) {
-        Err(fault) => Err(TextFault::Untold(fault)),
+        Err(fault) => Err(TextFault::NoValue(fault)),
         Ok(time) => {
             let y = Alternative {
                 played: x.played,
@@ -77,21 +66,22 @@ fn add_alternative<A: Allocator, V: Values>(
 pub fn add_alternatives<A: Allocator, V: Values>(
     text: &mut Text<'_, A>,
     step: &StudyMove<'_>,
-    told: &[EvaluatedMove],
+    evaluated: &[EvaluatedMove],
     values: &mut V,
 ) -> Result<u16, TextFault>
     requires depth { step.now.before.depth + 1 < 2 ^ 64 }
-    requires legal { All (λ x. is_legal step.now.before.position.now x.played ≡ true) told.now }
-    requires few { length told.now < 2 ^ 16 }
+    requires legal { All (λ x. is_legal step.now.before.position.now x.played ≡ true)
+        evaluated.now }
+    requires few { length evaluated.now < 2 ^ 16 }
     ensures text { V.source.is_honest values.old
         → IfOk result (λ n. Grew (AreAlsoLines step.now.steps.now step.now.before.aim.now
         step.now.before.depth step.now.line.now step.now.before.position.now step.now.played
-        told.now n) text.old text.new) }
-    ensures few { IfOk result (λ n. n ≤ length told.now) }
+        evaluated.now n) text.old text.new) }
+    ensures few { IfOk result (λ n. n ≤ length evaluated.now) }
     ensures asked { HasAsked (within step.now.before.position.now V.source)
         values.old result values.new }
 {
-    match told.split_first() {
+    match evaluated.split_first() {
         None => Ok(0),
         Some((x, rest)) => {
             let here = add_alternative(text, step, x, values)?;
@@ -101,25 +91,23 @@ pub fn add_alternatives<A: Allocator, V: Values>(
     }
 }
 
-/// The line of a dual with so many others, so many of which lose time, if it is listed.
+/// The line of a dual with so many others, so many of which lose time, if it is a move of the solution.
 fn add_listed_dual<A: Allocator>(
     text: &mut Text<'_, A>,
     step: &StudyMove<'_>,
-    value: Value,
     counts: (u8, u16),
-    listed: bool,
 ) -> Result<(), AllocError>
     requires { is_legal step.now.before.position.now step.now.played ≡ true }
     ensures { OnOk result (text.new ≡ text.old
-        ++ (if listed then dual_line step.now.steps.now step.now.before.position.now
-        step.now.played value counts.0 counts.1 else [])) }
+        ++ (if step.now.solution then dual_line step.now.steps.now step.now.before.position.now
+        step.now.played step.now.mark.value counts.0 counts.1 else [])) }
 {
-    if !listed {
+    if !step.solution {
         return Ok(());
     }
     let x = EvaluatedMove {
         played: step.played,
-        value,
+        value: step.mark.value,
     };
     add_dual(text, step.steps, step.before.position, &x, counts)
 }
@@ -135,15 +123,15 @@ fn is_alternative(step: &StudyMove<'_>, x: &EvaluatedMove) -> bool
 }
 
 /// The number of alternatives among these moves.
-fn count_alternatives(step: &StudyMove<'_>, told: &[EvaluatedMove]) -> u16
+fn count_alternatives(step: &StudyMove<'_>, evaluated: &[EvaluatedMove]) -> u16
     requires depth { step.now.before.depth + 1 < 2 ^ 64 }
-    requires few { length told.now < 2 ^ 16 }
+    requires few { length evaluated.now < 2 ^ 16 }
     ensures count { result
         ≡ length (besides step.now.before.aim.now step.now.before.depth
-        (step.now.played ∷ []) told.now) }
-    ensures few { result ≤ length told.now }
+        (step.now.played ∷ []) evaluated.now) }
+    ensures few { result ≤ length evaluated.now }
 {
-    match told.split_first() {
+    match evaluated.split_first() {
         None => 0,
         Some((x, rest)) => {
             count_alternatives(step, rest) + if is_alternative(step, x) { 1 } else { 0 }
@@ -158,25 +146,17 @@ fn loses_time_alone(listed: bool, others: u16, time: u16) -> bool
     listed && time == others
 }
 
-/// A line for each alternative of a dual with so many others, and the line of the dual, if it is listed.
+/// A line for each alternative of a dual with so many others, and the line of the dual, if it is a move of the solution.
 fn add_dual_lines<'a, 'b, A: Allocator, B: Allocator, V: Values>(
     draft: &mut ReviewLines<'a, A>,
     bench: &Bench<'b, B>,
     step: &StudyMove<'_>,
-    value: Value,
     others: u8,
-    listed: bool,
     values: &mut V,
 ) -> Result<(), TextFault>
     // Many clauses: one for each group of lines, and those of the probes.
-    requires step { IsStep (marked bench.now) step.now.steps.now step.now.before.aim.now
-        step.now.before.depth step.now.line.now
-        step.now.before.position.now step.now.played }
-    requires legal { is_legal step.now.before.position.now step.now.played ≡ true }
-    requires depth { step.now.before.depth + 1 < 2 ^ 64 }
-    requires value { value ≡ value_at (marked bench.now) step.now.steps.now }
-    requires mark { mark_at (marked bench.now) step.now.steps.now ≡ Some (MoveMark.Dual others) }
-    requires listed { listed ≡ is_solution_move (marked bench.now) step.now.steps.now }
+    requires made { IsStudyMove (marked bench.now) step.now }
+    requires mark { step.now.mark.on_move ≡ Some (MoveMark.Dual others) }
     ensures also { V.source.is_honest values.old
         → OnOk result
         (Grew (AlsoLines (marked bench.now) step.now.steps.now) draft.old.nodes draft.new.nodes) }
@@ -191,70 +171,48 @@ fn add_dual_lines<'a, 'b, A: Allocator, B: Allocator, V: Values>(
     ensures asked { HasAsked (within step.now.before.position.now V.source)
         values.old result values.new }
 {
-    evaluate_legal_moves(step.before.position, values, &mut draft.told)?;
-    let time = add_alternatives(&mut draft.nodes, step, draft.told.as_slice(), values)?;
-    add_listed_dual(&mut draft.faults, step, value, (others, time), listed)?;
+    evaluate_legal_moves(step.before.position, values, &mut draft.evaluated)?;
+    let time = add_alternatives(&mut draft.nodes, step, draft.evaluated.as_slice(), values)?;
+    add_listed_dual(&mut draft.faults, step, (others, time))?;
     let alone = loses_time_alone(
-        listed,
-        count_alternatives(step, draft.told.as_slice()),
+        step.solution,
+        count_alternatives(step, draft.evaluated.as_slice()),
         time,
     );
     draft.time_faults = count_where(draft.time_faults, alone);
     Ok(())
 }
 
-/// The line of a mistake, if it is listed.
+/// The line of a mistake, if it is a move of the solution.
 fn add_listed_mistake<'b, A: Allocator, B: Allocator>(
     text: &mut Text<'_, A>,
     bench: &Bench<'b, B>,
     step: &StudyMove<'_>,
-    value: Value,
-    listed: bool,
 ) -> Result<(), AllocError>
-    requires step { IsStep (marked bench.now) step.now.steps.now step.now.before.aim.now
-        step.now.before.depth step.now.line.now
-        step.now.before.position.now step.now.played }
-    requires legal { is_legal step.now.before.position.now step.now.played ≡ true }
-    requires value { value ≡ value_at (marked bench.now) step.now.steps.now }
-    requires mark { mark_at (marked bench.now) step.now.steps.now ≡ Some MoveMark.Mistake }
-    requires listed { listed ≡ is_solution_move (marked bench.now) step.now.steps.now }
+    requires made { IsStudyMove (marked bench.now) step.now }
+    requires mark { step.now.mark.on_move ≡ Some MoveMark.Mistake }
     ensures { OnOk result
         (Grew (FaultLines (marked bench.now) step.now.steps.now) text.old text.new) }
 {
-    if !listed {
+    if !step.solution {
         return Ok(());
     }
     let x = EvaluatedMove {
         played: step.played,
-        value,
+        value: step.mark.value,
     };
     add_mistake(text, step.steps, step.before.position, &x)
 }
 
-fn on_move(mark: Mark) -> Option<MoveMark>
-    ensures { result ≡ mark.on_move }
-{
-    mark.on_move
-}
-
-/// The line of a fault, if it is listed, and a line for each alternative of a dual.
+/// The line of a fault of the solution, and a line for each alternative of a dual.
 pub fn add_move<'a, 'b, A: Allocator, B: Allocator, V: Values>(
     draft: &mut ReviewLines<'a, A>,
     bench: &Bench<'b, B>,
     step: &StudyMove<'_>,
-    mark: Mark,
-    listed: bool,
     values: &mut V,
 ) -> Result<(), TextFault>
     // Many clauses: one for each group of lines, and those of the probes.
-    requires step { IsStep (marked bench.now) step.now.steps.now step.now.before.aim.now
-        step.now.before.depth step.now.line.now
-        step.now.before.position.now step.now.played }
-    requires legal { is_legal step.now.before.position.now step.now.played ≡ true }
-    requires depth { step.now.before.depth + 1 < 2 ^ 64 }
-    requires value { mark.value ≡ value_at (marked bench.now) step.now.steps.now }
-    requires mark { mark.on_move ≡ mark_at (marked bench.now) step.now.steps.now }
-    requires listed { listed ≡ is_solution_move (marked bench.now) step.now.steps.now }
+    requires made { IsStudyMove (marked bench.now) step.now }
     ensures also { V.source.is_honest values.old
         → OnOk result
         (Grew (AlsoLines (marked bench.now) step.now.steps.now) draft.old.nodes draft.new.nodes) }
@@ -269,12 +227,10 @@ pub fn add_move<'a, 'b, A: Allocator, B: Allocator, V: Values>(
     ensures asked { HasAsked (within step.now.before.position.now V.source)
         values.old result values.new }
 {
-    match on_move(mark) {
-        Some(MoveMark::Dual(others)) => {
-            add_dual_lines(draft, bench, step, mark.value, others, listed, values)
-        }
+    match step.on_move() {
+        Some(MoveMark::Dual(others)) => add_dual_lines(draft, bench, step, others, values),
         Some(MoveMark::Mistake) => {
-            add_listed_mistake(&mut draft.faults, bench, step, mark.value, listed)?;
+            add_listed_mistake(&mut draft.faults, bench, step)?;
             Ok(())
         }
         Some(MoveMark::Only) => Ok(()),

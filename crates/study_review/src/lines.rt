@@ -3,7 +3,7 @@ ghost use Rattle.std.specs.Prelude.{◌≡◌, ◌++◌, ◌+◌, ◌<◌, ◌�
 ghost use Rattle.std.specs.List.{All, flat_map};
 ghost use Rattle.study_moves.specs.Rules.{is_legal};
 ghost use Rattle.study_facts.specs.Play.{IsPlayed, ArePlayed};
-ghost use Rattle.study_facts.specs.Words.{told_move, time_words, also_line, refuted_line, stalemate_line};
+ghost use Rattle.study_facts.specs.Words.{move_and_value, time_words, also_line, refuted_line, stalemate_line};
 ghost use Rattle.study_facts.specs.Words.{only_words, none_words, answers_words, missing_line, play_words, play_line};
 ghost use Rattle.study_facts.specs.Words.{move_words, keep_line, dual_line, mistake_line};
 ghost use Rattle.study_moves.specs.LegalList.{legal_list};
@@ -22,15 +22,15 @@ use study_text::Text;
 use study_values::Value;
 
 /// A move, and the value after it.
-#[tactic(auto, unfolding(study_facts::specs::Words::told_move))]
-fn add_told<A: Allocator>(
+#[tactic(auto, unfolding(study_facts::specs::Words::move_and_value))]
+fn add_reported<A: Allocator>(
     text: &mut Text<'_, A>,
     p: &Position,
     m: Move,
     value: Value,
 ) -> Result<(), AllocError>
     requires { is_legal p.now m ≡ true }
-    ensures { OnOk result (text.new ≡ text.old ++ told_move p.now m value) }
+    ensures { OnOk result (text.new ≡ text.old ++ move_and_value p.now m value) }
 {
     add_san(text, p, m)?;
     text.add(b" ")?;
@@ -58,7 +58,7 @@ pub fn add_also_line<A: Allocator>(
     ensures { OnOk result (text.new ≡ text.old ++ also_line steps.now p.now x.now) }
 {
     add_line_start(text, b"also ", steps)?;
-    add_told(text, p, x.played, x.value)?;
+    add_reported(text, p, x.played, x.value)?;
     add_time(text, x.time)?;
     text.add(b"\n")
 }
@@ -74,7 +74,7 @@ fn add_refuted_line<A: Allocator>(
     ensures { OnOk result (text.new ≡ text.old ++ refuted_line steps.now p.now x.now) }
 {
     add_line_start(text, b"refuted ", steps)?;
-    add_told(text, p, x.played, x.value)?;
+    add_reported(text, p, x.played, x.value)?;
     text.add(b"\n")
 }
 
@@ -83,15 +83,15 @@ pub fn add_refuted_lines<A: Allocator>(
     text: &mut Text<'_, A>,
     steps: &[u16],
     node: &NodeContext<'_>,
-    told: &[EvaluatedMove],
+    evaluated: &[EvaluatedMove],
 ) -> Result<(), AllocError>
     requires depth { node.now.depth + 1 < 2 ^ 64 }
-    requires legal { All (λ x. is_legal node.now.position.now x.played ≡ true) told.now }
+    requires legal { All (λ x. is_legal node.now.position.now x.played ≡ true) evaluated.now }
     ensures { OnOk result (text.new ≡ text.old
         ++ flat_map (refuted_line steps.now node.now.position.now)
-        (failing node.now.aim.now node.now.depth told.now)) }
+        (failing node.now.aim.now node.now.depth evaluated.now)) }
 {
-    for x in told {
+    for x in evaluated {
         if !holds(node.aim, node.depth + 1, x.value) {
             add_refuted_line(text, steps, node.position, x)?;
         }
@@ -163,7 +163,7 @@ pub fn add_missing_line<A: Allocator>(
 {
     let next = played(p, y.played);
     add_line_start(text, b"missing ", steps)?;
-    add_told(text, p, y.played, y.value)?;
+    add_reported(text, p, y.played, y.value)?;
     add_answers(text, &next, y.answers, y.only)?;
     text.add(b"\n")
 }
@@ -209,12 +209,13 @@ pub fn add_play<A: Allocator>(
 fn add_drawing_moves<A: Allocator>(
     text: &mut Text<'_, A>,
     p: &Position,
-    told: &[EvaluatedMove],
+    evaluated: &[EvaluatedMove],
 ) -> Result<(), AllocError>
-    requires { All (λ x. is_legal p.now x.played ≡ true) told.now }
-    ensures { OnOk result (text.new ≡ text.old ++ flat_map (move_words p.now) (drawing told.now)) }
+    requires { All (λ x. is_legal p.now x.played ≡ true) evaluated.now }
+    ensures { OnOk result (text.new ≡ text.old
+        ++ flat_map (move_words p.now) (drawing evaluated.now)) }
 {
-    for x in told {
+    for x in evaluated {
         if is_draw(x.value) {
             add_move(text, p, x)?;
         }
@@ -223,12 +224,12 @@ fn add_drawing_moves<A: Allocator>(
 }
 
 /// The number of these moves that keep a draw.
-fn count_drawing(told: &[EvaluatedMove]) -> u32
-    requires { length told.now < 2 ^ 32 }
-    ensures count { result ≡ length (drawing told.now) }
-    ensures few { result ≤ length told.now }
+fn count_drawing(evaluated: &[EvaluatedMove]) -> u32
+    requires { length evaluated.now < 2 ^ 32 }
+    ensures count { result ≡ length (drawing evaluated.now) }
+    ensures few { result ≤ length evaluated.now }
 {
-    match told.split_first() {
+    match evaluated.split_first() {
         None => 0,
         Some((x, rest)) => count_drawing(rest) + if is_draw(x.value) { 1 } else { 0 },
     }
@@ -240,18 +241,19 @@ pub fn add_drawing_moves_line<A: Allocator>(
     text: &mut Text<'_, A>,
     steps: &[u16],
     p: &Position,
-    told: &[EvaluatedMove],
+    evaluated: &[EvaluatedMove],
 ) -> Result<(), AllocError>
-    requires few { length told.now < 2 ^ 32 }
-    requires all { length told.now ≡ length (legal_list p.now) }
-    requires legal { All (λ x. is_legal p.now x.played ≡ true) told.now }
-    ensures { OnOk result (text.new ≡ text.old ++ keep_line steps.now p.now (drawing told.now)) }
+    requires few { length evaluated.now < 2 ^ 32 }
+    requires all { length evaluated.now ≡ length (legal_list p.now) }
+    requires legal { All (λ x. is_legal p.now x.played ≡ true) evaluated.now }
+    ensures { OnOk result (text.new ≡ text.old
+        ++ keep_line steps.now p.now (drawing evaluated.now)) }
 {
     add_line_start(text, b"keep ", steps)?;
-    text.add_number(count_drawing(told))?;
+    text.add_number(count_drawing(evaluated))?;
     text.add(b" ")?;
-    text.add_number(told.len() as u32)?;
-    add_drawing_moves(text, p, told)?;
+    text.add_number(evaluated.len() as u32)?;
+    add_drawing_moves(text, p, evaluated)?;
     text.add(b"\n")
 }
 
@@ -269,7 +271,7 @@ pub fn add_dual<A: Allocator>(
         ++ dual_line steps.now p.now x.now.played x.now.value counts.0 counts.1) }
 {
     add_line_start(text, b"fault ", steps)?;
-    add_told(text, p, x.played, x.value)?;
+    add_reported(text, p, x.played, x.value)?;
     text.add(b" dual ")?;
     text.add_number(counts.0 as u32)?;
     text.add(b" time ")?;
@@ -290,6 +292,6 @@ pub fn add_mistake<A: Allocator>(
         ++ mistake_line steps.now p.now x.now.played x.now.value) }
 {
     add_line_start(text, b"fault ", steps)?;
-    add_told(text, p, x.played, x.value)?;
+    add_reported(text, p, x.played, x.value)?;
     text.add(b" mistake\n")
 }

@@ -8,7 +8,7 @@ ghost use Rattle.study_values.specs.declared.value.Value.{Value as AValue};
 ghost use Rattle.study_facts.specs.Asked.{within};
 ghost use Rattle.study_facts.specs.Continuations.{AreChosen};
 ghost use Rattle.study_facts.specs.Made.{HasAsked};
-ghost use Rattle.study_review.specs.NodeFacts.{AreTold};
+ghost use Rattle.study_review.specs.NodeFacts.{AreReported};
 
 use std::alloc::Allocator;
 use study_board::Position;
@@ -24,7 +24,7 @@ pub fn value_of<V: Values>(q: &Position, values: &mut V) -> Result<Value, TextFa
     // (the clauses of `men` say that the position is valid)
     let _men = q.men();
     match values.value(q) {
-        Err(fault) => Err(TextFault::Untold(fault)),
+        Err(fault) => Err(TextFault::NoValue(fault)),
         Ok(value) => Ok(value),
     }
 }
@@ -34,20 +34,21 @@ fn push_evaluated<'a, A: Allocator, V: Values>(
     p: &Position,
     m: &Move,
     values: &mut V,
-    told: &mut Vec<EvaluatedMove, &'a A>,
+    evaluated: &mut Vec<EvaluatedMove, &'a A>,
 ) -> Result<(), TextFault>
     requires { is_legal p.now m.now ≡ true }
     ensures game { V.source.is_honest values.old
         → OnOk result ((v : AValue) × IsValueOf (after p.now m.now) v
-        × (told.new.items ≡ told.old.items ++ (record { played = m.now; value = v }) ∷ [])) }
-    ensures legal { All (λ x. is_legal p.now x.played ≡ true) told.old.items
-        → OnOk result (All (λ x. is_legal p.now x.played ≡ true) told.new.items) }
-    ensures len { OnOk result (vec_len told.new ≡ vec_len told.old + 1) }
+        × (evaluated.new.items ≡ evaluated.old.items
+        ++ (record { played = m.now; value = v }) ∷ [])) }
+    ensures legal { All (λ x. is_legal p.now x.played ≡ true) evaluated.old.items
+        → OnOk result (All (λ x. is_legal p.now x.played ≡ true) evaluated.new.items) }
+    ensures len { OnOk result (vec_len evaluated.new ≡ vec_len evaluated.old + 1) }
     ensures asked { HasAsked (within p.now V.source) values.old result values.new }
 {
     let next = played(p, *m);
     let value = value_of(&next, values)?;
-    told.push(EvaluatedMove { played: *m, value })?;
+    evaluated.push(EvaluatedMove { played: *m, value })?;
     Ok(())
 }
 
@@ -56,21 +57,21 @@ fn evaluate_moves<'a, A: Allocator, V: Values>(
     p: &Position,
     moves: &[Move],
     values: &mut V,
-    told: &mut Vec<EvaluatedMove, &'a A>,
+    evaluated: &mut Vec<EvaluatedMove, &'a A>,
 ) -> Result<(), TextFault>
     requires moves { All (λ m. is_legal p.now m ≡ true) moves.now }
-    requires legal { All (λ x. is_legal p.now x.played ≡ true) told.old.items }
+    requires legal { All (λ x. is_legal p.now x.played ≡ true) evaluated.old.items }
     ensures game { V.source.is_honest values.old
-        → OnOk result (AreTold p.now moves.now told.old.items told.new.items) }
-    ensures legal { OnOk result (All (λ x. is_legal p.now x.played ≡ true) told.new.items) }
-    ensures len { OnOk result (vec_len told.new ≡ vec_len told.old + length moves.now) }
+        → OnOk result (AreReported p.now moves.now evaluated.old.items evaluated.new.items) }
+    ensures legal { OnOk result (All (λ x. is_legal p.now x.played ≡ true) evaluated.new.items) }
+    ensures len { OnOk result (vec_len evaluated.new ≡ vec_len evaluated.old + length moves.now) }
     ensures asked { HasAsked (within p.now V.source) values.old result values.new }
 {
     match moves.split_first() {
         None => Ok(()),
         Some((m, rest)) => {
-            push_evaluated(p, m, values, told)?;
-            evaluate_moves(p, rest, values, told)
+            push_evaluated(p, m, values, evaluated)?;
+            evaluate_moves(p, rest, values, evaluated)
         }
     }
 }
@@ -79,16 +80,16 @@ fn evaluate_moves<'a, A: Allocator, V: Values>(
 pub fn evaluate_legal_moves<'a, A: Allocator, V: Values>(
     p: &Position,
     values: &mut V,
-    told: &mut Vec<EvaluatedMove, &'a A>,
+    evaluated: &mut Vec<EvaluatedMove, &'a A>,
 ) -> Result<(), TextFault>
     ensures game { V.source.is_honest values.old
-        → OnOk result (AreChosen (λ v. true) p.now (legal_list p.now) told.new.items) }
-    ensures legal { OnOk result (All (λ x. is_legal p.now x.played ≡ true) told.new.items) }
-    ensures all { OnOk result (length told.new.items ≡ length (legal_list p.now)) }
-    ensures few { OnOk result (length told.new.items ≤ MAX_MOVES) }
+        → OnOk result (AreChosen (λ v. true) p.now (legal_list p.now) evaluated.new.items) }
+    ensures legal { OnOk result (All (λ x. is_legal p.now x.played ≡ true) evaluated.new.items) }
+    ensures all { OnOk result (length evaluated.new.items ≡ length (legal_list p.now)) }
+    ensures few { OnOk result (length evaluated.new.items ≤ MAX_MOVES) }
     ensures asked { HasAsked (within p.now V.source) values.old result values.new }
 {
-    told.clear();
+    evaluated.clear();
     let moves = legal_moves(p);
-    evaluate_moves(p, moves.as_slice(), values, told)
+    evaluate_moves(p, moves.as_slice(), values, evaluated)
 }

@@ -7,14 +7,14 @@ ghost use Rattle.study_facts.specs.Nodes.{FaultLines, NodeLines};
 ghost use Rattle.study_facts.specs.Order.{LinesOfEach, AreTimeFaults, written_order};
 ghost use Rattle.study_facts.specs.TimeFaults.{IsTimeFault};
 
-use crate::fault_lines::{StudyMove, add_move};
-use crate::node_lines::{ReviewNode, add_here};
+use crate::fault_lines::add_move;
+use crate::node_lines::add_here;
 use std::alloc::Allocator;
 use study_facts::{
-    EvaluatedMove, Findings, NodeContext, TextFault, WalkState, WalkStep, is_solution_move, is_try,
-    value_at, walk_study,
+    EvaluatedMove, Findings, TextFault, WalkState, WalkStep, move_of, node_after, root_node,
+    walk_study,
 };
-use study_marks::{Aim, Bench, hero_moves};
+use study_marks::{Aim, Bench};
 use study_text::Text;
 use study_values::Values;
 
@@ -25,7 +25,7 @@ pub struct ReviewLines<'a, A: Allocator> {
     pub faults: Text<'a, A>,
     pub time_faults: u32,
     pub nodes: Text<'a, A>,
-    pub told: Vec<EvaluatedMove, &'a A>,
+    pub evaluated: Vec<EvaluatedMove, &'a A>,
 }
 
 impl<'a, A: Allocator> ReviewLines<'a, A> {
@@ -40,7 +40,7 @@ impl<'a, A: Allocator> ReviewLines<'a, A> {
             faults: Text::new(alloc),
             time_faults: 0,
             nodes: Text::new(alloc),
-            told: Vec::new(alloc),
+            evaluated: Vec::new(alloc),
         }
     }
 }
@@ -62,24 +62,14 @@ impl<'a, A: Allocator> Findings for ReviewLines<'a, A> {
         root: &WalkState,
         values: &mut V,
     ) -> Result<(), TextFault> {
-        let here = ReviewNode {
-            node: NodeContext {
-                aim,
-                depth: 0,
-                position: &root.position,
-            },
-            steps: &[],
-            value: value_at(bench, &[]),
-            children: root.children,
-            solution: true,
-            tried: false,
-        };
+        let first = bench.start();
+        let here = root_node(bench, aim, root);
         add_here(
             self.alloc,
             &mut self.nodes,
             bench,
             &here,
-            &mut self.told,
+            &mut self.evaluated,
             values,
         )
     }
@@ -91,38 +81,15 @@ impl<'a, A: Allocator> Findings for ReviewLines<'a, A> {
         values: &mut V,
     ) -> Result<(), TextFault> {
         let first = bench.start();
-        let depth = step.steps.len();
-        let made = hero_moves(step.aim, depth - 1);
-        let moved = StudyMove {
-            before: NodeContext {
-                aim: step.aim,
-                depth: depth - 1,
-                position: &step.before.position,
-            },
-            line: step.line,
-            steps: step.steps,
-            played: step.by.played,
-        };
-        let listed = is_solution_move(made, step.here);
-        add_move(self, bench, &moved, step.by.mark, listed, values)?;
-        let here = ReviewNode {
-            node: NodeContext {
-                aim: step.aim,
-                depth,
-                position: &step.here.position,
-            },
-            steps: step.steps,
-            value: step.by.mark.value,
-            children: step.by.children,
-            solution: step.here.solution,
-            tried: is_try(made, step.by.mark.on_move, step.before),
-        };
+        let made = move_of(bench, step);
+        add_move(self, bench, &made, values)?;
+        let here = node_after(bench, step);
         add_here(
             self.alloc,
             &mut self.nodes,
             bench,
             &here,
-            &mut self.told,
+            &mut self.evaluated,
             values,
         )
     }

@@ -193,7 +193,7 @@ pub fn write_review<'a, 'b, A: Allocator, B: Allocator, V: Values, W: Write>(
         → (text : List ℕ) × IsReview (marked bench.now) number text
         × TakesPrefix (W.contents out.old) (W.contents out.new) text }
     ensures memory { result ≡ Err ReviewFault.OutOfMemory → out.new ≡ out.old }
-    ensures untold { (fault : AProbeFault)
+    ensures no_value { (fault : AProbeFault)
         → result ≡ Err (ReviewFault.Values fault) → out.new ≡ out.old }
     ensures asked { HasReviewed (within (marked bench.now).start.position V.source)
         values.old result values.new }

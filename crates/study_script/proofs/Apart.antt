@@ -28,13 +28,15 @@ answered-apart s line H K old new was f (o, reply, is, wrote, held, same) = (
 -- the state after the document was emptied, or was not
 module _ {S P A : Type 0} (source_honest : P → Table → ℕ → Type 0) (source_gives : GivesOf P) (store_honest : S → Bool → Type 0)
     (files headers : Known S) (faults : S → Class → SourceFault → Bool) where
-  pub holds-cleared : (b c : HeldDocument A) (t : Tables P A) (store : S) (s : State) (clears : Bool) → (clears ≡ true → c ≡ held.Empty) → (clears ≡ false → c ≡ b)
+  pub holds-cleared : (b c : HeldDocument A) (t : Tables P A) (store : S) (s : State) (clears : Bool) → (clears ≡ true → c ≡ held.Empty)
+      → (clears ≡ false → c ≡ b)
       → SessionHolds source_honest source_gives store_honest files headers faults b t store s
       → SessionHolds source_honest source_gives store_honest files headers faults c t store (emptied clears s)
   holds-cleared b c t store s false f g h =
       subst (λ (x : HeldDocument A). SessionHolds source_honest source_gives store_honest files headers faults x t store s) (sym (g refl)) h
   holds-cleared b c t store s true f g h =
-      subst (λ (x : HeldDocument A). SessionHolds source_honest source_gives store_honest files headers faults x t store (emptied true s)) (sym (f refl)) (record {
+      subst (λ (x : HeldDocument A). SessionHolds source_honest source_gives store_honest files headers faults x t store (emptied true s)) (sym (f refl))
+      (record {
         held =
             record {
               document = refl;

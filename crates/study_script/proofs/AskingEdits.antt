@@ -43,25 +43,25 @@ pub refused_outside : (A : Type 0) (s : State) (held : Class → Bool) (paged : 
     → paged ≡ s.paged → IsOutside held asked refusal → HasNoDeviceFault paged refusal → IsUndamaged refusal
     → IsFailingTable (λ c f. s.shelf.faults c f ≡ true) asked refusal
     → (o : Environment) × IsProbingEditWithMemory s o asked new text (refused_as s (edit_words refusal))
-refused_outside A s held paged asked new text edit.OutOfMemory e m out told clean failing = (no_room, refl)
-refused_outside A s held paged asked new text (edit.NoTable c) e m out told clean failing = (
+refused_outside A s held paged asked new text edit.OutOfMemory e m out reported clean failing = (no_room, refl)
+refused_outside A s held paged asked new text (edit.NoTable c) e m out reported clean failing = (
   quiet,
   missing c (missing-same held (is_among s.classes) asked c
       e out) refl,
 )
-refused_outside A s held paged asked new text (edit.TableRead (probe.TableRead x)) e m out told clean failing =
-    (unread (probe.TableRead x), (sym m ∙ told, unread-same held (is_among s.classes) asked (probe.TableRead x) e out, failing, refl))
-refused_outside A s held paged asked new text (edit.TableRead (probe.PageDamaged c n)) e m out told clean failing = absurd clean
-refused_outside A s held paged asked new text (edit.TableRead (probe.NoTable c)) e m out told clean failing = absurd (missing-unread held asked c out)
-refused_outside A s held paged asked new text edit.NoSuchNode e m out told clean failing = absurd out
-refused_outside A s held paged asked new text edit.RootNotAllowed e m out told clean failing = absurd out
-refused_outside A s held paged asked new text edit.AlreadyFirst e m out told clean failing = absurd out
-refused_outside A s held paged asked new text edit.IllegalMove e m out told clean failing = absurd out
-refused_outside A s held paged asked new text (edit.AlreadyThere k) e m out told clean failing = absurd out
-refused_outside A s held paged asked new text edit.TooDeep e m out told clean failing = absurd out
-refused_outside A s held paged asked new text edit.TreeFull e m out told clean failing = absurd out
-refused_outside A s held paged asked new text (edit.ShiftBroken steps) e m out told clean failing = absurd out
-refused_outside A s held paged asked new text edit.TagText e m out told clean failing = absurd out
+refused_outside A s held paged asked new text (edit.TableRead (probe.TableRead x)) e m out reported clean failing =
+    (unread (probe.TableRead x), (sym m ∙ reported, unread-same held (is_among s.classes) asked (probe.TableRead x) e out, failing, refl))
+refused_outside A s held paged asked new text (edit.TableRead (probe.PageDamaged c n)) e m out reported clean failing = absurd clean
+refused_outside A s held paged asked new text (edit.TableRead (probe.NoTable c)) e m out reported clean failing = absurd (missing-unread held asked c out)
+refused_outside A s held paged asked new text edit.NoSuchNode e m out reported clean failing = absurd out
+refused_outside A s held paged asked new text edit.RootNotAllowed e m out reported clean failing = absurd out
+refused_outside A s held paged asked new text edit.AlreadyFirst e m out reported clean failing = absurd out
+refused_outside A s held paged asked new text edit.IllegalMove e m out reported clean failing = absurd out
+refused_outside A s held paged asked new text (edit.AlreadyThere k) e m out reported clean failing = absurd out
+refused_outside A s held paged asked new text edit.TooDeep e m out reported clean failing = absurd out
+refused_outside A s held paged asked new text edit.TreeFull e m out reported clean failing = absurd out
+refused_outside A s held paged asked new text (edit.ShiftBroken steps) e m out reported clean failing = absurd out
+refused_outside A s held paged asked new text edit.TagText e m out reported clean failing = absurd out
 
 -- the same for an edit that takes no memory
 pub refused_asking : (A : Type 0) (s : State) (held : Class → Bool) (paged : Bool) (asked : List Position)
@@ -69,22 +69,23 @@ pub refused_asking : (A : Type 0) (s : State) (held : Class → Bool) (paged : B
     → paged ≡ s.paged → IsOutside held asked refusal → HasNoDeviceFault paged refusal → IsUndamaged refusal → is_of_tables refusal ≡ true
     → IsFailingTable (λ c f. s.shelf.faults c f ≡ true) asked refusal
     → (o : Environment) × IsProbingEdit s o asked new text (refused_as s (edit_words refusal))
-refused_asking A s held paged asked new text edit.OutOfMemory e m out told clean of_tables failing = let absent : ⊥ = cc in absurd absent
-refused_asking A s held paged asked new text (edit.NoTable c) e m out told clean of_tables failing =
+refused_asking A s held paged asked new text edit.OutOfMemory e m out reported clean of_tables failing = let absent : ⊥ = cc in absurd absent
+refused_asking A s held paged asked new text (edit.NoTable c) e m out reported clean of_tables failing =
     (quiet, missing c (missing-same held (is_among s.classes) asked c e out) refl)
-refused_asking A s held paged asked new text (edit.TableRead (probe.TableRead x)) e m out told clean of_tables failing =
-    (unread (probe.TableRead x), (sym m ∙ told, unread-same held (is_among s.classes) asked (probe.TableRead x) e out, failing, refl))
-refused_asking A s held paged asked new text (edit.TableRead (probe.PageDamaged c n)) e m out told clean of_tables failing = absurd clean
-refused_asking A s held paged asked new text (edit.TableRead (probe.NoTable c)) e m out told clean of_tables failing = absurd (missing-unread held asked c out)
-refused_asking A s held paged asked new text edit.NoSuchNode e m out told clean of_tables failing = absurd out
-refused_asking A s held paged asked new text edit.RootNotAllowed e m out told clean of_tables failing = absurd out
-refused_asking A s held paged asked new text edit.AlreadyFirst e m out told clean of_tables failing = absurd out
-refused_asking A s held paged asked new text edit.IllegalMove e m out told clean of_tables failing = absurd out
-refused_asking A s held paged asked new text (edit.AlreadyThere k) e m out told clean of_tables failing = absurd out
-refused_asking A s held paged asked new text edit.TooDeep e m out told clean of_tables failing = absurd out
-refused_asking A s held paged asked new text edit.TreeFull e m out told clean of_tables failing = absurd out
-refused_asking A s held paged asked new text (edit.ShiftBroken steps) e m out told clean of_tables failing = absurd out
-refused_asking A s held paged asked new text edit.TagText e m out told clean of_tables failing = absurd out
+refused_asking A s held paged asked new text (edit.TableRead (probe.TableRead x)) e m out reported clean of_tables failing =
+    (unread (probe.TableRead x), (sym m ∙ reported, unread-same held (is_among s.classes) asked (probe.TableRead x) e out, failing, refl))
+refused_asking A s held paged asked new text (edit.TableRead (probe.PageDamaged c n)) e m out reported clean of_tables failing = absurd clean
+refused_asking A s held paged asked new text (edit.TableRead (probe.NoTable c)) e m out reported clean of_tables
+    failing = absurd (missing-unread held asked c out)
+refused_asking A s held paged asked new text edit.NoSuchNode e m out reported clean of_tables failing = absurd out
+refused_asking A s held paged asked new text edit.RootNotAllowed e m out reported clean of_tables failing = absurd out
+refused_asking A s held paged asked new text edit.AlreadyFirst e m out reported clean of_tables failing = absurd out
+refused_asking A s held paged asked new text edit.IllegalMove e m out reported clean of_tables failing = absurd out
+refused_asking A s held paged asked new text (edit.AlreadyThere k) e m out reported clean of_tables failing = absurd out
+refused_asking A s held paged asked new text edit.TooDeep e m out reported clean of_tables failing = absurd out
+refused_asking A s held paged asked new text edit.TreeFull e m out reported clean of_tables failing = absurd out
+refused_asking A s held paged asked new text (edit.ShiftBroken steps) e m out reported clean of_tables failing = absurd out
+refused_asking A s held paged asked new text edit.TagText e m out reported clean of_tables failing = absurd out
 
 -- an accepted edit found all tables that it probed
 pub accepted_outside : (s : State) (held : Class → Bool) (asked : List Position) (new : PlainStudy) (text : List ℕ)

@@ -1,8 +1,6 @@
 -- The outcome of each command of a class gives its reply.
 use Rattle.std.proofs.Common.{◌≡◌, ◌⊎◌, ℕ, Bool, true, false, eqb, List, Option, Some, None, Result, Ok, Err, refl, sym, ap, subst, ◌∙◌, inl, inr, is_some}
-use Rattle.std.specs.Prelude.{◌&&◌, is_err, IfOk, IfSome, OnOk, OnErr}
-use Rattle.std.specs.Io.KnownBytes.{Appends}
-use Rattle.study_text.specs.Taken.{TakesPrefix}
+use Rattle.std.specs.Prelude.{◌&&◌, IfSome}
 use Rattle.study_prober.specs.PagedTables.{Paged}
 use Rattle.study_script.specs.declared.tables.Tables.{Tables}
 use Rattle.study_script.specs.declared.tables.Tables.TheVariants as held
@@ -11,7 +9,6 @@ use Rattle.study_command.specs.declared.command.TableCommand.TheVariants.{Build,
 use Rattle.study_material.specs.declared.class.Class.{Class}
 use Rattle.study_material.specs.Needs.{needs_of}
 use Rattle.study_prober.specs.Sources.{GivesOf}
-use Rattle.study_values.specs.declared.fault.SourceFault.{SourceFault}
 use Rattle.study_material.specs.Class.{class_number}
 use Rattle.study_table.specs.Table.{Table, IsComplete, table_of}
 use Rattle.study_table.specs.TableSet.{first_missing}
@@ -32,11 +29,11 @@ use Rattle.study_script.specs.State.{State, is_among, first_lacking, written_ane
 use Rattle.study_script.specs.State.{Environment, quiet, no_room, no_room_for, unopened, cut_off, file}
 use Rattle.study_script.specs.Replies.{Reply, refused, refused_as, with_class, built, too_far, IsBuildReply}
 use Rattle.study_script.specs.Replies.{IsLoadReply, IsNamedReply, IsTableReply, IsClassReply, IsClassReplyIn, IsOpenReply, IsLoadIn}
-use Rattle.study_script.specs.Replies.{class_told, needs_whole_tables, save_reply, verify_reply}
+use Rattle.study_script.specs.Replies.{class_parsed, needs_whole_tables, save_reply, verify_reply}
 use Rattle.study_reply.specs.Names.{words_of}
 use Rattle.study_script.specs.Stores.{IsRightFile, GivesBytes, IsTrustedClass}
 use Rattle.study_script.specs.Decided.{decided_reply, Decided, HoldsWhole, HoldsPaged, WholeFrom, IsFileRefusal}
-use Rattle.study_script.specs.SessionHolds.{HoldsTables, TablesFrom, Answered, BrokenOff}
+use Rattle.study_script.specs.SessionHolds.{HoldsTables, TablesFrom}
 use Rattle.study_script.proofs.HeldTables.{lacking, whole_kept}
 
 -- the knowledge of the class before a command
@@ -87,9 +84,9 @@ module _ (w : Whole) (s : State) (h : HoldsWhole w s) (c : Class) where
       → Decided (λ o reply. reply ≡ verify_reply s c (is_among s.classes c)) (WholeFrom s w) (Err (NoTable c))
   verify_none e = (quiet, s, rw (among false e) refl, whole_kept w s h)
 
-  pub verify_told : (b : Bool) → is_some (table_of w.tables c) ≡ true → b ≡ true
+  pub verify_reported : (b : Bool) → is_some (table_of w.tables c) ≡ true → b ≡ true
       → Decided (λ o reply. reply ≡ verify_reply s c (is_among s.classes c)) (WholeFrom s w) (Ok (Verified c b))
-  verify_told b e right = (quiet, s, rw (among true e, right) refl, whole_kept w s h)
+  verify_reported b e right = (quiet, s, rw (among true e, right) refl, whole_kept w s h)
 
   -- ---- `load` of a file from front to back
 
@@ -200,7 +197,7 @@ module _ {P A : Type 0} where
 
 -- whole tables accept any command
 pub asked_whole : (s : State) (o : Environment) (word : TableCommand) (name : List ℕ) (reply : Reply) → false ≡ s.paged
-    → IsNamedReply s o word (class_told name) reply → IsClassReply s o word name reply
+    → IsNamedReply s o word (class_parsed name) reply → IsClassReply s o word name reply
 asked_whole s o word name reply e h = subst (λ b. IsClassReplyIn s o word name b reply) (sym (by_word word s.paged e)) h
   where
     by_word : (w : TableCommand) (p : Bool) → false ≡ p → needs_whole_tables w && p ≡ false
@@ -217,24 +214,25 @@ refused_paged s word name e (inr (inl k)) = subst (λ w. IsClassReply s quiet w 
 refused_paged s word name e (inr (inr k)) = subst (λ w. IsClassReply s quiet w name (refused s PagedMode)) (sym k) (rw (← e) refl)
 
 -- a word that is not the name of a class
-pub not_named : (s : State) (o : Environment) (word : TableCommand) (name : List ℕ) → class_told name ≡ None
-    → IsNamedReply s o word (class_told name) (refused s NotAClass)
+pub not_named : (s : State) (o : Environment) (word : TableCommand) (name : List ℕ) → class_parsed name ≡ None
+    → IsNamedReply s o word (class_parsed name) (refused s NotAClass)
 not_named s o word name e = rw e refl
 
 pub named_as : (s : State) (o : Environment) (word : TableCommand) (name : List ℕ) (c : Class) (reply : Reply)
-    → class_told name ≡ Some c → IsTableReply s o word c reply → IsNamedReply s o word (class_told name) reply
+    → class_parsed name ≡ Some c → IsTableReply s o word c reply → IsNamedReply s o word (class_parsed name) reply
 named_as s o word name c reply e i = rw e i
 
 -- ---- an outcome, by a weaker property
 
-pub decided_weaker : (I J : Environment → Reply → Type 0) (H K : State → Type 0) (told : Result TableReply Refusal)
-    → ((o : Environment) (r : Reply) → I o r → J o r) → ((t : State) → H t → K t) → Decided I H told → Decided J K told
-decided_weaker I J H K told f g (o, t, is, holds) = (o, t, f o (decided_reply t told) is, g t holds)
+pub decided_weaker : (I J : Environment → Reply → Type 0) (H K : State → Type 0) (reported : Result TableReply Refusal)
+    → ((o : Environment) (r : Reply) → I o r → J o r) → ((t : State) → H t → K t) → Decided I H reported → Decided J K reported
+decided_weaker I J H K reported f g (o, t, is, holds) = (o, t, f o (decided_reply t reported) is, g t holds)
 
 -- ---- the answers of a file and its source
 
 -- a reader of an honest store returns its known bytes
-pub reader_tells : (told : Option (List ℕ)) → IsRightFile told → (bytes : List ℕ) × (told ≡ Some bytes) × ((t : Table) → table_read bytes ≡ Ok t → IsRight t)
+pub reader_tells : (reported : Option (List ℕ)) → IsRightFile reported → (bytes : List ℕ) × (reported ≡ Some bytes)
+    × ((t : Table) → table_read bytes ≡ Ok t → IsRight t)
 reader_tells None h = absurd h
 reader_tells (Some bytes) h = (bytes, refl, h)
 
@@ -255,9 +253,9 @@ unfolding words_of
 file_words fault refusal = (λ e. rw e refl, λ e. rw e refl)
 
 -- why no table was read
-pub file_refusal : (known : Option (Result (List ℕ) StoreFault)) (told : Option (List ℕ)) (fault : FileFault)
-    (refusal : Refusal) → IsRightFile told → GivesBytes known told
-    → ((bytes : List ℕ) → told ≡ Some bytes → (fault ≡ file_fault.Device)
+pub file_refusal : (known : Option (Result (List ℕ) StoreFault)) (reported : Option (List ℕ)) (fault : FileFault)
+    (refusal : Refusal) → IsRightFile reported → GivesBytes known reported
+    → ((bytes : List ℕ) → reported ≡ Some bytes → (fault ≡ file_fault.Device)
     ⊎ (((fault ≡ file_fault.OutOfMemory) × HasHeader bytes) ⊎ (table_read bytes ≡ Err fault)))
     → words_of refusal ≡ words_of (File fault) → IsFileRefusal known refusal
 file_refusal known None fault refusal right given why same = absurd right
@@ -273,14 +271,15 @@ pub memory_words : (fault : FileFault) → fault ≡ file_fault.OutOfMemory → 
 memory_words fault e = sym ((file_words fault OutOfMemory).1 e)
 
 -- a class that a line loads is trusted
-pub trust_of : (trusted : Class → Bool) (word : TableCommand) (name : List ℕ) (c : Class) → word ≡ Load → class_told name ≡ Some c
+pub trust_of : (trusted : Class → Bool) (word : TableCommand) (name : List ℕ) (c : Class) → word ≡ Load → class_parsed name ≡ Some c
     → IsTrustedClass trusted word name → trusted c ≡ true
-trust_of trusted word name c is told may =
-    subst (λ (o : Option Class). IfSome o (λ k. trusted k ≡ true)) told (subst (λ (w : TableCommand). IsTrustedClass trusted w name) is may)
+trust_of trusted word name c is reported may =
+    subst (λ (o : Option Class). IfSome o (λ k. trusted k ≡ true)) reported (subst (λ (w : TableCommand). IsTrustedClass trusted w name) is may)
 
-pub open_as : (s : State) (o : Environment) (name : List ℕ) (c : Class) (r : Reply) → class_told name ≡ Some c → true ≡ s.paged
+pub open_as : (s : State) (o : Environment) (name : List ℕ) (c : Class) (r : Reply) → class_parsed name ≡ Some c → true ≡ s.paged
     → IsOpenReply s o c (is_among s.classes c) r → IsClassReply s o Load name r
-open_as s o name c r told paged i = subst (λ (x : Option Class). IsNamedReply s o Load x r) (sym told) (subst (λ (b : Bool). IsLoadIn s o b c r) paged i)
+open_as s o name c r reported paged i = subst (λ (x : Option Class). IsNamedReply s o Load x r) (sym reported)
+    (subst (λ (b : Bool). IsLoadIn s o b c r) paged i)
 
 pub load_as : (s : State) (o : Environment) (c : Class) (r : Reply) → false ≡ s.paged
     → IsLoadReply s o c (is_among s.classes c) (first_lacking s.classes c) r → IsTableReply s o Load c r

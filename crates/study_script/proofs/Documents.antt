@@ -1,8 +1,6 @@
 -- The state after a reply, by the document.
-use Rattle.std.proofs.Common.{◌≡◌, ℕ, Bool, false, List, Option, Result, Ok, Err, refl, sym, ap, subst, ◌∙◌}
-use Rattle.std.specs.Prelude.{IfOk, OnOk, OnErr}
-use Rattle.std.specs.Io.KnownBytes.{Appends}
-use Rattle.study_text.specs.Taken.{TakesPrefix}
+use Rattle.std.proofs.Common.{◌≡◌, ℕ, Result, Ok, Err, refl, sym, ap, subst, ◌∙◌}
+use Rattle.std.specs.Prelude.{OnOk}
 use Rattle.study_material.specs.declared.class.Class.{Class}
 use Rattle.study_prober.specs.Sources.{GivesOf}
 use Rattle.study_values.specs.declared.fault.SourceFault.{SourceFault}
@@ -14,9 +12,9 @@ use Rattle.study_marks.specs.Edits.{PlainStudy}
 use Rattle.study_script.specs.declared.tables.Tables.{Tables}
 use Rattle.study_script.specs.declared.document.Document.{Document as HeldDocument}
 use Rattle.study_script.specs.declared.document.Document.TheVariants as held
-use Rattle.study_script.specs.State.{State, start, study, Environment}
-use Rattle.study_script.specs.Replies.{Reply, accepted, holding}
-use Rattle.study_script.specs.SessionHolds.{document_seen, Holds, tables_honest, tables_held, tables_may_fail, are_paged, Answered, BrokenOff}
+use Rattle.study_script.specs.State.{State, start, study}
+use Rattle.study_script.specs.Replies.{holding}
+use Rattle.study_script.specs.SessionHolds.{document_seen, Holds, tables_honest, tables_held, tables_may_fail, are_paged}
 
 module _ {P A : Type 0} where
   -- the state, if the document is known

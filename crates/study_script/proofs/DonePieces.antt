@@ -1,6 +1,6 @@
 -- The reply to a command is a piece of a run's output.
-use Rattle.std.proofs.Common.{◌≡◌, ◌⊎◌, ℕ, ◌+◌, ◌*◌, Bool, true, false, List, [], ◌∷◌, ◌++◌, length, take, Option, Some, None, Result, Ok, Err, refl}
-use Rattle.std.proofs.Common.{inl, inr, sym, ap, subst, ◌∙◌}
+use Rattle.std.proofs.Common.{◌≡◌, ℕ, ◌+◌, ◌*◌, Bool, true, false, List, [], ◌∷◌, ◌++◌, length, take, Option, Some, None, Result, Ok, Err, refl}
+use Rattle.std.proofs.Common.{inl, inr, sym, subst}
 use Rattle.std.specs.Prelude.{codes, decimal, is_err, if◌then◌else◌, IfOk, OnOk, OnErr}
 use Rattle.std.specs.List.{list_any}
 use Rattle.std.specs.Str.{bytes_eq}
@@ -27,7 +27,7 @@ use Rattle.study_values.specs.Size.{pages_of}
 use Rattle.study_tree.specs.Paths.{path_text}
 use Rattle.study_marks.specs.Study.{tag_name}
 use Rattle.study_marks.specs.Marks.{value_words, on_move_text}
-use Rattle.study_script.specs.Written.{Piece, fronts, error_of, IsDone, IsPieceWhere, IsPiece, IsWritten, IsCutOff}
+use Rattle.study_script.specs.Written.{Piece, fronts, IsDone, IsPieceWhere, IsWritten, IsCutOff}
 
 -- ---- replies to successful commands
 
@@ -52,7 +52,7 @@ solve-done : (plies : Option ℕ) → IsDone (solve_text plies)
 solve-done None = done-as (codes "solve ") _ refl refl refl
 solve-done (Some plies) = done-as (codes "solve ") _ refl refl (line-ends (codes "solve plies ") (decimal plies))
 
-table-done : (told : TableReply) → IsDone (table_text told)
+table-done : (reported : TableReply) → IsDone (table_text reported)
 table-done (Built c win) = done-as (codes "built ") _ refl refl (behind4 (codes "built ") (name_of c) (codes " cells ") (decimal (cells_of c))
     (reply_line (codes " win ") (win_text win)) (line-ends (codes " win ") (win_text win)))
 table-done (Loaded c) = done-as (codes "loaded ") _ refl refl (behind2 (codes "loaded ") (name_of c)
@@ -79,7 +79,7 @@ module _ {A : Type 0} where
   reply-done (done.Fen start) = done-as (codes "fen ") _ refl refl (line-ends (codes "fen ") (fen_text start))
   reply-done (done.Solved plies) = solve-done plies
   reply-done (done.Pgn game) = done-as (codes "[Event \"") _ refl game.begun game.ended
-  reply-done (done.Table told) = table-done told
+  reply-done (done.Table reported) = table-done reported
 
   -- ---- the output for a command
 

@@ -10,7 +10,7 @@ use Rattle.study_command.specs.declared.command.FenCommand.TheVariants.{Position
 use Rattle.study_command.specs.declared.command.TableCommand.TheVariants.{Build}
 use Rattle.study_command.specs.declared.command.SyntaxFault.TheVariants.{BadByte, UnknownCommand, BadArguments, UnknownStipulation, UnknownTag}
 use Rattle.study_command.specs.Lines.{script_lines}
-use Rattle.study_command.specs.Paths.{place_told, is_path, is_path_word, steps_of}
+use Rattle.study_command.specs.Paths.{place_parsed, is_path, is_path_word, steps_of}
 use Rattle.study_command.specs.Parser.{Asks, fen_command, table_command, stipulate, insert, tag, solve, trimmed, word_asked, word_of, command_of}
 
 -- ---- lines
@@ -81,11 +81,11 @@ unfolding command_of words behind_word word_of word_asked is_path_word is_path s
 of_insert = refl
 
 of_mate : ◌≡◌ {A = Asks} (command_of (codes "stipulate black mate 001")) (Ok (Some (stipulate (record { hero = Black; goal = MateIn 1 }))))
-unfolding command_of words behind_word word_of word_asked place_told
+unfolding command_of words behind_word word_of word_asked place_parsed
 of_mate = refl
 
 no_mate : ◌≡◌ {A = Asks} (command_of (codes "stipulate white mate 128")) (Err UnknownStipulation)
-unfolding command_of words behind_word word_of word_asked place_told
+unfolding command_of words behind_word word_of word_asked place_parsed
 no_mate = refl
 
 no_goal : ◌≡◌ {A = Asks} (command_of (codes "stipulate")) (Err UnknownStipulation)

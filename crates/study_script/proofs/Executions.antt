@@ -22,9 +22,9 @@ module _ {A : Type 0} {I J : Environment → Reply → Type 0} {H K : State → 
   executed_weaker answer f g (o, t, is, holds) = (o, t, f o (reply_of t answer) is, g t holds)
 
   -- the environment is described differently
-  pub executed_told : (answer : Result (Done A) (LineRefusal A)) → ((o : Environment) (r : Reply) → I o r → (p : Environment) × J p r)
+  pub executed_reported : (answer : Result (Done A) (LineRefusal A)) → ((o : Environment) (r : Reply) → I o r → (p : Environment) × J p r)
       → ((t : State) → H t → K t) → Executed I H answer → Executed J K answer
-  executed_told answer f g (o, t, is, holds) = let j = f o (reply_of t answer) is in (j.0, t, j.1, g t holds)
+  executed_reported answer f g (o, t, is, holds) = let j = f o (reply_of t answer) is in (j.0, t, j.1, g t holds)
 
   -- the state after a reply, by the reply
   pub executed_kept : (answer : Result (Done A) (LineRefusal A)) → ((o : Environment) (r : Reply) → I o r → J o r)
@@ -43,9 +43,9 @@ module _ {A : Type 0} (I : Environment → Reply → Type 0) (H : State → Type
   executed_broken (Err e) old new (o, t, is, holds) part = (o, reply_of t answer, is, part)
 
 -- the outcome of a command of a class
-module _ (A : Type 0) (I : Environment → Reply → Type 0) (H : State → Type 0) (told : Result TableReply Refusal) where
-  pub table_done : (done : TableReply) → told ≡ Ok done → Decided I H told → Executed {A = A} I H (Ok (Table done))
+module _ (A : Type 0) (I : Environment → Reply → Type 0) (H : State → Type 0) (reported : Result TableReply Refusal) where
+  pub table_done : (done : TableReply) → reported ≡ Ok done → Decided I H reported → Executed {A = A} I H (Ok (Table done))
   table_done done e (o, t, is, holds) = (o, t, subst (λ (x : Result TableReply Refusal). I o (decided_reply t x)) e is, holds)
 
-  pub table_refused : (refusal : Refusal) → told ≡ Err refusal → Decided I H told → Executed {A = A} I H (Err (Line refusal))
+  pub table_refused : (refusal : Refusal) → reported ≡ Err refusal → Decided I H reported → Executed {A = A} I H (Err (Line refusal))
   table_refused refusal e (o, t, is, holds) = (o, t, subst (λ (x : Result TableReply Refusal). I o (decided_reply t x)) e is, holds)

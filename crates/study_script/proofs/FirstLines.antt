@@ -120,7 +120,8 @@ ran_more separate (Some bs) (Some rest) (Some rest') old mid new first s line o 
         within = omega arith;
         short = rw grown (short-more (take n all) line v.short short);
         replies = v.replies ++ (o, reply) ∷ [];
-        are = rw grown (are-more separate first (take n all) v.replies line o reply v.are (subst (λ (h : State). IsReplyIn separate h line o reply) v.state_is is));
+        are = rw grown (are-more separate first (take n all) v.replies line o reply v.are
+            (subst (λ (h : State). IsReplyIn separate h line o reply) v.state_is is));
         written = rw (text-more v.replies (o, reply)) (Appends-trans old mid new (replies_text v.replies) reply.text v.written wrote);
         state_is = sym (state_after-more first v.replies (o, reply));
         refused_is = k ∙ ap (λ i. i + cond reply.refused 1 0) v.refused_is ∙ sym (errors-more v.replies (o, reply));
@@ -138,8 +139,15 @@ ran_ends separate left (Some bs) (Some rest) None old new first s line n refused
 ran_ends separate left (Some bs) (Some rest) (Some rest') old new first s line n refused r t le =
     let v = r.known in
     let d = none_left (script_lines bs) n v.within (v.left_is ∙ t) in
-    let e = d.1 in
-    (omega arith, subst AreShort d.0 v.short, v.replies, subst (λ (ls : List (List ℕ)). AreReplies separate first ls v.replies) d.0 v.are, v.written, e, v.refused_is)
+    let e = d.1 in (
+      omega arith,
+      subst AreShort d.0 v.short,
+      v.replies,
+      subst (λ (ls : List (List ℕ)). AreReplies separate first ls v.replies) d.0 v.are,
+      v.written,
+      e,
+      v.refused_is,
+    )
 
 pub ran_long : (separate : Bool) (left script now old new : Option (List ℕ)) (first : State) (s : State) (n refused : ℕ)
     → Ran separate script now old new first s n refused → BeginsLong now → n < 100000
@@ -217,7 +225,8 @@ pub RanOn-more : (separate : Bool) (holds holds' : State → Type 0) (script now
     → RanOn separate holds' script next old new first (n + 1) refused'
 RanOn-more separate holds holds' script now next old mid new first line n refused refused' w r t short (o, reply, is, wrote, held, same) k = record {
   state = reply.state;
-  ran = ran_more separate script now next old mid new first r.state line o reply n refused refused' r.ran t short is wrote (k ∙ ap (λ b. refused + cond b 1 0) same);
+  ran = ran_more separate script now next old mid new first r.state line o reply n refused refused' r.ran t short is wrote (k
+      ∙ ap (λ b. refused + cond b 1 0) same);
   held = held;
 }
 

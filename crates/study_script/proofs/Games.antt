@@ -1,11 +1,10 @@
 -- The text of a game of PGN.
-use Rattle.std.proofs.Common.{◌≡◌, ℕ, true, List, ◌++◌, take, refl}
+use Rattle.std.proofs.Common.{◌≡◌, true, take, refl}
 use Rattle.std.specs.Prelude.{codes}
 use Rattle.study_marks.specs.declared.mark.Mark.{Mark}
 use Rattle.study_marks.specs.Study.{Study}
-use Rattle.study_notation.specs.FenSpelling.{fen_text}
 use Rattle.study_text.specs.Words.{words}
-use Rattle.study_pgn.specs.Tags.{tags_text, user_lines, user_line, tag_line}
+use Rattle.study_pgn.specs.Tags.{tags_text, user_lines, tag_line}
 use Rattle.study_pgn.specs.Wrap.{lines_text}
 use Rattle.study_pgn.specs.Pgn.{pgn_text, movetext}
 use Rattle.study_reply.specs.Words.{ends_line}

@@ -1,6 +1,6 @@
 -- The state after a command that leaves the store alone.
 use Rattle.std.proofs.Common.{◌≡◌, ℕ, Bool, true, false, List, Option, Some, None, Result, Ok, Err, refl, sym, ap, subst, ◌∙◌, [], ◌∷◌}
-use Rattle.std.specs.Prelude.{IfOk, codes}
+use Rattle.std.specs.Prelude.{codes}
 use Rattle.study_board.specs.Position.{Position}
 use Rattle.study_moves.specs.declared.moves.Move.{Move}
 use Rattle.study_material.specs.declared.class.Class.{Class}
@@ -30,7 +30,7 @@ use Rattle.study_script.specs.State.{no_room, no_room_for, unread, unopened, cut
 use Rattle.study_script.specs.Replies.{Reply, IsValued, missing, found, IsProbingEdit, IsProbingEditWithMemory, IsPositionReply}
 use Rattle.study_script.specs.Replies.{IsShiftReply, IsStartReply, IsStipulateReply, IsInserted}
 use Rattle.study_script.specs.Replies.{IsMoveReply, IsMoveReplyAt, IsInsertReply}
-use Rattle.study_script.specs.SessionHolds.{Holds, HoldsDocument, HoldsFrom, HoldsTables, TablesFrom, Answered}
+use Rattle.study_script.specs.SessionHolds.{Holds, HoldsDocument, HoldsFrom, HoldsTables, TablesFrom}
 use Rattle.study_script.specs.Stores.{StoreSeen}
 use Rattle.study_script.specs.Session.{SessionHolds}
 
@@ -62,7 +62,7 @@ asking_beside s (no_room_for bytes) asked new text reply h = valued s asked new 
 asking_beside s (unopened fault) asked new text reply h = valued s asked new text reply h
 asking_beside s cut_off asked new text reply h = valued s asked new text reply h
 asking_beside s (file bytes) asked new text reply h = valued s asked new text reply h
-asking_beside s (header told) asked new text reply h = valued s asked new text reply h
+asking_beside s (header reported) asked new text reply h = valued s asked new text reply h
 
 asked_beside : (s : State) (o : Environment) (asked : List Position) (new : PlainStudy) (text : List ℕ) (reply : Reply)
     → IsProbingEditWithMemory s o asked new text reply → IsBeside s reply.state
@@ -74,7 +74,7 @@ asked_beside s (no_room_for bytes) asked new text reply h = valued s asked new t
 asked_beside s (unopened fault) asked new text reply h = valued s asked new text reply h
 asked_beside s cut_off asked new text reply h = valued s asked new text reply h
 asked_beside s (file bytes) asked new text reply h = valued s asked new text reply h
-asked_beside s (header told) asked new text reply h = valued s asked new text reply h
+asked_beside s (header reported) asked new text reply h = valued s asked new text reply h
 
 position_beside : (s : State) (o : Environment) (b : Document) (new : Start) (reply : Reply) → IsPositionReply s o b new reply → IsBeside s reply.state
 position_beside s o empty new reply h = beside s _ reply (record { paged = refl; shelf = refl }) h
@@ -84,7 +84,8 @@ position_beside s o (study old) new reply h = asking_beside s o _ _ _ reply h
 shift_asked : (s : State) (o : Environment) (old : PlainStudy) (new : Start) (reply : Reply)
     → IsProbingEditWithMemory s o (positions_asked (with_start old new)) (with_start old new) (reply_line (codes "shift ") (fen_text new))
     reply → IsBeside s reply.state
-shift_asked s o old new reply h = asked_beside s o (positions_asked (with_start old new)) (with_start old new) (reply_line (codes "shift ") (fen_text new)) reply h
+shift_asked s o old new reply h = asked_beside s o (positions_asked (with_start old new)) (with_start old new) (reply_line (codes "shift ") (fen_text new))
+    reply h
 
 shift_beside : (s : State) (o : Environment) (old : PlainStudy) (new : Start) (r : Option (EditRefusal (Unit {0})))
     (reply : Reply) → IsShiftReply s o old new r reply → IsBeside s reply.state
@@ -96,7 +97,7 @@ shift_beside s (unread fault) old new (Some refusal) reply h = beside s _ reply 
 shift_beside s (unopened fault) old new (Some refusal) reply h = beside s _ reply (same_side s) h
 shift_beside s cut_off old new (Some refusal) reply h = beside s _ reply (same_side s) h
 shift_beside s (file bytes) old new (Some refusal) reply h = beside s _ reply (same_side s) h
-shift_beside s (header told) old new (Some refusal) reply h = beside s _ reply (same_side s) h
+shift_beside s (header reported) old new (Some refusal) reply h = beside s _ reply (same_side s) h
 shift_beside s no_room old new None reply h = shift_asked s no_room old new reply h
 shift_beside s quiet old new None reply h = shift_asked s quiet old new reply h
 shift_beside s no_path old new None reply h = shift_asked s no_path old new reply h
@@ -105,7 +106,7 @@ shift_beside s (unread fault) old new None reply h = shift_asked s (unread fault
 shift_beside s (unopened fault) old new None reply h = shift_asked s (unopened fault) old new reply h
 shift_beside s cut_off old new None reply h = shift_asked s cut_off old new reply h
 shift_beside s (file bytes) old new None reply h = shift_asked s (file bytes) old new reply h
-shift_beside s (header told) old new None reply h = shift_asked s (header told) old new reply h
+shift_beside s (header reported) old new None reply h = shift_asked s (header reported) old new reply h
 
 pub start_beside : (s : State) (word : FenCommand) (b : Document) (read : Result Start FenFault) (o : Environment)
     (reply : Reply) → IsStartReply s o word b read reply → IsBeside s reply.state
@@ -116,7 +117,8 @@ start_beside s Shift (study old) (Ok new) o reply h = shift_beside s o old new (
 start_beside s Shift empty read o reply h = beside s _ reply (same_side s) h
 start_beside s Shift (start old) read o reply h = beside s _ reply (same_side s) h
 
-pub stipulate_beside : (s : State) (b : Document) (new : Stipulation) (o : Environment) (reply : Reply) → IsStipulateReply s o b new reply → IsBeside s reply.state
+pub stipulate_beside : (s : State) (b : Document) (new : Stipulation) (o : Environment) (reply : Reply) → IsStipulateReply s o b new reply
+    → IsBeside s reply.state
 stipulate_beside s empty new o reply h = beside s _ reply (same_side s) h
 stipulate_beside s (start from) new o reply h = asking_beside s o _ _ _ reply h
 stipulate_beside s (study old) new o reply h = beside s _ reply (record { paged = refl; shelf = refl }) h
@@ -150,7 +152,7 @@ insert_beside s (study old) steps san (unread fault) reply h = at_beside s (unre
 insert_beside s (study old) steps san (unopened fault) reply h = at_beside s (unopened fault) old steps san (has_spot old.tree steps) reply h
 insert_beside s (study old) steps san cut_off reply h = at_beside s cut_off old steps san (has_spot old.tree steps) reply h
 insert_beside s (study old) steps san (file bytes) reply h = at_beside s (file bytes) old steps san (has_spot old.tree steps) reply h
-insert_beside s (study old) steps san (header told) reply h = at_beside s (header told) old steps san (has_spot old.tree steps) reply h
+insert_beside s (study old) steps san (header reported) reply h = at_beside s (header reported) old steps san (has_spot old.tree steps) reply h
 
 -- ---- the state
 

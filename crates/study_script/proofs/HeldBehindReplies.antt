@@ -1,7 +1,6 @@
 -- The state after a reply.
-use Rattle.std.proofs.Common.{◌≡◌, ℕ, ◌+◌, ◌*◌, ◌<◌, ◌≤◌, Bool, List, Option, Some, None, Result, refl, sym, ap, subst, ◌∙◌}
-use Rattle.std.specs.Prelude.{IfSome, IfNone, IfOk, OnErr}
-use Rattle.std.proofs.lemmas.Result.{IfOk-weaker, on_err_weaker}
+use Rattle.std.proofs.Common.{◌≡◌, ℕ, ◌+◌, ◌*◌, ◌<◌, ◌≤◌, List, Option, Some, None, refl, sym, ap, subst, ◌∙◌}
+use Rattle.std.specs.Prelude.{IfSome, IfNone}
 use Rattle.study_board.specs.Position.{Position}
 use Rattle.study_moves.specs.Game.{MatesWithin}
 use Rattle.study_marks.specs.Study.{plain_study}
@@ -20,10 +19,10 @@ use Rattle.study_script.specs.declared.tables.Tables.{Tables}
 use Rattle.study_reply.specs.Words.{mark_text}
 use Rattle.study_script.specs.declared.document.Document.{Document as HeldDocument}
 use Rattle.study_script.specs.declared.document.Document.TheVariants as held
-use Rattle.study_script.specs.State.{State, empty, start, study, Environment}
-use Rattle.study_script.specs.Replies.{Reply, accepted, refused, holding, marked_reply, IsSolution}
+use Rattle.study_script.specs.State.{State, empty, start, study}
+use Rattle.study_script.specs.Replies.{accepted, refused, holding, marked_reply, IsSolution}
 use Rattle.study_script.specs.SessionHolds.{document_seen, Holds, tables_honest, tables_held, tables_may_fail, are_paged, HoldsDocument}
-use Rattle.study_script.specs.SessionHolds.{HoldsFrom, HoldsBench, HoldsBenchFrom, Answered, BrokenOff}
+use Rattle.study_script.specs.SessionHolds.{HoldsFrom, HoldsBench, HoldsBenchFrom}
 
 module _ {A : Type 0} where
   pub document_kept : (b : HeldDocument A) (s : State) → HoldsDocument b s → HoldsFrom s b s
@@ -72,11 +71,11 @@ solution_of p count None forced least within none = none
 solution_of p count (Some n) forced least within none = ((forced, least), within)
 
 -- `mark` reports the mark of the node
-pub mark_told : (s : State) (steps : List ℕ) (spot : Option (Spot Mark)) (m : Mark)
+pub mark_reported : (s : State) (steps : List ℕ) (spot : Option (Spot Mark)) (m : Mark)
     → Some m ≡ option_map (λ (x : Spot Mark). x.label) spot
     → accepted s (mark_text steps m) ≡ marked_reply s steps spot
-mark_told s steps None m e = absurd cc
-mark_told s steps (Some x) m e = let same : m ≡ x.label = cc in ap (λ (l : Mark). accepted s (mark_text steps l)) same
+mark_reported s steps None m e = absurd cc
+mark_reported s steps (Some x) m e = let same : m ≡ x.label = cc in ap (λ (l : Mark). accepted s (mark_text steps l)) same
 
 pub mark_missing : (s : State) (steps : List ℕ) (spot : Option (Spot Mark))
     → ◌≡◌ {A = Option Mark} None (option_map (λ (x : Spot Mark). x.label) spot)

@@ -22,7 +22,7 @@ use Rattle.study_prober.proofs.HeldSources.{same_class}
 use Rattle.study_values.specs.declared.fault.SourceFault.{SourceFault}
 use Rattle.study_script.specs.declared.store.StoreFault.{StoreFault}
 use Rattle.study_script.specs.State.{State, StoreKnowledge, is_among, unknown_after_write, forgotten_faults, written_anew}
-use Rattle.study_script.specs.Replies.{with_class, class_told}
+use Rattle.study_script.specs.Replies.{with_class, class_parsed}
 use Rattle.study_script.specs.Stores.{StoreSeen}
 use Rattle.study_script.specs.Decided.{HoldsWhole, WholeFrom}
 
@@ -67,44 +67,44 @@ place_below KNKP = omega arith
 place_below KPKP = omega arith
 
 -- the class of a name
-pub class_told-name_of : (c : Class) → class_told (name_of c) ≡ Some c
-unfolding name_of class_told
-class_told-name_of KK = refl
-class_told-name_of KQK = refl
-class_told-name_of KRK = refl
-class_told-name_of KBK = refl
-class_told-name_of KNK = refl
-class_told-name_of KPK = refl
-class_told-name_of KQQK = refl
-class_told-name_of KQRK = refl
-class_told-name_of KQBK = refl
-class_told-name_of KQNK = refl
-class_told-name_of KQPK = refl
-class_told-name_of KRRK = refl
-class_told-name_of KRBK = refl
-class_told-name_of KRNK = refl
-class_told-name_of KRPK = refl
-class_told-name_of KBBK = refl
-class_told-name_of KBNK = refl
-class_told-name_of KBPK = refl
-class_told-name_of KNNK = refl
-class_told-name_of KNPK = refl
-class_told-name_of KPPK = refl
-class_told-name_of KQKQ = refl
-class_told-name_of KQKR = refl
-class_told-name_of KQKB = refl
-class_told-name_of KQKN = refl
-class_told-name_of KQKP = refl
-class_told-name_of KRKR = refl
-class_told-name_of KRKB = refl
-class_told-name_of KRKN = refl
-class_told-name_of KRKP = refl
-class_told-name_of KBKB = refl
-class_told-name_of KBKN = refl
-class_told-name_of KBKP = refl
-class_told-name_of KNKN = refl
-class_told-name_of KNKP = refl
-class_told-name_of KPKP = refl
+pub class_parsed-name_of : (c : Class) → class_parsed (name_of c) ≡ Some c
+unfolding name_of class_parsed
+class_parsed-name_of KK = refl
+class_parsed-name_of KQK = refl
+class_parsed-name_of KRK = refl
+class_parsed-name_of KBK = refl
+class_parsed-name_of KNK = refl
+class_parsed-name_of KPK = refl
+class_parsed-name_of KQQK = refl
+class_parsed-name_of KQRK = refl
+class_parsed-name_of KQBK = refl
+class_parsed-name_of KQNK = refl
+class_parsed-name_of KQPK = refl
+class_parsed-name_of KRRK = refl
+class_parsed-name_of KRBK = refl
+class_parsed-name_of KRNK = refl
+class_parsed-name_of KRPK = refl
+class_parsed-name_of KBBK = refl
+class_parsed-name_of KBNK = refl
+class_parsed-name_of KBPK = refl
+class_parsed-name_of KNNK = refl
+class_parsed-name_of KNPK = refl
+class_parsed-name_of KPPK = refl
+class_parsed-name_of KQKQ = refl
+class_parsed-name_of KQKR = refl
+class_parsed-name_of KQKB = refl
+class_parsed-name_of KQKN = refl
+class_parsed-name_of KQKP = refl
+class_parsed-name_of KRKR = refl
+class_parsed-name_of KRKB = refl
+class_parsed-name_of KRKN = refl
+class_parsed-name_of KRKP = refl
+class_parsed-name_of KBKB = refl
+class_parsed-name_of KBKN = refl
+class_parsed-name_of KBKP = refl
+class_parsed-name_of KNKN = refl
+class_parsed-name_of KNKP = refl
+class_parsed-name_of KPKP = refl
 
 same_place : (n m : ℕ) → n ≡ m → eqb n m ≡ true
 same_place n m e = grind (arith, nat_tests)
@@ -203,9 +203,9 @@ pub needs_right : (held : List (Option Table)) (c : Class) → TablesAreRight he
 needs_right held c all = record { right = λ d t n e. all.right d t e }
 
 -- a loaded table is right if all are
-pub right_told : (held : List (Option Table)) (c : Class) (b : Bool) → TablesAreRight held
+pub right_reported : (held : List (Option Table)) (c : Class) (b : Bool) → TablesAreRight held
     → is_some (table_of held c) ≡ true → IfSome (table_of held c) (λ t. IsTrue b ↔ IsRight t) → b ≡ true
-right_told held c b all some told = go (table_of held c) refl some told
+right_reported held c b all some reported = go (table_of held c) refl some reported
   where
     go : (o : Option Table) → table_of held c ≡ o → is_some o ≡ true → IfSome o (λ t. IsTrue b ↔ IsRight t) → b ≡ true
     go None e s t = absurd (false≢true s)

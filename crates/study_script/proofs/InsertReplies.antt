@@ -47,15 +47,15 @@ module _ {T A : Type 0} where
       → r ≡ Err e → HasNoDeviceFault paged e → IsUndamaged e
       → IsFailingTable (λ c f. s.shelf.faults c f ≡ true) (asked_at (after (position_at old steps) m)) e → (o : Environment)
       × IsInserted s o old steps m y (refused_as s (edit_words e))
-  insert_refused_by s held paged old steps m None None same r e h p match is told clean failing =
+  insert_refused_by s held paged old steps m None None same r e h p match is reported clean failing =
       refused_outside A s held paged (asked_at (after (position_at old steps) m)) (with_insertion old steps m)
       (inserted_text old steps m) e h p
       (subst
       (λ (z : Result T (EditRefusal A)). IfErr z (IsOutside held (asked_at (after (position_at old steps) m))))
-      is match) told clean failing
-  insert_refused_by s held paged old steps m None (Some b) same r e h p match is told clean failing = absurd same
-  insert_refused_by s held paged old steps m (Some a) None same r e h p match is told clean failing = absurd same
-  insert_refused_by s held paged old steps m (Some a) (Some b) same r e h p match is told clean failing = (
+      is match) reported clean failing
+  insert_refused_by s held paged old steps m None (Some b) same r e h p match is reported clean failing = absurd same
+  insert_refused_by s held paged old steps m (Some a) None same r e h p match is reported clean failing = absurd same
+  insert_refused_by s held paged old steps m (Some a) (Some b) same r e h p match is reported clean failing = (
     quiet,
     ap (refused_as s)
         (err_same r e a is match ∙ same),
@@ -71,9 +71,9 @@ module _ {T A : Type 0} where
       → IsFailingTable (λ c f. s.shelf.faults c f ≡ true) (asked_at (after (position_at old steps) m)) e → (o : Environment)
       × IsInserted s o old steps m (insert_refusal {A = Unit {0}} old steps m)
       (refused_as s (edit_words e))
-  insert_refused s held paged old steps m r e h p match is told clean failing =
+  insert_refused s held paged old steps m r e h p match is reported clean failing =
       insert_refused_by s held paged old steps m (insert_refusal {A = A} old steps m)
-      (insert_refusal {A = Unit {0}} old steps m) (insert_same A (Unit {0}) old steps m) r e h p match is told clean failing
+      (insert_refusal {A = Unit {0}} old steps m) (insert_same A (Unit {0}) old steps m) r e h p match is reported clean failing
 
 -- ---- a reply if there was memory for the path
 
@@ -102,9 +102,10 @@ module _ (s : State) (old : PlainStudy) (steps : List ℕ) where
   with_path san (unopened fault) reply h = (unopened fault, h)
   with_path san cut_off reply h = (cut_off, h)
   with_path san (file bytes) reply h = (file bytes, h)
-  with_path san (header told) reply h = (header told, h)
+  with_path san (header reported) reply h = (header reported, h)
 
 module _ (s : State) (old : PlainStudy) (word : NodeCommand) (steps : List ℕ) where
   -- the same for `delete`, `promote` and `mark`
-  pub node_command_on : (o : Environment) (reply : Reply) → IsStudyReply s word old steps reply → (p : Environment) × IsStudyReplyAt s p word (study old) steps reply
+  pub node_command_on : (o : Environment) (reply : Reply) → IsStudyReply s word old steps reply → (p : Environment)
+      × IsStudyReplyAt s p word (study old) steps reply
   node_command_on o reply h = (quiet, h)

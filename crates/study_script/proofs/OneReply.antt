@@ -57,7 +57,7 @@ use Rattle.study_script.specs.Replies.{IsProbingEdit, IsProbingEditWithMemory, I
 use Rattle.study_script.specs.Replies.{IsInserted, IsMoveReply, IsMoveReplyAt, IsInsertReply, start_found}
 use Rattle.study_script.specs.Replies.{IsSolution, IsSolveReply, marked_reply, Annotated, IsStudyReply, IsStudyReplyAt}
 use Rattle.study_script.specs.Replies.{IsPgnReply, IsBuilt, built, too_far, IsBuildReply, IsLoadReply, IsOpenReply}
-use Rattle.study_script.specs.Replies.{IsLoadIn, IsTableReply, IsNamedReply, class_told, needs_whole_tables, IsClassReplyIn}
+use Rattle.study_script.specs.Replies.{IsLoadIn, IsTableReply, IsNamedReply, class_parsed, needs_whole_tables, IsClassReplyIn}
 use Rattle.study_script.specs.Replies.{IsReplyTo, IsReplyWhere, IsReplyIn, kept_apart, AreReplies}
 use Rattle.study_script.specs.Laws.{AreUnique}
 
@@ -99,7 +99,7 @@ asking_once s (unread (probe.NoTable c)) asked new text a b h k = absurd h
 asking_once s (unopened fault) asked new text a b h k = valued_once s asked new text a b h k
 asking_once s cut_off asked new text a b h k = valued_once s asked new text a b h k
 asking_once s (file bytes) asked new text a b h k = valued_once s asked new text a b h k
-asking_once s (header told) asked new text a b h k = valued_once s asked new text a b h k
+asking_once s (header reported) asked new text a b h k = valued_once s asked new text a b h k
 
 asked_once : (s : State) (o : Environment) (asked : List Position) (new : PlainStudy) (text : List ℕ) (a b : Reply)
     → IsProbingEditWithMemory s o asked new text a → IsProbingEditWithMemory s o asked new text b → a ≡ b
@@ -111,7 +111,7 @@ asked_once s (unread fault) asked new text a b h k = asking_once s (unread fault
 asked_once s (unopened fault) asked new text a b h k = valued_once s asked new text a b h k
 asked_once s cut_off asked new text a b h k = valued_once s asked new text a b h k
 asked_once s (file bytes) asked new text a b h k = valued_once s asked new text a b h k
-asked_once s (header told) asked new text a b h k = valued_once s asked new text a b h k
+asked_once s (header reported) asked new text a b h k = valued_once s asked new text a b h k
 
 -- ---- starts and stipulations
 
@@ -153,9 +153,9 @@ shift_once s (file bytes) old new (Some refusal) a b h k = h ∙ sym k
 shift_once s (file bytes) old new None a b h k =
     asked_once s (file bytes) (positions_asked (with_start old new)) (with_start old new)
     (reply_line (codes "shift ") (fen_text new)) a b h k
-shift_once s (header told) old new (Some refusal) a b h k = h ∙ sym k
-shift_once s (header told) old new None a b h k =
-    asked_once s (header told) (positions_asked (with_start old new)) (with_start old new)
+shift_once s (header reported) old new (Some refusal) a b h k = h ∙ sym k
+shift_once s (header reported) old new None a b h k =
+    asked_once s (header reported) (positions_asked (with_start old new)) (with_start old new)
     (reply_line (codes "shift ") (fen_text new)) a b h k
 
 start_once : (s : State) (o : Environment) (word : FenCommand) (at : Document) (read : Result Start FenFault) (a b : Reply)
@@ -204,7 +204,7 @@ insert_once s (unread fault) (study old) steps san a b h k = move_at_once s (unr
 insert_once s (unopened fault) (study old) steps san a b h k = move_at_once s (unopened fault) old steps san (has_spot old.tree steps) a b h k
 insert_once s cut_off (study old) steps san a b h k = move_at_once s cut_off old steps san (has_spot old.tree steps) a b h k
 insert_once s (file bytes) (study old) steps san a b h k = move_at_once s (file bytes) old steps san (has_spot old.tree steps) a b h k
-insert_once s (header told) (study old) steps san a b h k = move_at_once s (header told) old steps san (has_spot old.tree steps) a b h k
+insert_once s (header reported) (study old) steps san a b h k = move_at_once s (header reported) old steps san (has_spot old.tree steps) a b h k
 
 -- the least number of plies is unique
 won_once : (p : Position) (n m : ℕ) → IsWon p n → IsWon p m → n ≡ m
@@ -227,8 +227,9 @@ solve_once s count (Ok at) a b (n, x, e) (m, y, f) =
 solve_once s count (Err refusal) a b e f = e ∙ sym f
 
 module _ (one_annotation : AnnotationsAreUnique) where
-  annotated_once : (old : PlainStudy) (told : Study Mark → Reply) (a b : Reply) → Annotated old (λ x. a ≡ told x) → Annotated old (λ x. b ≡ told x) → a ≡ b
-  annotated_once old told a b (x, is, from, e) (y, are, same, f) = e ∙ ap told (one_annotation x y is are (from ∙ sym same)) ∙ sym f
+  annotated_once : (old : PlainStudy) (reported : Study Mark → Reply) (a b : Reply) → Annotated old (λ x. a ≡ reported x)
+      → Annotated old (λ x. b ≡ reported x) → a ≡ b
+  annotated_once old reported a b (x, is, from, e) (y, are, same, f) = e ∙ ap reported (one_annotation x y is are (from ∙ sym same)) ∙ sym f
 
   study_once : (s : State) (word : NodeCommand) (old : PlainStudy) (steps : List ℕ) (a b : Reply)
       → IsStudyReply s word old steps a → IsStudyReply s word old steps b → a ≡ b
@@ -249,7 +250,7 @@ module _ (one_annotation : AnnotationsAreUnique) where
   study_at_once s (unopened fault) word (study old) steps a b h k = study_once s word old steps a b h k
   study_at_once s cut_off word (study old) steps a b h k = study_once s word old steps a b h k
   study_at_once s (file bytes) word (study old) steps a b h k = study_once s word old steps a b h k
-  study_at_once s (header told) word (study old) steps a b h k = study_once s word old steps a b h k
+  study_at_once s (header reported) word (study old) steps a b h k = study_once s word old steps a b h k
 
   pgn_once : (s : State) (o : Environment) (at : Document) (a b : Reply) → IsPgnReply s o at a → IsPgnReply s o at b → a ≡ b
   pgn_once s o empty a b h k = h ∙ sym k
@@ -262,18 +263,18 @@ module _ (one_annotation : AnnotationsAreUnique) where
   pgn_once s (unopened fault) (study old) a b h k = annotated_once old (λ x. accepted s (pgn_text x)) a b h k
   pgn_once s cut_off (study old) a b h k = annotated_once old (λ x. accepted s (pgn_text x)) a b h k
   pgn_once s (file bytes) (study old) a b h k = annotated_once old (λ x. accepted s (pgn_text x)) a b h k
-  pgn_once s (header told) (study old) a b h k = annotated_once old (λ x. accepted s (pgn_text x)) a b h k
+  pgn_once s (header reported) (study old) a b h k = annotated_once old (λ x. accepted s (pgn_text x)) a b h k
 
 -- ---- tables
 
 module _ (one_value : EachHasAtMostOneValue) where
-  told_once : (at : Option Position) (x y : ℕ) → TellsValue at x → TellsValue at y → value_of x ≡ value_of y
-  told_once None x y h k = ap value_of (h ∙ sym k)
-  told_once (Some p) x y h k = one-value one_value p (value_of x) (value_of y) h k
+  reported_once : (at : Option Position) (x y : ℕ) → TellsValue at x → TellsValue at y → value_of x ≡ value_of y
+  reported_once None x y h k = ap value_of (h ∙ sym k)
+  reported_once (Some p) x y h k = one-value one_value p (value_of x) (value_of y) h k
 
-  told_again : (c : Class) (t u : Table) → t.class ≡ c → u.class ≡ c → IsComplete t → IsComplete u → IsRight t
+  reported_again : (c : Class) (t u : Table) → t.class ≡ c → u.class ≡ c → IsComplete t → IsComplete u → IsRight t
       → IsRight u → (m : ℕ) → Tells win_of t.cells m → Tells win_of u.cells m
-  told_again c t u e f whole complete right good m h =
+  reported_again c t u e f whole complete right good m h =
       let n = h.cell in
       let size : length t.cells ≡ cells_of c = whole.size ∙ ap cells_of e in
       let length_u : length u.cells ≡ cells_of c = complete.size ∙ ap cells_of f in
@@ -284,7 +285,7 @@ module _ (one_value : EachHasAtMostOneValue) where
       record {
         cell = n;
         inside = omega (arith, length_u);
-        is = ap win_of (told_once (position_numbered c n) (slice_index u.cells n) (slice_index t.cells n) second first)
+        is = ap win_of (reported_once (position_numbered c n) (slice_index u.cells n) (slice_index t.cells n) second first)
             ∙ h.is;
       }
 
@@ -315,8 +316,8 @@ module _ (one_value : EachHasAtMostOneValue) where
   not_far : (c : Class) (t : Table) → t.class ≡ c → IsComplete t → IsRight t → HasFarPosition c → ⊥
   not_far c t e complete right (p, (v, far)) =
       let cell = slice_index t.cells (index_of p) in
-      let told = at_value t p (value_of cell) complete far.valid (subst (λ (d : Class). IsOf d p) (sym e) far.of_class) refl right in
-      let same : v ≡ value_of cell = one-value one_value p v (value_of cell) far.value told in
+      let reported = at_value t p (value_of cell) complete far.valid (subst (λ (d : Class). IsOf d p) (sym e) far.of_class) refl right in
+      let same : v ≡ value_of cell = one-value one_value p v (value_of cell) far.value reported in
       let small = near cell (small_at t.cells (index_of p) complete.bytes) in
       let long : 254 < distance_of (value_of cell) = subst (λ (x : Value). 254 < distance_of x) same far.far in
       omega arith
@@ -324,8 +325,8 @@ module _ (one_value : EachHasAtMostOneValue) where
   built_once : (s : State) (c : Class) (a b : Reply) → IsBuilt s c a → IsBuilt s c b → a ≡ b
   built_once s c a b (built t x e whole right g h) (built u y f complete good i k) =
       h ∙ ap (λ (w : Option ℕ). accepted (with_class s c) (built_text c w))
-      (greatest_once t.cells u.cells (told_again c t u e f whole complete right good)
-      (told_again c u t f e complete whole good right) x y g i) ∙ sym k
+      (greatest_once t.cells u.cells (reported_again c t u e f whole complete right good)
+      (reported_again c u t f e complete whole good right) x y g i) ∙ sym k
   built_once s c a b (built t x e whole right g h) (too_far far k) = absurd (not_far c t e whole right far)
   built_once s c a b (too_far far h) (built u y f complete good i k) = absurd (not_far c u f complete good far)
   built_once s c a b (too_far far h) (too_far more k) = h ∙ sym k
@@ -348,8 +349,8 @@ module _ (one_value : EachHasAtMostOneValue) where
   build_once s cut_off c false None a b h k = built_once s c a b h k
   build_once s (file bytes) c false (Some d) a b h k = h ∙ sym k
   build_once s (file bytes) c false None a b h k = built_once s c a b h k
-  build_once s (header told) c false (Some d) a b h k = h ∙ sym k
-  build_once s (header told) c false None a b h k = built_once s c a b h k
+  build_once s (header reported) c false (Some d) a b h k = h ∙ sym k
+  build_once s (header reported) c false None a b h k = built_once s c a b h k
 
 load_once : (s : State) (o : Environment) (c : Class) (holds : Bool) (lacking : Option Class) (a b : Reply)
     → IsLoadReply s o c holds lacking a → IsLoadReply s o c holds lacking b → a ≡ b
@@ -363,7 +364,7 @@ load_once s (unread fault) c false None a b h k = absurd h
 load_once s (unopened fault) c false None a b h k = h.1 ∙ sym k.1
 load_once s cut_off c false None a b h k = h.1 ∙ sym k.1
 load_once s (file bytes) c false None a b h k = h.1 ∙ sym k.1
-load_once s (header told) c false None a b h k = absurd h
+load_once s (header reported) c false None a b h k = absurd h
 
 open_once : (s : State) (o : Environment) (c : Class) (holds : Bool) (a b : Reply) → IsOpenReply s o c holds a → IsOpenReply s o c holds b → a ≡ b
 open_once s o c true a b h k = h ∙ sym k
@@ -375,7 +376,7 @@ open_once s (unread fault) c false a b h k = absurd h
 open_once s (unopened fault) c false a b h k = h.1 ∙ sym k.1
 open_once s cut_off c false a b h k = absurd h
 open_once s (file bytes) c false a b h k = absurd h
-open_once s (header told) c false a b h k = h.1 ∙ sym k.1
+open_once s (header reported) c false a b h k = h.1 ∙ sym k.1
 
 load_in_once : (s : State) (o : Environment) (by_pages : Bool) (c : Class) (a b : Reply) → IsLoadIn s o by_pages c a → IsLoadIn s o by_pages c b → a ≡ b
 load_in_once s o false c a b h k = load_once s o c (is_among s.classes c) (first_lacking s.classes c) a b h k
@@ -396,7 +397,7 @@ module _ (one_value : EachHasAtMostOneValue) (one_annotation : AnnotationsAreUni
   class_once : (s : State) (o : Environment) (word : TableCommand) (name : List ℕ) (refuses : Bool) (a b : Reply)
       → IsClassReplyIn s o word name refuses a → IsClassReplyIn s o word name refuses b → a ≡ b
   class_once s o word name true a b h k = h ∙ sym k
-  class_once s o word name false a b h k = named_once s o word (class_told name) a b h k
+  class_once s o word name false a b h k = named_once s o word (class_parsed name) a b h k
 
   -- ---- lines
 

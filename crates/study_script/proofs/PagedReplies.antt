@@ -29,12 +29,12 @@ use Rattle.study_script.proofs.HeldTables.{place_below, among_with, among_head}
 -- ---- the answer of a source
 
 -- a header is read as the known one of the store
-pub told_is : (May : Result (List ℕ) SourceFault → Type 0) (known : Option (Result (List ℕ) StoreFault)) (faults : SourceFault → Bool)
-    (told : Result (List ℕ) SourceFault) → May told → IsOpened known
+pub reported_is : (May : Result (List ℕ) SourceFault → Type 0) (known : Option (Result (List ℕ) StoreFault)) (faults : SourceFault → Bool)
+    (reported : Result (List ℕ) SourceFault) → May reported → IsOpened known
     → ((bytes : List ℕ) → May (Ok bytes) → IsGiven known (Ok bytes)) → ((f : SourceFault) → May (Err f) → faults f ≡ true)
-    → IsGivenAs known faults told
-told_is May known faults (Ok bytes) may is_open given fails = given bytes may
-told_is May known faults (Err fault) may is_open given fails = (is_open, fails fault may)
+    → IsGivenAs known faults reported
+reported_is May known faults (Ok bytes) may is_open given fails = given bytes may
+reported_is May known faults (Err fault) may is_open given fails = (is_open, fails fault may)
 
 -- an accepted source reported no fault
 pub accepted_none : {T : Type 0} (o : Option PagedFault) (x : T)
@@ -65,19 +65,24 @@ module _ {P : Type 0} (honest : P → Table → ℕ → Type 0) (gives : GivesOf
       × Seen t) (Err (refusal_of_store fault))
   open_unopened seen fault e given = (unopened fault, s, rw (among false e) (given, refl), (h, refl, seen))
 
-  pub open_done : (v : Paged P) (told : Result (List ℕ) SourceFault) → Seen (with_class s c)
-      → HoldsPaged honest gives v (with_class s c) → is_some (held_of w.sources c) ≡ false → IsGivenAs (s.shelf.headers c) (s.shelf.faults c) told
-      → paged_fault false c told ≡ None
+  pub open_done : (v : Paged P) (reported : Result (List ℕ) SourceFault) → Seen (with_class s c)
+      → HoldsPaged honest gives v (with_class s c) → is_some (held_of w.sources c) ≡ false → IsGivenAs (s.shelf.headers c) (s.shelf.faults c) reported
+      → paged_fault false c reported ≡ None
       → Decided (λ o. IsOpenReply s o c (is_among s.classes c)) (λ t. HoldsPaged honest gives v t × (t.document ≡ s.document) × Seen t) (Ok (Loaded c))
-  open_done v told seen holds e is_told none = (header told, with_class s c, rw (among false e) (is_told, ap (opened s c) (sym none)), (holds, refl, seen))
+  open_done v reported seen holds e is_reported none = (
+    header reported,
+    with_class s c,
+    rw (among false e) (is_reported, ap (opened s c) (sym none)),
+    (holds, refl, seen),
+  )
 
-  pub open_refused : (v : Paged P) (told : Result (List ℕ) SourceFault) (fault : PagedFault) → v ≡ w → Seen s
-      → is_some (held_of w.sources c) ≡ false → IsGivenAs (s.shelf.headers c) (s.shelf.faults c) told
-      → MatchOption (paged_fault false c told) (fault ≡ fault_of.OutOfMemory)
+  pub open_refused : (v : Paged P) (reported : Result (List ℕ) SourceFault) (fault : PagedFault) → v ≡ w → Seen s
+      → is_some (held_of w.sources c) ≡ false → IsGivenAs (s.shelf.headers c) (s.shelf.faults c) reported
+      → MatchOption (paged_fault false c reported) (fault ≡ fault_of.OutOfMemory)
       (λ f. ◌≡◌ {A = Result (Unit {0}) PagedFault} (Err fault) (Err f))
       → Decided (λ o. IsOpenReply s o c (is_among s.classes c)) (λ t. HoldsPaged honest gives v t × (t.document ≡ s.document)
       × Seen t) (Err (refusal_of_paged fault))
-  open_refused v told fault same seen e is_told m = go (paged_fault false c told) refl m
+  open_refused v reported fault same seen e is_reported m = go (paged_fault false c reported) refl m
     where
       kept : HoldsPaged honest gives v s
       kept = subst (λ (x : Paged P). HoldsPaged honest gives x s) (sym same) h
@@ -94,17 +99,17 @@ module _ {P : Type 0} (honest : P → Table → ℕ → Type 0) (gives : GivesOf
       )
       no_room (Err f) given none is = absurd (no_fault_of c f none)
 
-      go : (o : Option PagedFault) → paged_fault false c told ≡ o
+      go : (o : Option PagedFault) → paged_fault false c reported ≡ o
           → MatchOption o (fault ≡ fault_of.OutOfMemory)
           (λ f. ◌≡◌ {A = Result (Unit {0}) PagedFault} (Err fault) (Err f))
           → Decided (λ o. IsOpenReply s o c (is_among s.classes c)) (λ t. HoldsPaged honest gives v t × (t.document ≡ s.document) × Seen t)
           (Err (refusal_of_paged fault))
-      go None is k = no_room told is_told is k
+      go None is k = no_room reported is_reported is k
       go (Some f) is k = (
-        header told,
+        header reported,
         s,
         rw (among false e) (
-          is_told,
+          is_reported,
           sym (ap (opened s c) is ∙ ap (λ (x : PagedFault). refused s (refusal_of_paged x)) (same_fault fault f k)),
         ),
         (kept, refl, seen),

@@ -47,7 +47,7 @@ unbroken_reply s (unread fault) old new reply h = h
 unbroken_reply s (unopened fault) old new reply h = h
 unbroken_reply s cut_off old new reply h = h
 unbroken_reply s (file bytes) old new reply h = h
-unbroken_reply s (header told) old new reply h = h
+unbroken_reply s (header reported) old new reply h = h
 
 -- a refused shift has that reply
 shift_refused_at : (A : Type 0) (s : State) (held : Class → Bool) (paged : Bool) (old : PlainStudy) (new : Start)
@@ -55,12 +55,16 @@ shift_refused_at : (A : Type 0) (s : State) (held : Class → Bool) (paged : Boo
     → IsShiftRefusal held (positions_asked (with_start old new)) (broken {A = A} b) r → HasNoDeviceFault paged r → IsUndamaged r
     → IsFailingTable (λ c f. s.shelf.faults c f ≡ true) (positions_asked (with_start old new)) r → (o : Environment)
     × IsShiftReply s o old new (broken {A = Unit {0}} b) (refused_as s (edit_words r))
-shift_refused_at A s held paged old new None r e m out told clean failing =
-    let x = refused_outside A s held paged (positions_asked (with_start old new)) (with_start old new) (reply_line (codes "shift ") (fen_text new)) r e m out told
+shift_refused_at A s held paged old new None r e m out reported clean failing =
+    let x = refused_outside A s held paged (positions_asked (with_start old new)) (with_start old new) (reply_line (codes "shift ") (fen_text new)) r e m out
+    reported
     clean failing in
     (x.0, unbroken_reply s x.0 old new (refused_as s (edit_words r)) x.1)
-shift_refused_at A s held paged old new (Some steps) r e m (inl is) told clean failing = (quiet, ap (λ (x : EditRefusal A). refused_as s (edit_words x)) is)
-shift_refused_at A s held paged old new (Some steps) r e m (inr is) told clean failing = (no_room, ap (λ (x : EditRefusal A). refused_as s (edit_words x)) is)
+shift_refused_at A s held paged old new (Some steps) r e m (inl is) reported clean failing = (quiet, ap (λ (x : EditRefusal A). refused_as s (edit_words x)) is)
+shift_refused_at A s held paged old new (Some steps) r e m (inr is) reported clean failing = (
+  no_room,
+  ap (λ (x : EditRefusal A). refused_as s (edit_words x)) is,
+)
 
 pub shift_refused : (A : Type 0) (s : State) (held : Class → Bool) (paged : Bool) (old : PlainStudy) (new : Start)
     (r : EditRefusal A) → ((c : Class) → held c ≡ is_among s.classes c) → paged ≡ s.paged
@@ -68,5 +72,6 @@ pub shift_refused : (A : Type 0) (s : State) (held : Class → Bool) (paged : Bo
     → IsFailingTable (λ c f. s.shelf.faults c f ≡ true) (positions_asked (with_start old new)) r → (o : Environment)
     × IsShiftReply s o old new (shift_refusal {A = Unit {0}} old new)
     (refused_as s (edit_words r))
-shift_refused A s held paged old new r e m out told clean failing = shift_refused_at A s held paged old new (first_illegal_from 0 new.position old.tree.below) r e m
-    out told clean failing
+shift_refused A s held paged old new r e m out reported clean failing = shift_refused_at A s held paged old new
+    (first_illegal_from 0 new.position old.tree.below) r e m
+    out reported clean failing

@@ -1,5 +1,5 @@
 -- The fault of the first value that could not be read, for tables of either kind.
-use Rattle.std.proofs.Common.{◌≡◌, ℕ, false, List, [], ◌∷◌, Option, Some, None, is_some, Result, Ok, Err, IfErr, refl, sym, subst, inl, inr}
+use Rattle.std.proofs.Common.{◌≡◌, false, List, [], ◌∷◌, Option, Some, None, is_some, Result, Ok, Err, IfErr, refl, sym, subst, inl, inr}
 use Rattle.study_board.specs.Position.{Position}
 use Rattle.study_material.specs.declared.class.Class.{Class}
 use Rattle.study_values.specs.declared.fault.SourceFault.{SourceFault}
@@ -23,7 +23,13 @@ module _ {P : Type 0} (honest : HonestOf P) (gives : GivesOf P) where
       → IsFirstFault whole_source old ps f new
       → IsFirstFault (tables_source {A = A} honest gives) (held.Whole old) ps f (held.Whole new)
   whole_first A old new [] f h = absurd h
-  whole_first A old new (p ∷ ps) f (inl a) = inl (record { valid = a.valid; given = a.given; asked = a.asked; failed_so = a.failed_so; fails_as_before = a.fails_as_before })
+  whole_first A old new (p ∷ ps) f (inl a) = inl (record {
+    valid = a.valid;
+    given = a.given;
+    asked = a.asked;
+    failed_so = a.failed_so;
+    fails_as_before = a.fails_as_before;
+  })
   whole_first A old new (p ∷ ps) f (inr h) = inr (
     h.0,
     held.Whole h.1,
@@ -53,11 +59,11 @@ module _ {P : Type 0} (honest : HonestOf P) (gives : GivesOf P) where
   whole_tells old new ps edit.TagText h = tt
   whole_tells old new ps edit.OutOfMemory h = tt
 
-  pub whole_told : {A T : Type 0} (t : Tables P A) (old new : Whole) (ps : List Position) (r : Result T (EditRefusal A)) → t ≡ held.Whole old
+  pub whole_reported : {A T : Type 0} (t : Tables P A) (old new : Whole) (ps : List Position) (r : Result T (EditRefusal A)) → t ≡ held.Whole old
       → IfErr r (TellsFirstFault whole_source old ps new)
       → IfErr r (TellsFirstFault (tables_source honest gives) t ps (held.Whole new))
-  whole_told t old new ps (Ok x) is h = tt
-  whole_told {A = A} t old new ps (Err x) is h =
+  whole_reported t old new ps (Ok x) is h = tt
+  whole_reported {A = A} t old new ps (Err x) is h =
       subst (λ (u : Tables P A). TellsFirstFault (tables_source honest gives) u ps (held.Whole new) x) (sym is)
       (whole_tells old new ps x h)
 
@@ -65,7 +71,13 @@ module _ {P : Type 0} (honest : HonestOf P) (gives : GivesOf P) where
       → IsFirstFault (paged_source honest gives) old ps f new
       → IsFirstFault (tables_source {A = A} honest gives) (held.Paged old) ps f (held.Paged new)
   paged_first A old new [] f h = absurd h
-  paged_first A old new (p ∷ ps) f (inl a) = inl (record { valid = a.valid; given = a.given; asked = a.asked; failed_so = a.failed_so; fails_as_before = a.fails_as_before })
+  paged_first A old new (p ∷ ps) f (inl a) = inl (record {
+    valid = a.valid;
+    given = a.given;
+    asked = a.asked;
+    failed_so = a.failed_so;
+    fails_as_before = a.fails_as_before;
+  })
   paged_first A old new (p ∷ ps) f (inr h) = inr (
     h.0,
     held.Paged h.1,
@@ -95,11 +107,11 @@ module _ {P : Type 0} (honest : HonestOf P) (gives : GivesOf P) where
   paged_tells old new ps edit.TagText h = tt
   paged_tells old new ps edit.OutOfMemory h = tt
 
-  pub paged_told : {A T : Type 0} (t : Tables P A) (old new : Paged P) (ps : List Position) (r : Result T (EditRefusal A)) → t ≡ held.Paged old
+  pub paged_reported : {A T : Type 0} (t : Tables P A) (old new : Paged P) (ps : List Position) (r : Result T (EditRefusal A)) → t ≡ held.Paged old
       → IfErr r (TellsFirstFault (paged_source honest gives) old ps new)
       → IfErr r (TellsFirstFault (tables_source honest gives) t ps (held.Paged new))
-  paged_told t old new ps (Ok x) is h = tt
-  paged_told {A = A} t old new ps (Err x) is h =
+  paged_reported t old new ps (Ok x) is h = tt
+  paged_reported {A = A} t old new ps (Err x) is h =
       subst (λ (u : Tables P A). TellsFirstFault (tables_source honest gives) u ps (held.Paged new) x) (sym is)
       (paged_tells old new ps x h)
 

@@ -20,11 +20,11 @@ use Rattle.study_script.specs.Replies.{Reply}
 
 -- the reply with this state after it
 abbrev pub decided_reply : State → Result TableReply Refusal → Reply
-decided_reply s told = record { text = decided_text told; state = s; refused = is_err told }
+decided_reply s reported = record { text = decided_text reported; state = s; refused = is_err reported }
 
 -- the reply to this outcome has the property, in some environment, and the code is then in the state after it
 abbrev pub Decided : (Environment → Reply → Type 0) → (State → Type 0) → Result TableReply Refusal → Type 0
-Decided IsIt HoldsIt told = (o : Environment) × (t : State) × IsIt o (decided_reply t told) × HoldsIt t
+Decided IsIt HoldsIt reported = (o : Environment) × (t : State) × IsIt o (decided_reply t reported) × HoldsIt t
 
 -- these whole tables are those of the state, and they are right
 pub record HoldsWhole (w : Whole) (s : State) : Type 0 where

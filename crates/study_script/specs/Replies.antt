@@ -1,5 +1,5 @@
 -- The replies to the lines of a script.
-use Rattle.std.specs.Prelude.{◌≡◌, ◌⊎◌, ℕ, ◌+◌, ◌-◌, ◌*◌, ◌≤◌, Bool, true, false, ◌&&◌, ◌==◌, List, [], ◌∷◌}
+use Rattle.std.specs.Prelude.{◌≡◌, ◌⊎◌, ℕ, ◌+◌, ◌*◌, ◌≤◌, Bool, true, false, ◌&&◌, ◌==◌, List, [], ◌∷◌}
 use Rattle.std.specs.Prelude.{◌++◌, find, Option, Some, None, Result, Ok, Err, if◌then◌else◌, codes}
 use Rattle.std.specs.List.{flat_map}
 use Rattle.std.specs.Str.{bytes_eq}
@@ -306,7 +306,7 @@ IsOpenReply s o c true reply = reply ≡ refused s (AlreadyHeld c)
 IsOpenReply s (unopened fault) c false reply = IsGiven (s.shelf.headers c) (Err fault) × (reply ≡ refused s (refusal_of_store fault))
 IsOpenReply s (no_room_for bytes) c false reply =
     IsGiven (s.shelf.headers c) (Ok bytes) × (paged_fault false c (Ok bytes) ≡ None) × (reply ≡ refused s OutOfMemory)
-IsOpenReply s (header told) c false reply = IsGivenAs (s.shelf.headers c) (s.shelf.faults c) told × (reply ≡ opened s c (paged_fault false c told))
+IsOpenReply s (header reported) c false reply = IsGivenAs (s.shelf.headers c) (s.shelf.faults c) reported × (reply ≡ opened s c (paged_fault false c reported))
 IsOpenReply s _ c false reply = ⊥
 
 -- `save`: every fault of the store is reported as one of its device; the file is unknown from then on
@@ -337,8 +337,8 @@ IsNamedReply s o word None reply = reply ≡ refused s NotAClass
 IsNamedReply s o word (Some c) reply = IsTableReply s o word c reply
 
 -- the class of a name
-unfoldable pub class_told : List ℕ → Option Class
-class_told name = find (λ c. bytes_eq name (name_of c)) class_list
+unfoldable pub class_parsed : List ℕ → Option Class
+class_parsed name = find (λ c. bytes_eq name (name_of c)) class_list
 
 -- all of these except `load` need whole tables
 abbrev pub needs_whole_tables : TableCommand → Bool
@@ -347,7 +347,7 @@ needs_whole_tables _ = true
 
 abbrev pub IsClassReplyIn : State → Environment → TableCommand → List ℕ → Bool → Reply → Type 0
 IsClassReplyIn s o word name true reply = reply ≡ refused s PagedMode
-IsClassReplyIn s o word name false reply = IsNamedReply s o word (class_told name) reply
+IsClassReplyIn s o word name false reply = IsNamedReply s o word (class_parsed name) reply
 
 abbrev pub IsClassReply : State → Environment → TableCommand → List ℕ → Reply → Type 0
 IsClassReply s o word name reply = IsClassReplyIn s o word name (needs_whole_tables word && s.paged) reply

@@ -96,4 +96,4 @@ pub data Environment : Type 0 where
   -- the bytes of a file that is read from front to back
   file : (bytes : List ℕ) → Environment
   -- the answer of a source of pages to the request for its header
-  header : (told : Result (List ℕ) SourceFault) → Environment
+  header : (reported : Result (List ℕ) SourceFault) → Environment

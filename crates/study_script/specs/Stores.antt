@@ -14,7 +14,7 @@ use Rattle.study_command.specs.declared.command.TableCommand.TheVariants.{Load}
 use Rattle.std.specs.List.{AllByRecursion}
 use Rattle.study_command.specs.Lines.{script_lines}
 use Rattle.study_command.specs.Parser.{Asked, table_command, Asks, command_of}
-use Rattle.study_script.specs.Replies.{class_told}
+use Rattle.study_script.specs.Replies.{class_parsed}
 
 -- the bytes of a reader are known, and if they are read as a table, it is right
 abbrev pub IsRightFile : Option (List ℕ) → Type 0
@@ -32,7 +32,7 @@ pub record IsRightSource {S : Type 0} (honest : S → Table → ℕ → Type 0) 
 
 -- the bytes of a reader are the known ones of its store
 abbrev pub GivesBytes : Option (Result (List ℕ) StoreFault) → Option (List ℕ) → Type 0
-GivesBytes None told = Unit {0}
+GivesBytes None reported = Unit {0}
 GivesBytes (Some known) None = ⊥
 GivesBytes (Some known) (Some bytes) = Ok bytes ≡ known
 
@@ -56,7 +56,7 @@ HonestOn trusted honest store by_pages = (c : Class) → trusted c ≡ true → 
 
 -- a command that loads a table loads that of a trusted class; no other command needs trust
 abbrev pub IsTrustedClass : (Class → Bool) → TableCommand → List ℕ → Type 0
-IsTrustedClass trusted Load name = IfSome (class_told name) (λ c. trusted c ≡ true)
+IsTrustedClass trusted Load name = IfSome (class_parsed name) (λ c. trusted c ≡ true)
 IsTrustedClass trusted _ name = Unit {0}
 
 abbrev pub IsTrustedAsked : (Class → Bool) → Asked → Type 0

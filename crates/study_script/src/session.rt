@@ -54,7 +54,8 @@ impl<'a, 's, S: TableStore, A: Allocator> Interpreter for Session<'a, 's, S, A> 
     ghost use Rattle.study_script.specs.Session.{SessionHolds};
     ghost use Rattle.study_script.specs.Stores.{HonestOn};
 
-    ghost holds = { λ d trusted separate s. (separate ≡ d.separate) × SessionHolds S.Pages.honest S.Pages.gives (HonestOn trusted S.honest)
+    ghost holds = { λ d trusted separate s. (separate ≡ d.separate)
+        × SessionHolds S.Pages.honest S.Pages.gives (HonestOn trusted S.honest)
         S.files S.headers S.faults d.document d.tables d.store.now s };
 
     fn answer<W: Write>(&mut self, line: &[u8], out: &mut W) -> Result<bool, DeviceFailed> {

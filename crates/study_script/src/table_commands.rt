@@ -8,7 +8,7 @@ ghost use Rattle.study_tablefile.specs.Reading.{table_read};
 ghost use Rattle.study_script.specs.State.{State, is_among, first_lacking, IsGiven};
 ghost use Rattle.study_script.specs.StoreRefusals.{refusal_of_store, refusal_of_paged};
 ghost use Rattle.study_script.specs.Replies.{IsClassReply, IsNamedReply, IsBuildReply, IsLoadReply};
-ghost use Rattle.study_script.specs.Replies.{IsOpenReply, save_reply, verify_reply, refused, class_told};
+ghost use Rattle.study_script.specs.Replies.{IsOpenReply, save_reply, verify_reply, refused, class_parsed};
 ghost use Rattle.study_script.specs.SessionHolds.{HoldsTables, TablesFrom};
 ghost use Rattle.study_material.specs.declared.class.Class.{Class as AClass};
 ghost use Rattle.study_script.specs.Stores.{StoreSeen, HonestOn, IsTrustedClass};
@@ -45,7 +45,7 @@ pub fn table_command<'a, S: TableStore, A: Allocator>(
         result }
 {
     match in_tables(alloc, tables, store, word, name) {
-        Ok(told) => Ok(Reply::Table(told)),
+        Ok(reported) => Ok(Reply::Table(reported)),
         Err(refusal) => Err(LineRefusal::Line(refusal)),
     }
 }
@@ -82,7 +82,7 @@ fn whole_command<'a, S: TableStore, A: Allocator>(
     ensures { (trusted : AClass → Bool) (s : State) → IsTrustedClass trusted word name.now
         → HoldsWhole tables.old s
         → StoreSeen (HonestOn trusted S.honest) S.files S.headers S.faults store.old s
-        → Decided (λ o. IsNamedReply s o word (class_told name.now))
+        → Decided (λ o. IsNamedReply s o word (class_parsed name.now))
         (λ t. HoldsWhole tables.new t × (t.document ≡ s.document)
         × StoreSeen (HonestOn trusted S.honest) S.files S.headers S.faults store.new t) result }
 {
@@ -119,10 +119,10 @@ fn paged_command<'a, S: TableStore, A: Allocator>(
     }
 }
 
-#[tactic(auto, unfolding(crate::specs::Replies::class_told))]
+#[tactic(auto, unfolding(crate::specs::Replies::class_parsed))]
 fn class_of_name(name: &str) -> Result<Class, Refusal>
-    ensures ok { IfOk result (λ c. class_told name.now ≡ Some c) }
-    ensures err { IfErr result (λ e. (e ≡ Refusal.NotAClass) × (class_told name.now ≡ None)) }
+    ensures ok { IfOk result (λ c. class_parsed name.now ≡ Some c) }
+    ensures err { IfErr result (λ e. (e ≡ Refusal.NotAClass) × (class_parsed name.now ≡ None)) }
 {
     match Class::parse(name) {
         Ok(class) => Ok(class),
@@ -321,8 +321,8 @@ fn verify_class<'a, A: Allocator>(
 pub fn is_right<'a, A: Allocator>(tables: &WholeTables<'a, A>, class: Class) -> Option<bool>
     ensures held { is_some result ≡ is_some (table_of tables.now.tables class) }
     ensures right { NeedsAreRight tables.now.tables class
-        → IfSome result (λ told.
-        IfSome (table_of tables.now.tables class) (λ t. IsTrue told ↔ IsRight t)) }
+        → IfSome result (λ reported.
+        IfSome (table_of tables.now.tables class) (λ t. IsTrue reported ↔ IsRight t)) }
 {
     match tables.tables().table(class) {
         None => None,

@@ -7,7 +7,7 @@ use Rattle.std.proofs.lemmas.List.Kept.{AllPairs-cons}
 use Rattle.std.proofs.lemmas.Bool.{false≢true, ltb-true, ltb-false, cases_lt}
 use Rattle.study_values.specs.Number.{cells_of}
 use Rattle.study_index.proofs.ClassLaws.{below}
-use Rattle.study_index.proofs.ComputedIndex.{told_decoded}
+use Rattle.study_index.proofs.ComputedIndex.{decoded_of_numbered}
 use Rattle.study_search.specs.Finding.{IsFound, AreFound}
 use Rattle.study_search.specs.Laws.{NextFoundsAreAll}
 
@@ -70,6 +70,6 @@ all-found s = record {
     (λ m. (in-range (IsFound s) ns 0 (cells_of s.class) h k m.0 m.1 m.2).2),
     (λ f.
         let low : 0 ≤ k = omega arith in
-        there (IsFound s) ns 0 (cells_of s.class) h k low (below s.class k f.0 (told_decoded s.class k f.0 f.1)) f),
+        there (IsFound s) ns 0 (cells_of s.class) h k low (below s.class k f.0 (decoded_of_numbered s.class k f.0 f.1)) f),
   );
 }

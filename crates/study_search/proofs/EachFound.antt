@@ -19,7 +19,7 @@ use Rattle.study_material.specs.Lists.{Lists, lists, ordered, lists_exchanged, i
 use Rattle.study_material.proofs.ClassOfImage.{compare_lists, black_first, white_first, equal, ordered-image, swapped-image}
 use Rattle.study_values.specs.Index.{index_of}
 use Rattle.study_index.proofs.ClassLaws.{entry, numbered, alike_back, same_index}
-use Rattle.study_index.proofs.ComputedIndex.{IsIndex-index_of, index_of-only, decoded_told, told_decoded}
+use Rattle.study_index.proofs.ComputedIndex.{IsIndex-index_of, index_of-only, numbered_of_decoded, decoded_of_numbered}
 use Rattle.study_search.specs.declared.finding.Search.{Search}
 use Rattle.study_search.specs.Themes.{HasTheme}
 use Rattle.study_search.specs.Finding.{is_for}
@@ -68,7 +68,8 @@ module _ (law : AllAgreeWithBare) (s : Search) (p : Position) (valid : IsValid p
       (λ same. alike.kept (ap (λ l. l.white) home ∙ ordered-same (lists p.men) (subst (λ xs. (lists xs).white ≡ (lists xs).black) (bare-men p) same)
       ∙ sym (ap (λ l. l.black) home))) in
       let colours : by.colours ≡ is_swapped (without_idle_passed_square p).men =
-      same-flag by.colours (is_swapped (without_idle_passed_square p).men) (sym (swapped-image by (without_idle_passed_square p).men keeps) ∙ sym (ap (λ x. is_swapped x.men) is) ∙ e.in_order) in
+      same-flag by.colours (is_swapped (without_idle_passed_square p).men) (sym (swapped-image by (without_idle_passed_square p).men keeps)
+      ∙ sym (ap (λ x. is_swapped x.men) is) ∙ e.in_order) in
       let to_move : q.to_move ≡ turned_side (is_swapped p.men) p.to_move =
       ap (λ x. x.to_move) is ∙ ap (λ b. turned_side b (without_idle_passed_square p).to_move) (colours ∙ ap (λ xs. is_swapped xs) (bare-men p))
       ∙ ap (λ x. turned_side (is_swapped p.men) x) (bare-side p) in
@@ -76,15 +77,15 @@ module _ (law : AllAgreeWithBare) (s : Search) (p : Position) (valid : IsValid p
       record {
         found = (
           q,
-          decoded_told c n q r.1,
+          numbered_of_decoded c n q r.1,
           (
             ap (λ x. is_for s.side x) to_move ∙ side,
             subst (HasTheme s.theme) (sym is) (theme-image s.theme by (without_idle_passed_square p) turnable (theme-bare law p valid s.theme h)),
           ),
         );
-        once = λ m x told alike.
-            index_of-only p m valid (same_index c x p m (alike_back c p x alike) (entry c m x (told_decoded c m x told)).of_class
-            (entry c m x (told_decoded c m x told)).index);
+        once = λ m x reported alike.
+            index_of-only p m valid (same_index c x p m (alike_back c p x alike) (entry c m x (decoded_of_numbered c m x reported)).of_class
+            (entry c m x (decoded_of_numbered c m x reported)).index);
       }
 
 pub each-found : AllAgreeWithBare → EachIsFoundOnce

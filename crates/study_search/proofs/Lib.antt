@@ -4,7 +4,7 @@ pub mod OnlyMoves
 mod OneMove
 mod Promotions
 mod HalfPoints
-mod SideTold
+mod SideDecoded
 mod OtherSide
 mod ZugzwangCells
 mod ThemeImages

@@ -1,5 +1,6 @@
 -- The longest mate of the numbers so far.
-use Rattle.std.proofs.Common.{◌≡◌, ℕ, ◌+◌, ◌<◌, ◌≤◌, Bool, true, false, cond, Option, Some, None, Result, Ok, Err, IfOk, MatchOption, ◌↔◌, arith, refl, sym, ap, ◌∙◌, subst}
+use Rattle.std.proofs.Common.{◌≡◌, ℕ, ◌+◌, ◌<◌, ◌≤◌, Bool, true, false, cond, Option, Some, None, Result, Ok, Err, IfOk, MatchOption, ◌↔◌, arith}
+use Rattle.std.proofs.Common.{refl, sym, ap, ◌∙◌, subst}
 use Rattle.std.specs.Prelude.{nat_lt}
 use Rattle.std.proofs.lemmas.Bool.{false≢true, ltb-true, ltb-false}
 use Rattle.study_board.specs.declared.men.Side.{Side}
@@ -10,7 +11,7 @@ use Rattle.study_material.specs.declared.class.Class.{Class}
 use Rattle.study_values.specs.Number.{cells_of}
 use Rattle.study_index.specs.Computed.{position_numbered}
 use Rattle.study_index.proofs.ClassLaws.{below}
-use Rattle.study_index.proofs.ComputedIndex.{told_decoded}
+use Rattle.study_index.proofs.ComputedIndex.{decoded_of_numbered}
 use Rattle.study_values.specs.declared.value.Value.{Value}
 use Rattle.study_values.specs.declared.value.Value.TheVariants.{Win, Loss, Draw}
 use Rattle.study_values.specs.Game.{IsValueOf}
@@ -73,8 +74,8 @@ module _ (W : ℕ → ℕ → Type 0) (n : ℕ) where
 
 pub longest-all : (c : Class) (side : Side) (end : ℕ) (longest : Option ℕ) → cells_of c ≤ end → IsLongestBelow (MatesAt c side) end longest
     → IsLongest c side longest
-longest-all c side end None le h = λ n k w. let low = below c n w.0 (told_decoded c n w.0 w.1) in h n k (omega (arith, le, low)) w
-longest-all c side end (Some most) le h = (h.0, λ n k w. let low = below c n w.0 (told_decoded c n w.0 w.1) in h.1 n k (omega (arith, le, low)) w)
+longest-all c side end None le h = λ n k w. let low = below c n w.0 (decoded_of_numbered c n w.0 w.1) in h n k (omega (arith, le, low)) w
+longest-all c side end (Some most) le h = (h.0, λ n k w. let low = below c n w.0 (decoded_of_numbered c n w.0 w.1) in h.1 n k (omega (arith, le, low)) w)
 
 -- the mate by the value
 pub mate-by : EachHasAtMostOneValue → (p : Position) (v : Value) → IsValueOf p v → (k : ℕ) → (mate_by v ≡ Some k) ↔ IsWon p k

@@ -1,5 +1,6 @@
 -- The moves that hold, and the number of only moves in a row, by values and by the list of the legal moves.
-use Rattle.std.proofs.Common.{◌≡◌, ℕ, ◌-◌, ◌<◌, Bool, true, false, List, [], ◌∷◌, Option, Some, None, inl, inr, ◌⊎◌, Result, Ok, Err, IfOk, ◌↔◌, length, suc, zero, arith, refl, sym, ap, subst, ◌∙◌}
+use Rattle.std.proofs.Common.{◌≡◌, ℕ, ◌-◌, ◌<◌, Bool, true, false, List, [], ◌∷◌, Option, Some, None, inl, inr, ◌⊎◌, Result, Ok, Err, IfOk, ◌↔◌}
+use Rattle.std.proofs.Common.{length, suc, zero, arith, refl, sym, ap, subst, ◌∙◌}
 use Rattle.std.specs.List.{Contains, AllPairs}
 use Rattle.std.specs.Prelude.{slice_index_or}
 use Rattle.std.proofs.lemmas.Bool.{false≢true}

@@ -1,5 +1,5 @@
 -- The numbers of the same men with either side to move: with Black to move the number is higher by a constant.
-use Rattle.std.proofs.Common.{◌≡◌, ℕ, ◌+◌, ◌-◌, ◌*◌, ◌/◌, ◌%◌, ◌<◌, ◌≤◌, ◌==◌, nat_lt, Bool, true, false, cond, List, [], ◌∷◌, map, length}
+use Rattle.std.proofs.Common.{◌≡◌, ℕ, ◌+◌, ◌-◌, ◌*◌, ◌/◌, ◌<◌, ◌≤◌, ◌==◌, nat_lt, Bool, true, false, cond, List, [], ◌∷◌, map, length}
 use Rattle.std.proofs.Common.{Option, Some, None, inl, inr, refl, sym, ◌∙◌, ap, subst, arith}
 use Rattle.std.specs.Prelude.{◌^◌}
 use Rattle.std.specs.Option.{option_map}
@@ -17,17 +17,18 @@ use Rattle.study_board.specs.Symmetry.{turned_man}
 use Rattle.study_board.specs.Position.{Position, IsValid}
 use Rattle.study_moves.specs.EnPassant.{has_legal_en_passant}
 use Rattle.study_material.specs.declared.class.Class.{Class}
-use Rattle.study_values.specs.Number.{place, number, king_places, side_number, append_squares, has_bit, without_bit, with_bit, numbers_of, cells_of, has_both_pawns}
-use Rattle.study_values.specs.Canonical.{turned_number, last_two_exchanged, are_like, descends, least, least_by, canonical_number, canonical_symmetry}
+use Rattle.study_values.specs.Number.{place, number, king_places, side_number, append_squares, has_bit, without_bit, numbers_of, has_both_pawns}
+use Rattle.study_values.specs.Canonical.{turned_number, are_like, descends, least, least_by, canonical_number, canonical_symmetry}
 use Rattle.study_values.specs.Index.{index_of}
 use Rattle.study_values.specs.Size.{pages_of}
 use Rattle.study_material.specs.Class.{lists_of}
 use Rattle.study_index.specs.declared.decoding.Slot.{Slot}
-use Rattle.study_index.specs.Decoded.{slot_filled, slots_of, slots_have_pawn, AreSlots, head, side_numbered, told_men, told_side, passed_behind, is_cell, IsPlaced, IsDecoded}
+use Rattle.study_index.specs.Decoded.{slot_filled, slots_of, slots_have_pawn, AreSlots, head, side_numbered, decoded_men, decoded_side, passed_behind}
+use Rattle.study_index.specs.Decoded.{is_cell, IsPlaced, IsDecoded}
 use Rattle.study_index.proofs.NumbersReadOff.{filled-men_of, IsInSlots-men_of}
 use Rattle.study_index.proofs.ClassSlots.{AreSlots-class, is_cell-below}
 use Rattle.study_index.proofs.MovedNumbers.{least_index}
-use Rattle.study_index.proofs.DecodedNumbers.{told_of}
+use Rattle.study_index.proofs.DecodedNumbers.{encoded_by}
 use Rattle.study_index.proofs.WithBit.{HasParts-from}
 use Rattle.study_index.proofs.ComputedIndex.{index_of-only}
 use Rattle.study_prober.proofs.Cells.{page_of_cell}
@@ -191,13 +192,13 @@ black-above pawns [] n s l = absurd s
 black-above pawns (k ∷ []) n s l = absurd s
 black-above pawns (k ∷ b ∷ x ∷ y ∷ z ∷ fs) n s l = absurd s
 
-pub white-told : (c : Class) (n : ℕ) → n < side_step c → told_side (slots_of c) n ≡ White
+pub white-decoded : (c : Class) (n : ℕ) → n < side_step c → decoded_side (slots_of c) n ≡ White
 unfolding side_step
-white-told c n l = white-below (slots_have_pawn (slots_of c)) (slots_of c) n (AreSlots-class c) l
+white-decoded c n l = white-below (slots_have_pawn (slots_of c)) (slots_of c) n (AreSlots-class c) l
 
-pub black-told : (c : Class) (n : ℕ) → side_step c ≤ n → told_side (slots_of c) n ≡ Black
+pub black-decoded : (c : Class) (n : ℕ) → side_step c ≤ n → decoded_side (slots_of c) n ≡ Black
 unfolding side_step
-black-told c n l = black-above (slots_have_pawn (slots_of c)) (slots_of c) n (AreSlots-class c) l
+black-decoded c n l = black-above (slots_have_pawn (slots_of c)) (slots_of c) n (AreSlots-class c) l
 
 -- ---- the numbers of a class are twice as many
 
@@ -212,9 +213,9 @@ cell-below pawns [] n s e = absurd s
 cell-below pawns (k ∷ []) n s e = absurd s
 cell-below pawns (k ∷ b ∷ x ∷ y ∷ z ∷ fs) n s e = absurd s
 
-pub told-below : (c : Class) (n : ℕ) → is_cell (slots_of c) n ≡ true → n < 2 * side_step c
+pub reported-below : (c : Class) (n : ℕ) → is_cell (slots_of c) n ≡ true → n < 2 * side_step c
 unfolding side_step
-told-below c n e = cell-below (slots_have_pawn (slots_of c)) (slots_of c) n (AreSlots-class c) e
+reported-below c n e = cell-below (slots_have_pawn (slots_of c)) (slots_of c) n (AreSlots-class c) e
 
 cell-there : (pawns : Bool) (slots : List Slot) (n : ℕ) → AreSlots slots → n < 2 * step_of pawns slots → nat_lt (head slots n / king_places pawns) 2 ≡ true
 cell-there true (k ∷ b ∷ []) n s l = (let m : n < 4096 = l in lt-ltb (n / 64 / 32) 2 (omega (arith, m)))
@@ -268,18 +269,18 @@ quiet c n p d small = sym (HasParts-from p n d.valid d.index).bit ∙ no-bit n s
 
 -- the number of the same men with the other side to move
 pub other-number : (c : Class) (n : ℕ) (p : Position) → IsDecoded c n p → n < 16777216 → IsValid (handed_on p)
-    → (told_side (slots_of c) n ≡ White → index_of (handed_on p) ≡ n + side_step c)
-    × (told_side (slots_of c) n ≡ Black → index_of (handed_on p) + side_step c ≡ n)
+    → (decoded_side (slots_of c) n ≡ White → index_of (handed_on p) ≡ n + side_step c)
+    × (decoded_side (slots_of c) n ≡ Black → index_of (handed_on p) + side_step c ≡ n)
 unfolding side_step
 other-number c n p d small valid =
     let slots = slots_of c in
     let pawns = slots_have_pawn slots in
-    let men = told_men slots n in
-    let side = told_side slots n in
+    let men = decoded_men slots n in
+    let side = decoded_side slots n in
     let s = AreSlots-class c in
     let t : IsPlaced men side (passed_behind (has_bit n) side men) p =
-    subst (λ (m : ℕ). IsPlaced (told_men slots m) (told_side slots m) (passed_behind (has_bit n) (told_side slots m) (told_men slots m)) p)
-    (plain n small) (told_of c n p d) in
+    subst (λ (m : ℕ). IsPlaced (decoded_men slots m) (decoded_side slots m) (passed_behind (has_bit n) (decoded_side slots m) (decoded_men slots m)) p)
+    (plain n small) (encoded_by c n p d) in
     let back : IsPermutation p.men men = IsPermutation-sym men p.men t.same_men in
     let filled : map slot_filled men ≡ slots = filled-men_of pawns slots n s in
     let in_slots = IsInSlots-men_of pawns slots n s in

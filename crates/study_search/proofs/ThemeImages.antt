@@ -71,7 +71,8 @@ other-turned false s = refl
 other-turned true s = refl
 
 pub handed-image : (s : Symmetry) (p : Position) → handed_on (image s p) ≡ image s (handed_on p)
-handed-image s p = ap (λ (x : Side). (let q : Position = record { men = turned_men s p.men; to_move = x; passed = None } in q)) (other-turned s.colours p.to_move)
+handed-image s p = ap (λ (x : Side). (let q : Position = record { men = turned_men s p.men; to_move = x; passed = None } in q))
+    (other-turned s.colours p.to_move)
 
 -- men that a symmetry can turn admit it
 admits-from_seats : (s : Symmetry) (xs : List Man) → Each (IsSeated s) xs → (not (list_any is_pawn xs) || keeps_pawns s) ≡ true

@@ -1,45 +1,45 @@
 -- A mutual zugzwang by the cells of the same men with either side to move, and the pages that have them.
-use Rattle.std.proofs.Common.{◌≡◌, ℕ, ◌+◌, ◌-◌, ◌*◌, ◌/◌, ◌%◌, ◌<◌, ◌≤◌, inl, inr, Bool, true, false, List, Option, Some, None, Result, Ok, Err, IfOk, ◌↔◌, refl, sym, ◌∙◌, ap, subst, arith}
+use Rattle.std.proofs.Common.{◌≡◌, ℕ, ◌+◌, ◌*◌, ◌/◌, ◌%◌, ◌<◌, ◌≤◌, inl, inr, Bool, true, false, List, Option, Some, None, Result, Ok, Err, IfOk, ◌↔◌}
+use Rattle.std.proofs.Common.{refl, sym, ◌∙◌, ap, subst, arith}
 use Rattle.std.specs.Prelude.{slice_index, IfSome}
 use Rattle.std.proofs.lemmas.Bool.{false≢true, cases_lt, lt-ltb, ltb-true}
 use Rattle.study_board.specs.declared.men.Side.{Side}
 use Rattle.study_board.specs.declared.men.Side.TheVariants.{White, Black}
 use Rattle.study_board.specs.Position.{Position, IsValid}
-use Rattle.study_moves.specs.EnPassant.{has_legal_en_passant}
 use Rattle.study_moves.specs.Laws.{EachHasAtMostOneValue}
 use Rattle.study_material.specs.declared.class.Class.{Class}
 use Rattle.study_values.specs.Number.{with_bit, without_bit}
 use Rattle.study_values.specs.Index.{index_of}
 use Rattle.study_values.specs.Cells.{value_of}
 use Rattle.study_values.specs.Game.{IsValueOf}
-use Rattle.study_index.specs.Decoded.{slots_of, told_side, IsDecoded}
+use Rattle.study_index.specs.Decoded.{slots_of, decoded_side, IsDecoded}
 use Rattle.study_index.specs.Computed.{position_numbered}
 use Rattle.study_index.proofs.ClassLaws.{entry}
 use Rattle.study_index.proofs.ClassSlots.{AreSlots-class}
-use Rattle.study_index.proofs.ComputedIndex.{told_decoded, decoded_told, index_of-only}
+use Rattle.study_index.proofs.ComputedIndex.{decoded_of_numbered, numbered_of_decoded, index_of-only}
 use Rattle.study_index.proofs.NumbersReadOff.{IsOfMen-decoded}
 use Rattle.study_index.proofs.WithBit.{HasParts-from}
 use Rattle.study_prober.specs.CellPages.{AreValuesOf}
-use Rattle.study_zugzwang.specs.Zugzwang.{half_points, handed_on, Scores, IsZugzwang}
+use Rattle.study_zugzwang.specs.Zugzwang.{half_points, handed_on, Scores}
 use Rattle.study_zugzwang.proofs.Zugzwangs.{one-score}
 use Rattle.study_search.specs.declared.finding.Search.{Search}
 use Rattle.study_search.specs.declared.themes.Theme.{Theme}
 use Rattle.study_search.specs.declared.themes.Theme.TheVariants as theme
 use Rattle.study_search.specs.Themes.{HasTheme}
 use Rattle.study_search.specs.Finding.{is_for, IsFound, IsNext, HoldsOfNone, IsFirst}
-use Rattle.study_search.specs.ByCells.{side_step, IsZugzwangAt, IsHandedOn, is_less, IsZugzwangBy, IsOpposite, IsFoundOn}
-use Rattle.study_search.proofs.SideTold.{side-told}
-use Rattle.study_search.proofs.OtherSide.{step-small, white-told, black-told, told-below, quiet, other-number}
+use Rattle.study_search.specs.ByCells.{side_step, IsZugzwangAt, IsHandedOn, IsZugzwangBy, IsOpposite, IsFoundOn}
+use Rattle.study_search.proofs.SideDecoded.{side-decoded}
+use Rattle.study_search.proofs.OtherSide.{step-small, white-decoded, black-decoded, reported-below, quiet, other-number}
 
 -- ---- by the decoded position
 
 pub not-handed : (c : Class) (n : ℕ) → ((q : Position) → IsDecoded c n q → ⊥) → (false ≡ true) ↔ IsHandedOn c n
-not-handed c n none = ((λ f. absurd (false≢true f)), (λ h. absurd (none h.0 (told_decoded c n h.0 h.1))))
+not-handed c n none = ((λ f. absurd (false≢true f)), (λ h. absurd (none h.0 (decoded_of_numbered c n h.0 h.1))))
 
 pub handed-by : (c : Class) (n : ℕ) (p : Position) (b : Bool) → IsDecoded c n p → ((b ≡ true) ↔ IsValid (handed_on p)) → (b ≡ true) ↔ IsHandedOn c n
 handed-by c n p b d h = (
-  (λ e. (p, decoded_told c n p d, h.0 e)),
-  (λ x. h.1 (subst (λ (q : Position). IsValid (handed_on q)) (same x.0 p (sym x.1 ∙ decoded_told c n p d)) x.2)),
+  (λ e. (p, numbered_of_decoded c n p d, h.0 e)),
+  (λ x. h.1 (subst (λ (q : Position). IsValid (handed_on q)) (same x.0 p (sym x.1 ∙ numbered_of_decoded c n p d)) x.2)),
 )
   where
     same : (q r : Position) → Some q ≡ Some r → q ≡ r
@@ -55,16 +55,16 @@ less-and A b r e h = ((λ t. (e, h.0 t)), (λ x. h.1 x.1))
 
 -- where the cell of the same men with the other side to move is
 other-place : (c : Class) (n page opposite m : ℕ) → side_step c % 4096 ≡ 0 → IsOpposite c page opposite → n / 4096 ≡ page
-    → (told_side (slots_of c) n ≡ White → m ≡ n + side_step c) × (told_side (slots_of c) n ≡ Black → m + side_step c ≡ n)
+    → (decoded_side (slots_of c) n ≡ White → m ≡ n + side_step c) × (decoded_side (slots_of c) n ≡ Black → m + side_step c ≡ n)
     → (m / 4096 ≡ opposite) × (m % 4096 ≡ n % 4096)
 other-place c n page opposite m whole facing at other = elim (cases_lt n (side_step c)) [
   | inl l ↦
-      let e = other.0 (white-told c n l) in
+      let e = other.0 (white-decoded c n l) in
       let low : 4096 * page < side_step c = omega (arith, l, at) in
       let o = facing.black low in
       (omega (arith, whole, at, e, o), omega (arith, whole, e))
   | inr g ↦
-      let e = other.1 (black-told c n g) in
+      let e = other.1 (black-decoded c n g) in
       let high : side_step c ≤ 4096 * page = omega (arith, g, at, whole) in
       let o = facing.white high in
       (omega (arith, whole, at, e, o), omega (arith, whole, e))
@@ -78,7 +78,7 @@ module _ (law : EachHasAtMostOneValue) (c : Class) (page opposite : ℕ) (own ot
 
     own-score : (p : Position) → position_numbered c n ≡ Some p → Scores p (half_points (value_of (slice_index own (n % 4096))))
     own-score p e =
-        let d = told_decoded c n p e in
+        let d = decoded_of_numbered c n p e in
         let index : index_of p ≡ n = sym (index_of-only p n d.valid d.index) in
         let v = owns p d.valid (entry c n p d).of_class (ap (λ (m : ℕ). m / 4096) index ∙ at) in
         (value_of (slice_index own (n % 4096)), subst (λ (m : ℕ). IsValueOf p (value_of (slice_index own (m % 4096)))) index v, refl)
@@ -86,7 +86,7 @@ module _ (law : EachHasAtMostOneValue) (c : Class) (page opposite : ℕ) (own ot
     other-score : (p : Position) → position_numbered c n ≡ Some p → IsValid (handed_on p)
         → Scores (handed_on p) (half_points (value_of (slice_index other (n % 4096))))
     other-score p e valid =
-        let d = told_decoded c n p e in
+        let d = decoded_of_numbered c n p e in
         let q = handed_on p in
         let there = other-place c n page opposite (index_of q) whole facing at (other-number c n p d small valid) in
         let v = others q valid (entry c n p d).of_class there.0 in
@@ -100,7 +100,7 @@ module _ (law : EachHasAtMostOneValue) (c : Class) (page opposite : ℕ) (own ot
           p,
           h.1.1,
           record {
-            none_passed = quiet c n p (told_decoded c n p h.1.1) small;
+            none_passed = quiet c n p (decoded_of_numbered c n p h.1.1) small;
             other = h.1.2;
             less = (i, j, own-score p h.1.1, other-score p h.1.1 h.1.2, ltb-true (i + j) 2 h.0);
           },
@@ -135,21 +135,21 @@ module _ (law : EachHasAtMostOneValue) (c : Class) (page opposite : ℕ) (own ot
 -- a number with the bit of a capture in passing, or beyond its class, is none
 pub none-beyond : (c : Class) (n : ℕ) → 2 * side_step c ≤ n → IsZugzwangAt c n → ⊥
 none-beyond c n far z =
-    let d = told_decoded c n z.0 z.1 in
+    let d = decoded_of_numbered c n z.0 z.1 in
     let is : n ≡ without_bit n = (HasParts-from z.0 n d.valid d.index).is ∙ ap (λ b. with_bit b (without_bit n)) z.2.none_passed in
-    let low : without_bit n < 2 * side_step c = told-below c (without_bit n) (IsOfMen-decoded (slots_of c) n z.0 (AreSlots-class c) d).cell in
+    let low : without_bit n < 2 * side_step c = reported-below c (without_bit n) (IsOfMen-decoded (slots_of c) n z.0 (AreSlots-class c) d).cell in
     omega (arith, far, is, low)
 
 module _ (s : Search) (is : s.theme ≡ theme.Zugzwang) where
   at-found : (n : ℕ) → IsFound s n → IsZugzwangAt s.class n
   at-found n f = (f.0, f.1, subst (λ (t : Theme). HasTheme t f.0) is f.2.1)
 
-  found-at : (n : ℕ) → is_for s.side (told_side (slots_of s.class) (without_bit n)) ≡ true → IsZugzwangAt s.class n → IsFound s n
+  found-at : (n : ℕ) → is_for s.side (decoded_side (slots_of s.class) (without_bit n)) ≡ true → IsZugzwangAt s.class n → IsFound s n
   found-at n e z = (
     z.0,
     z.1,
     (
-      ap (λ x. is_for s.side x) (side-told s.class n z.0 z.1) ∙ e,
+      ap (λ x. is_for s.side x) (side-decoded s.class n z.0 z.1) ∙ e,
       subst (λ (t : Theme). HasTheme t z.0) (sym is) z.2,
     ),
   )
@@ -159,20 +159,21 @@ module _ (s : Search) (is : s.theme ≡ theme.Zugzwang) where
 
   module _ (page : ℕ) (side : Side) (whole : side_step s.class % 4096 ≡ 0) (low : 4096 * page < 2 * side_step s.class)
       (white : page < side_step s.class / 4096 → side ≡ White) (black : side_step s.class / 4096 ≤ page → side ≡ Black) where
-    side-here : (n : ℕ) → 4096 * page ≤ n → n < 4096 * page + 4096 → told_side (slots_of s.class) (without_bit n) ≡ side
+    side-here : (n : ℕ) → 4096 * page ≤ n → n < 4096 * page + 4096 → decoded_side (slots_of s.class) (without_bit n) ≡ side
     side-here n first last =
         let few = step-small s.class in
         let plain : without_bit n ≡ n = (let l : n < 16777216 = omega (arith, last, low, few, whole) in omega (arith, l)) in
-        let here : told_side (slots_of s.class) n ≡ side = elim (cases_lt page (side_step s.class / 4096)) [
-          | inl l ↦ white-told s.class n (omega (arith, l, last, whole)) ∙ sym (white l)
-          | inr g ↦ black-told s.class n (omega (arith, g, first, whole)) ∙ sym (black g)
+        let here : decoded_side (slots_of s.class) n ≡ side = elim (cases_lt page (side_step s.class / 4096)) [
+          | inl l ↦ white-decoded s.class n (omega (arith, l, last, whole)) ∙ sym (white l)
+          | inr g ↦ black-decoded s.class n (omega (arith, g, first, whole)) ∙ sym (black g)
         ] in
-        ap (λ (m : ℕ). told_side (slots_of s.class) m) plain ∙ here
+        ap (λ (m : ℕ). decoded_side (slots_of s.class) m) plain ∙ here
 
     -- with this side to move nothing is looked for
     pub none-wanted : (from to : ℕ) → is_for s.side side ≡ false → IsNext (IsFoundOn s page) from to None
     none-wanted from to e = λ k a b f.
-        false≢true (sym e ∙ ap (λ x. is_for s.side x) (sym (side-here k f.0 f.1)) ∙ ap (λ x. is_for s.side x) (sym (side-told s.class k f.2.0 f.2.1)) ∙ f.2.2.0)
+        false≢true (sym e ∙ ap (λ x. is_for s.side x) (sym (side-here k f.0 f.1)) ∙ ap (λ x. is_for s.side x) (sym (side-decoded s.class k f.2.0 f.2.1))
+        ∙ f.2.2.0)
 
     pub next-wanted : (from to first end : ℕ) (next : Option ℕ) → is_for s.side side ≡ true
         → 4096 * page ≤ first → from ≤ first → ((k : ℕ) → from ≤ k → 4096 * page ≤ k → first ≤ k)

@@ -3,7 +3,7 @@
 
 ghost use Rattle.std.specs.Prelude.{◌≡◌, ◌≤◌, ◌<◌, ◌↔◌, true, IfOk, IfErr, IfSome};
 ghost use Rattle.study_values.specs.Number.{without_bit};
-ghost use Rattle.study_index.specs.Decoded.{slots_of, told_side};
+ghost use Rattle.study_index.specs.Decoded.{slots_of, decoded_side};
 ghost use Rattle.study_search.specs.Faults.{CanReport, HasSameTables};
 ghost use Rattle.study_search.specs.OnlyMoves.{IsMost};
 ghost use Rattle.study_search.specs.Finding.{is_for, IsLookedFor, IsFound, IsNext};
@@ -38,7 +38,7 @@ pub fn is_for(wanted: Option<Side>, to_move: Side) -> bool
 /// The side to move in the position of a number, if there is one: it is decoded before the men are.
 #[inline]
 pub fn side_at(class: Class, number: u32) -> Side
-    ensures { result ≡ told_side (slots_of class) (without_bit number) }
+    ensures { result ≡ decoded_side (slots_of class) (without_bit number) }
 {
     let setup = decode_men(class, number);
     setup.to_move

@@ -1,6 +1,6 @@
 -- A whole sheet, from the parts written one after the other.
-use Rattle.std.proofs.Common.{◌≡◌, ℕ, List, Option, Some, None, Result, Ok, Err, refl, inl, inr, true, false, Bool, is_err}
-use Rattle.std.specs.Prelude.{IfSome, OnOk}
+use Rattle.std.proofs.Common.{ℕ, List, Option, Some, None, Result, Err, refl, inl, inr}
+use Rattle.std.specs.Prelude.{IfSome}
 use Rattle.std.specs.Io.KnownBytes.{Appends}
 use Rattle.study_text.specs.Taken.{TakesPrefix}
 use Rattle.study_script.specs.declared.running.Summary.{Summary}
@@ -20,8 +20,8 @@ module _ (left old begun ended new : Option (List ℕ)) (answer : Result Summary
   pub whole_sheet : (first : State) (given : Option (List ℕ)) (ran : Result Summary RunFault) → Appends old begun sheet_opening
       → IfSome given (λ bytes. Outcome IsPlaceAs refusal_text no_remark first bytes left begun ended ran) → IsEnded closing ended new ran answer
       → IfSome given (λ bytes. IsSheet first bytes left old new answer)
-  whole_sheet first None ran opened told end = tt
-  whole_sheet first (Some script) ran opened told end = inr (begun, ended, ran, opened, told, end)
+  whole_sheet first None ran opened reported end = tt
+  whole_sheet first (Some script) ran opened reported end = inr (begun, ended, ran, opened, reported, end)
 
   pub sheet_fits : (given : Option (List ℕ)) (ran : Result Summary RunFault) → Appends old begun sheet_opening
       → IfSome given (λ bytes. Fits IsPlace refusal_text no_remark bytes left begun ended ran) → IsEnded closing ended new ran answer

@@ -28,7 +28,7 @@ impl Report for Sheet {
     ghost remark = { λ line. no_remark line };
 
     // Nothing is kept.
-    ghost lists = { λ sheet told. Unit {0} };
+    ghost lists = { λ sheet reported. Unit {0} };
 
     #[tactic(auto, using(crate::proofs::NothingAsked::nothing_asked))]
     fn add_study<'a, 'b, A: Allocator, B: Allocator, V: Values, W: Write>(

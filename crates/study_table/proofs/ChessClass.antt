@@ -25,7 +25,7 @@ use Rattle.study_table.specs.Table.{Table, table_of, IsClosed}
 use Rattle.study_material.specs.Class.{is_of, class_in, class_found}
 use Rattle.study_material.proofs.Classes.{IsOf-is_of, is_of-IsOf}
 use Rattle.study_table.specs.Game.{value_by, value_in}
-use Rattle.study_index.proofs.ComputedIndex.{IsIndex-index_of, index_of-only, told_decoded, decoded_told}
+use Rattle.study_index.proofs.ComputedIndex.{IsIndex-index_of, index_of-only, decoded_of_numbered, numbered_of_decoded}
 use Rattle.study_table.proofs.LevelLemmas.{distance-byte}
 
 -- positions that are alike have the same pair of lists
@@ -80,13 +80,13 @@ pub chess_class : (c : Class) (held : List (Option Table)) → IsClosed held
     → IsClass Leads IsMate (λ p. LeadsOn c p) (is_of c) index_of (value_in held) (position_numbered c) (cells_of c) (AreAlikeIn c)
 chess_class c held closed = record {
   stuck = λ p q m l. m.1 l.0 l.1;
-  below = λ n p e. below c n p (told_decoded c n p e);
+  below = λ n p e. below c n p (decoded_of_numbered c n p e);
   decoded = λ n p e. (
-      let h = entry c n p (told_decoded c n p e) in
+      let h = entry c n p (decoded_of_numbered c n p e) in
       (record { valid = h.valid; of_class = inl h.of_class }, is_of-IsOf c p h.of_class, sym (index_of-only p n h.valid h.index)));
   numbered =
       λ p k e. (let h = numbered c p (index_of p) k.valid (IsOf-is_of c p e) (IsIndex-index_of p k.valid) in
-      (h.0, decoded_told c (index_of p) h.0 h.1, h.2));
+      (h.0, numbered_of_decoded c (index_of p) h.0 h.1, h.2));
   closed = λ p q k e l. moves_lead_on c p q k.valid (IsOf-is_of c p e) l;
   back = alike_back c;
   move = alike_move c;

@@ -83,9 +83,9 @@ cell_in_bounds t p n complete valid of_class is =
     omega (arith, complete.size)
 
 -- the value of a table at a position
-pub at_told : (t u : Table) (p : Position) (n : ℕ) (cells : List ℕ) (v : Value) → t ≡ u → IsValid p → IsIndex p n
+pub value_of_cells : (t u : Table) (p : Position) (n : ℕ) (cells : List ℕ) (v : Value) → t ≡ u → IsValid p → IsIndex p n
     → cells ≡ t.cells → v ≡ value_of (get_or cells n 0) → v ≡ value_of (slice_index u.cells (index_of p))
-at_told t u p n cells v e valid is s w =
+value_of_cells t u p n cells v e valid is s w =
     w ∙ ap (λ (xs : List ℕ). value_of (slice_index xs n)) (s ∙ ap (λ (x : Table). x.cells) e)
     ∙ ap (λ (m : ℕ). value_of (slice_index u.cells m)) (index_of-only p n valid is)
 

@@ -61,7 +61,7 @@ impl<'a, A: Allocator> Table<'a, A> {
     /// The table's value of a position of its class, which may have a passed square.
     pub fn at(&self, p: &Position) -> Value
         requires { IsOf self.now.class p.now }
-        ensures told { result ≡ value_of (slice_index self.now.cells (index_of p.now)) }
+        ensures reported { result ≡ value_of (slice_index self.now.cells (index_of p.now)) }
         ensures right { IsRight self.now → IsValueOf p.now result }
         ensures near { distance_of result < 255 }
     {

@@ -1,6 +1,6 @@
 -- The bytes that a reader with known bytes has returned.
 use Rattle.std.proofs.Common.{◌≡◌, ℕ, suc, ◌+◌, ◌<◌, Bool, true, false, ◌&&◌, nat_lt, List, [], ◌∷◌, ◌++◌, length}
-use Rattle.std.proofs.Common.{take, drop, find, slice_index_or, slice_set, Option, Some, None, Result, Err, IfErr}
+use Rattle.std.proofs.Common.{take, drop, find, slice_index_or, Option, Some, None, Result, Err, IfErr}
 use Rattle.std.proofs.Common.{if◌then◌else◌, refl, sym, ap, subst, ◌∙◌, arith, length-append, length-drop}
 use Rattle.std.specs.Io.KnownBytes.{Consumes, Keeps, IsAtEnd}
 use Rattle.std.specs.Str.{bytes_eq}
@@ -73,10 +73,10 @@ long_enough front rest n e = le-ltb (length (front ++ rest)) n (omega (arith, le
 
 -- ---- pages
 
-pub page_told : (fields page rest : List ℕ) (n : ℕ) → length page ≡ 4128
+pub page_reported : (fields page rest : List ℕ) (n : ℕ) → length page ≡ 4128
     → page_fault fields n (page ++ rest) ≡ (if bytes_eq (take 32 (drop 4096 page)) (page_digest fields n (take 4096 page)) then None else Some (PageDamaged n))
 unfolding page_fault
-page_told fields page rest n e =
+page_reported fields page rest n e =
     let size : length (drop 4096 page) ≡ 32 = length-drop 4096 page ∙ omega (arith, e) in
     let cells : take 4096 (page ++ rest) ≡ take 4096 page = take-append-le 4096 page rest (omega arith) in
     let digest : take 32 (drop 4096 (page ++ rest)) ≡ take 32 (drop 4096 page) =
@@ -86,21 +86,21 @@ page_told fields page rest n e =
 
 pub page_bad : (a b : Option (List ℕ)) (fields page bytes : List ℕ) (n : ℕ) (t : Bool) → length page ≡ 4128 → Consumes a b page → a ≡ Some bytes
     → t ≡ bytes_eq (take 32 (drop 4096 page)) (page_digest fields n (take 4096 page)) → t ≡ false → page_fault fields n bytes ≡ Some (PageDamaged n)
-page_bad a b fields page bytes n t size h e told f =
+page_bad a b fields page bytes n t size h e reported f =
     let (rest, next, whole) = consumed a b page bytes 4128 size h e in
-    ap (page_fault fields n) whole ∙ page_told fields page rest n size ∙ rw (sym told ∙ f) refl
+    ap (page_fault fields n) whole ∙ page_reported fields page rest n size ∙ rw (sym reported ∙ f) refl
 
 pub page_good : (a b : Option (List ℕ)) (fields page bytes cells old new : List ℕ) (n : ℕ) (t : Bool) → length page ≡ 4128 → Consumes a b page → a ≡ Some bytes
     → t ≡ bytes_eq (take 32 (drop 4096 page)) (page_digest fields n (take 4096 page)) → t ≡ true → cells ≡ take 4096 page → new ≡ old ++ cells
     → (b ≡ Some (drop 4128 bytes)) × (new ≡ old ++ take 4096 bytes) × (page_fault fields n bytes ≡ None)
-page_good a b fields page bytes cells old new n t size h e told f g more =
+page_good a b fields page bytes cells old new n t size h e reported f g more =
     let (rest, next, whole) = consumed a b page bytes 4128 size h e in
     let after : rest ≡ drop 4128 bytes = sym (ap (λ (l : List ℕ). drop 4128 l) whole ∙ drop_at page rest 4128 size) in
     let front : cells ≡ take 4096 bytes = g ∙ sym (ap (λ (l : List ℕ). take 4096 l) whole ∙ take-append-le 4096 page rest (omega arith)) in (
       next ∙ ap (λ (l : List ℕ). Some l) after,
       more ∙ ap (λ (l : List ℕ). old ++ l) front,
       ap (page_fault fields n)
-          whole ∙ page_told fields page rest n size ∙ rw (sym told ∙ f) refl,
+          whole ∙ page_reported fields page rest n size ∙ rw (sym reported ∙ f) refl,
     )
 
 pub pages_stop : (c : Class) (v n k j : ℕ) (fields cells rest : List ℕ) (fault : FileFault)

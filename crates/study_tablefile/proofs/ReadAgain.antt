@@ -27,7 +27,7 @@ use Rattle.study_tablefile.specs.Reading.{class_named, class_checked, version_of
 use Rattle.study_values.specs.declared.fault.SourceFault.{SourceFault}
 use Rattle.study_tablefile.specs.PageSource.{is_whole_page, page_of, IsAnswerOf, of_page}
 use Rattle.study_values.proofs.ClassBounds.{pages_hold, pages_full}
-use Rattle.study_tablefile.proofs.BytesGiven.{long_enough, page_told}
+use Rattle.study_tablefile.proofs.BytesGiven.{long_enough, page_reported}
 
 -- ---- lengths
 
@@ -224,7 +224,7 @@ page_again fields rest cells n =
     let front : take 4096 (full ++ digest) ≡ full = take_at full digest 4096 (cells_length cells) in
     let back : take 32 (drop 4096 (full ++ digest)) ≡ digest =
     ap (λ (l : List ℕ). take 32 l) (drop_at full digest 4096 (cells_length cells)) ∙ take_all 32 digest (omega (arith, digest_length fields n full)) in
-    page_told fields (full ++ digest) rest n (page_length fields n cells) ∙ rw front (rw (same_bytes _ _ back) refl)
+    page_reported fields (full ++ digest) rest n (page_length fields n cells) ∙ rw front (rw (same_bytes _ _ back) refl)
 
 cells_again : (fields rest cells : List ℕ) (n : ℕ) → take 4096 (page_text fields n (page_cells_of cells) ++ rest) ≡ page_cells_of cells
 unfolding page_text

@@ -99,5 +99,5 @@ IsReadBefore bytes pages TrailingBytes n = n ≡ 64 + 4128 * pages + 1
 IsReadBefore bytes pages Device n = n ≤ 64 + 4128 * pages
 
 -- the bytes of a file of so many pages that are left when a fault is reported
-abbrev pub IsToldAt : List ℕ → ℕ → Option (List ℕ) → FileFault → Type 0
-IsToldAt bytes pages left fault = (n : ℕ) × IsReadBefore bytes pages fault n × (left ≡ Some (drop n bytes))
+abbrev pub IsReportedAt : List ℕ → ℕ → Option (List ℕ) → FileFault → Type 0
+IsReportedAt bytes pages left fault = (n : ℕ) × IsReadBefore bytes pages fault n × (left ≡ Some (drop n bytes))

@@ -8,7 +8,7 @@ ghost use Rattle.study_values.specs.Number.{cells_of};
 ghost use Rattle.study_tablefile.specs.Format.{is_known_version, IsVersionOf, class_field, fields_text, page_digest, table_text};
 ghost use Rattle.study_values.specs.Size.{pages_of};
 ghost use Rattle.study_tablefile.specs.Reading.{class_named, version_of, class_read, page_fault, table_end, pages_read, table_read, IsShort, HasHeader};
-ghost use Rattle.study_tablefile.specs.Reading.{pages_after, IsReadBefore, IsToldAt};
+ghost use Rattle.study_tablefile.specs.Reading.{pages_after, IsReadBefore, IsReportedAt};
 ghost use Rattle.study_values.specs.declared.fault.FileFault.TheVariants.{Cut, Device, OutOfMemory, TrailingBytes};
 
 use crate::format::{FIELDS_BYTES, class_field, digest, fields, page_digest};
@@ -27,7 +27,7 @@ fn read_exactly<R: Read>(input: &mut R, buf: &mut [u8]) -> Result<(), FileFault>
         ⊎ ((e ≡ Cut) × IsShort (R.remaining input.old) (length buf.old))) }
     ensures stops { (bytes : List ℕ) (from pages : ℕ)
         → R.remaining input.old ≡ Some (drop from bytes) → from + length buf.old ≤ 64 + 4128 * pages
-        → IfErr result (IsToldAt bytes pages (R.remaining input.new)) }
+        → IfErr result (IsReportedAt bytes pages (R.remaining input.new)) }
 {
     let mut filled = 0usize;
     while filled < buf.len() {
@@ -156,7 +156,7 @@ fn read_page<'a, A: Allocator, R: Read>(
         → IfErr result (λ e. (e ≡ Device) ⊎ (page_fault fields.now number bytes ≡ Some e)) }
     ensures stops { (bytes : List ℕ) (pages : ℕ)
         → R.remaining input.old ≡ Some (drop (64 + 4128 * number) bytes) → number < pages
-        → IfErr result (IsToldAt bytes pages (R.remaining input.new)) }
+        → IfErr result (IsReportedAt bytes pages (R.remaining input.new)) }
 {
     let mut page = [0u8; PAGE_BYTES];
     read_exactly(input, &mut page)?;
@@ -187,7 +187,7 @@ fn read_pages<'a, A: Allocator, R: Read>(
     ensures ends { (bytes : List ℕ) → R.remaining input.old ≡ Some (drop 64 bytes)
         → OnOk result (R.remaining input.new ≡ Some (drop (64 + 4128 * pages_of class) bytes)) }
     ensures stops { (bytes : List ℕ) → R.remaining input.old ≡ Some (drop 64 bytes)
-        → IfErr result (IsToldAt bytes (pages_of class) (R.remaining input.new)) }
+        → IfErr result (IsReportedAt bytes (pages_of class) (R.remaining input.new)) }
 {
     let fields = fields(class, version);
     let count = pages(class);
@@ -219,7 +219,7 @@ fn at_end<R: Read>(input: &mut R) -> Result<(), FileFault>
         → OnOk result (R.remaining input.new ≡ Some []) }
     ensures stops { (bytes : List ℕ) (pages : ℕ)
         → R.remaining input.old ≡ Some (drop (64 + 4128 * pages) bytes)
-        → IfErr result (IsToldAt bytes pages (R.remaining input.new)) }
+        → IfErr result (IsReportedAt bytes pages (R.remaining input.new)) }
 {
     let mut next = [0u8; 1];
     match input.read(&mut next) {
@@ -246,7 +246,7 @@ fn finish<'a, A: Allocator, R: Read>(
         → OnOk result (R.remaining input.new ≡ Some []) }
     ensures stops { (bytes : List ℕ)
         → R.remaining input.old ≡ Some (drop (64 + 4128 * pages_of class) bytes)
-        → IfErr result (IsToldAt bytes (pages_of class) (R.remaining input.new)) }
+        → IfErr result (IsReportedAt bytes (pages_of class) (R.remaining input.new)) }
 {
     let count = cells(class) as usize;
     let (_, padding) = all.as_slice().split_at(count);
@@ -277,7 +277,7 @@ pub fn read_table<'a, A: Allocator, R: Read>(
         → OnOk result (R.remaining input.new ≡ Some []) }
     ensures stops { (bytes : List ℕ) → R.remaining input.old ≡ Some bytes
         → IfErr result
-        (IsToldAt bytes (pages_after (class_read (take 64 bytes))) (R.remaining input.new)) }
+        (IsReportedAt bytes (pages_after (class_read (take 64 bytes))) (R.remaining input.new)) }
 {
     let mut header = [0; HEADER_BYTES];
     read_exactly(input, &mut header)?;

@@ -1,9 +1,8 @@
 -- Labels changed in place.
-use Rattle.std.proofs.Common.{◌≡◌, ℕ, ◌<◌, ◌≤◌, ◌+◌, List, [], ◌∷◌, ◌++◌, length, get_or, set, refl, sym, ap, ◌∙◌, arith, zero, suc, subst, IsTrue}
+use Rattle.std.proofs.Common.{◌≡◌, ℕ, ◌<◌, ◌≤◌, ◌+◌, List, [], ◌∷◌, ◌++◌, length, get_or, set, refl, sym, ap, ◌∙◌, arith, zero, suc, subst}
 use Rattle.std.specs.Prelude.{take, drop}
-use Rattle.study_moves.specs.declared.moves.Move.{Move}
-use Rattle.study_tree.specs.Forest.{Forest, none, more, Twig, forest_of, nodes_in, nodes_from}
-use Rattle.study_tree.specs.Edits.{has_node, plain, IsWithin}
+use Rattle.study_tree.specs.Forest.{Forest, none, more, Twig, forest_of, nodes_in}
+use Rattle.study_tree.specs.Edits.{plain, IsWithin}
 use Rattle.study_tree.specs.Changes.{Pass, changed_along, rewritten}
 use Rattle.study_tree.proofs.ShownTrees.{nodes_in-plain}
 

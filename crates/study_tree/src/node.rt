@@ -29,7 +29,11 @@ impl<'a, L, A: Allocator> Model for Node<'a, L, A> {
 
     ghost coded = { twig_code (coded× L.code coded_ℕ) };
 
-    ghost view = { λ a. record { played = a.played; label = (a.label, vec_capacity a.children - vec_len a.children); below = forest_of a.children.items } };
+    ghost view = { λ a. record {
+      played = a.played;
+      label = (a.label, vec_capacity a.children - vec_len a.children);
+      below = forest_of a.children.items;
+    } };
 
     ghost size = { nodes_from };
 

@@ -60,7 +60,8 @@ impl<'a, L, A: Allocator> Model for Tree<'a, L, A> {
       relabelled = t.relabelled;
     } };
 
-    ghost invariant = { λ t. (t.size ≡ 1 + nodes_in (forest_of t.children.items)) × (t.size ≤ 4096) × IsWithin 256 (plain (forest_of t.children.items)) };
+    ghost invariant = { λ t. (t.size ≡ 1 + nodes_in (forest_of t.children.items))
+        × (t.size ≤ 4096) × IsWithin 256 (plain (forest_of t.children.items)) };
 }
 
 impl<'a, L, A: Allocator> Tree<'a, L, A> {

@@ -1,5 +1,6 @@
 -- The values after all legal moves, probed in order.
-use Rattle.std.proofs.Common.{◌≡◌, ℕ, false, not, List, [], ◌∷◌, ◌++◌, inl, inr, append-nil, append_assoc, Result, Ok, Err, OnOk, IfErr, IsErrAnd, IsErrOf, refl, sym, ap, subst, ◌∙◌}
+use Rattle.std.proofs.Common.{◌≡◌, ℕ, false, not, List, [], ◌∷◌, ◌++◌, inl, inr, append-nil, append_assoc, Result, Ok, Err, OnOk, IfErr, IsErrAnd}
+use Rattle.std.proofs.Common.{IsErrOf, refl, sym, ap, subst, ◌∙◌}
 use Rattle.std.specs.List.{filter}
 use Rattle.study_board.specs.Position.{Position, IsValid}
 use Rattle.study_material.specs.declared.class.Class.{Class}
@@ -10,18 +11,18 @@ use Rattle.study_values.specs.declared.value.Value.{Value}
 use Rattle.study_values.specs.Values.{ProbeAnswer, IsNotDamage, faults_after, ValueSource}
 use Rattle.study_values.specs.declared.values.ProbeFault.{ProbeFault}
 use Rattle.study_values.specs.declared.values.ProbeFault.TheVariants as probe
-use Rattle.study_marks.specs.Answers.{Answers, WereTold, IsFirstFault}
-use Rattle.study_marks.proofs.FaultsTold.{told-append}
+use Rattle.study_marks.specs.Answers.{Answers, WereEvaluated, IsFirstFault}
+use Rattle.study_marks.proofs.FaultsReported.{evaluated-append}
 use Rattle.study_marks.specs.Evaluated.{IsProbeFaultOf, failures_of}
 use Rattle.study_facts.specs.Continuations.{moves_except}
 use Rattle.study_text.specs.Counts.{counted}
 use Rattle.study_material.specs.Class.{IsOf}
-use Rattle.study_facts.proofs.Asking.{of-told, of-fault, all-then, stops-then}
+use Rattle.study_facts.proofs.Asking.{of-evaluated, of-fault, all-then, stops-then}
 use Rattle.study_facts.proofs.AskedSteps.{asked-one}
-use Rattle.study_facts.proofs.NotHeld.{untold-of}
-use Rattle.study_view.specs.Asked.{EachTold, StoppedAt, HasToldEach, HasToldSome, HasWalked, HasViewed}
-use Rattle.study_facts.specs.Asked.{AllTold, Stopped, within}
-use Rattle.study_facts.proofs.Within.{LeadsTo, EachReached, all-wider, stops-wider, some-told as told-within, some-fault as fault-within}
+use Rattle.study_facts.proofs.NotHeld.{no_value-of}
+use Rattle.study_view.specs.Asked.{EachEvaluated, StoppedAt, HasEvaluatedEach, HasEvaluatedSome, HasWalked, HasViewed}
+use Rattle.study_facts.specs.Asked.{AllEvaluated, Stopped, within}
+use Rattle.study_facts.proofs.Within.{LeadsTo, EachReached, all-wider, stops-wider, some-evaluated as evaluated-within, some-fault as fault-within}
 use Rattle.study_view.specs.declared.fault.ViewFault.{ViewFault}
 use Rattle.study_view.specs.declared.fault.ViewFault.TheVariants.{NoSuchNode, OutOfMemory, Device, Values}
 
@@ -45,26 +46,26 @@ refused-so (Ok t) x y is e = absurd is
 refused-so (Err z) x y is e = let same : z ≡ y = cc in sym is ∙ same
 
 module _ {V : Type 0} (source : ValueSource V) where
-  pub told-each : {T : Type 0} (p : Position) (asked : List Position) → EachReached p asked → (old new : V) (r : Result T ProbeFault)
-      → OnOk r (WereTold source old asked new)
+  pub evaluated-each : {T : Type 0} (p : Position) (asked : List Position) → EachReached p asked → (old new : V) (r : Result T ProbeFault)
+      → OnOk r (WereEvaluated source old asked new)
       → IfErr r (λ f. IsFirstFault source old asked f new)
       → IfErr r (IsProbeFaultOf (source.held old) asked) → (source.is_honest old → IfErr r IsNotDamage)
       → source.failed_of new ≡ failures_of r (source.failed_of old) → (source.is_honest old → source.is_honest new)
-      → ((c : Class) → source.held new c ≡ source.held old c) → HasToldEach source {T = T} p asked old r new
-  told-each p asked reached old new (Ok x) t f u d n i s = record {
-    each = ([], subst (λ (qs : List Position). WereTold source old qs new) (sym (append-nil asked)) t);
-    all = of-told (within p source) old new (told-within source p old new asked reached t) n i s;
+      → ((c : Class) → source.held new c ≡ source.held old c) → HasEvaluatedEach source {T = T} p asked old r new
+  evaluated-each p asked reached old new (Ok x) t f u d n i s = record {
+    each = ([], subst (λ (qs : List Position). WereEvaluated source old qs new) (sym (append-nil asked)) t);
+    all = of-evaluated (within p source) old new (evaluated-within source p old new asked reached t) n i s;
   }
-  told-each {T = T} p asked reached old new (Err e) t f u d n i s = record {
+  evaluated-each {T = T} p asked reached old new (Err e) t f u d n i s = record {
     first = ([], subst (λ (qs : List Position). IsFirstFault source old qs e new) (sym (append-nil asked)) f);
     stopped = of-fault (within p source) T old new e
         (fault-within source p (source.held old) old new asked e reached u f)
-        (λ c q. untold-of (source.held old) asked e c u q) d n i s;
+        (λ c q. no_value-of (source.held old) asked e c u q) d n i s;
   }
 
   -- the same for a position that leads to it
   pub each-wider : (p q : Position) → LeadsTo p q → (asked : List Position) (old new : V)
-      → EachTold source q asked old new → EachTold source p asked old new
+      → EachEvaluated source q asked old new → EachEvaluated source p asked old new
   each-wider p q lead asked old new h =
       record { each = h.each; all = all-wider source p q lead old new h.all }
 
@@ -74,8 +75,8 @@ module _ {V : Type 0} (source : ValueSource V) where
       record { first = h.first; stopped = stops-wider source p q lead old new f h.stopped }
 
   pub some-wider : {T : Type 0} (p q : Position) → LeadsTo p q → (old new : V) (r : Result T ProbeFault)
-      → HasToldSome (within q source) {T = T} old r new
-      → HasToldSome (within p source) {T = T} old r new
+      → HasEvaluatedSome (within q source) {T = T} old r new
+      → HasEvaluatedSome (within p source) {T = T} old r new
   some-wider p q lead old new (Ok x) h = all-wider source p q lead old new h
   some-wider p q lead old new (Err f) h = stops-wider source p q lead old new f h
 
@@ -90,10 +91,10 @@ module _ {V : Type 0} (source : ValueSource V) where
     fails_as_before = h.fails_as_before;
   }
 
-  plain-told : (p : Position) (old new : V) (qs : List Position) → WereTold (within p source) old qs new
-      → WereTold source old qs new
-  plain-told p old new [] h = h
-  plain-told p old new (q ∷ qs) (v, mid, a, h) = (v, mid, plain-answer p old q (Ok v) mid a, plain-told p mid new qs h)
+  plain-evaluated : (p : Position) (old new : V) (qs : List Position) → WereEvaluated (within p source) old qs new
+      → WereEvaluated source old qs new
+  plain-evaluated p old new [] h = h
+  plain-evaluated p old new (q ∷ qs) (v, mid, a, h) = (v, mid, plain-answer p old q (Ok v) mid a, plain-evaluated p mid new qs h)
 
   plain-fault : (p : Position) (old new : V) (qs : List Position) (e : ProbeFault) → IsFirstFault (within p source) old qs e new
       → IsFirstFault source old qs e new
@@ -101,46 +102,46 @@ module _ {V : Type 0} (source : ValueSource V) where
   plain-fault p old new (q ∷ qs) e (inl a) = inl (plain-answer p old q (Err e) new a)
   plain-fault p old new (q ∷ qs) e (inr (v, mid, a, h)) = inr (v, mid, plain-answer p old q (Ok v) mid a, plain-fault p mid new qs e h)
 
-  fault-behind : (old mid new : V) (xs ys : List Position) (f : ProbeFault) → WereTold source old xs mid
+  fault-behind : (old mid new : V) (xs ys : List Position) (f : ProbeFault) → WereEvaluated source old xs mid
       → IsFirstFault source mid ys f new → IsFirstFault source old (xs ++ ys) f new
   fault-behind old mid new [] ys f h k = subst (λ (s : V). IsFirstFault source s ys f new) h k
   fault-behind old mid new (x ∷ xs) ys f h k = inr (h.0, h.1, h.2, fault-behind h.1 mid new xs ys f h.3 k)
 
   -- more probes after these
   pub each-more : (p : Position) (asked : List Position) (old mid new : V)
-      → EachTold source p asked old mid
-      → AllTold (within p source) mid new
-      → EachTold source p asked old new
+      → EachEvaluated source p asked old mid
+      → AllEvaluated (within p source) mid new
+      → EachEvaluated source p asked old new
   each-more p asked old mid new h k =
       let xs = h.each.0 in
-      let ys = k.told.0 in
+      let ys = k.evaluated.0 in
       record {
         each = (
           xs ++ ys,
-          subst (λ (qs : List Position). WereTold source old qs new) (append_assoc asked xs ys)
-              (told-append source old mid new (asked ++ xs) ys h.each.1 (plain-told p mid new ys k.told.1)),
+          subst (λ (qs : List Position). WereEvaluated source old qs new) (append_assoc asked xs ys)
+              (evaluated-append source old mid new (asked ++ xs) ys h.each.1 (plain-evaluated p mid new ys k.evaluated.1)),
         );
         all = all-then (within p source) old mid new h.all k;
       }
 
   pub stopped-more : (p : Position) (asked : List Position) (old mid new : V) (f : ProbeFault)
-      → EachTold source p asked old mid
+      → EachEvaluated source p asked old mid
       → Stopped (within p source) mid f new
       → StoppedAt source p asked old f new
   stopped-more p asked old mid new f h k =
       let xs = h.each.0 in
-      let ys = k.told.0 in
+      let ys = k.evaluated.0 in
       record {
         first = (
           xs ++ ys,
           subst (λ (qs : List Position). IsFirstFault source old qs f new) (append_assoc asked xs ys)
-              (fault-behind old mid new (asked ++ xs) ys f h.each.1 (plain-fault p mid new ys f k.told.1)),
+              (fault-behind old mid new (asked ++ xs) ys f h.each.1 (plain-fault p mid new ys f k.evaluated.1)),
         );
         stopped = stops-then (within p source) old mid new f h.all k;
       }
 
   pub walked-more : (T U : Type 0) (p : Position) (asked : List Position) (old mid new : V) (e : ViewFault)
-      → EachTold source p asked old mid
+      → EachEvaluated source p asked old mid
       → HasWalked (within p source) {T = T} mid (Err e) new
       → HasViewed source {T = U} p asked old (Err e) new
   walked-more T U p asked old mid new NoSuchNode h k = absurd k
@@ -150,7 +151,7 @@ module _ {V : Type 0} (source : ValueSource V) where
 
   -- ---- walks
 
-  pub walks-then : {T : Type 0} (old mid new : V) (r : Result T ViewFault) → AllTold source old mid
+  pub walks-then : {T : Type 0} (old mid new : V) (r : Result T ViewFault) → AllEvaluated source old mid
       → HasWalked source {T = T} mid r new
       → HasWalked source {T = T} old r new
   walks-then old mid new (Ok x) h k = all-then source old mid new h k
@@ -182,29 +183,30 @@ module _ {V : Type 0} (source : ValueSource V) where
       subst (λ (y : ViewFault). HasViewed source {T = T} p asked old (Err y) new) (sym is) h
 
   -- the same, even if the positions are not all evaluated
-  pub some-told : {T : Type 0} (p : Position) (asked : List Position) (old new : V) (r : Result T ProbeFault)
-      → HasToldEach source {T = T} p asked old r new
-      → HasToldSome (within p source) {T = T} old r new
-  some-told p asked old new (Ok x) h = h.all
-  some-told p asked old new (Err e) h = h.stopped
+  pub some-evaluated : {T : Type 0} (p : Position) (asked : List Position) (old new : V) (r : Result T ProbeFault)
+      → HasEvaluatedEach source {T = T} p asked old r new
+      → HasEvaluatedSome (within p source) {T = T} old r new
+  some-evaluated p asked old new (Ok x) h = h.all
+  some-evaluated p asked old new (Err e) h = h.stopped
 
   -- probes after other probes
-  pub some-then : {T : Type 0} (old mid new : V) (r : Result T ProbeFault) → AllTold source old mid
-      → HasToldSome source {T = T} mid r new
-      → HasToldSome source {T = T} old r new
+  pub some-then : {T : Type 0} (old mid new : V) (r : Result T ProbeFault) → AllEvaluated source old mid
+      → HasEvaluatedSome source {T = T} mid r new
+      → HasEvaluatedSome source {T = T} old r new
   some-then old mid new (Ok x) h j = all-then source old mid new h j
   some-then old mid new (Err f) h j = stops-then source old mid new f h j
 
   -- one position was probed
-  pub value-told : (old new : V) (p : Position) (r : ProbeAnswer) → IsValid p → source.gives old p r → source.asked_of new ≡ counted (source.asked_of old)
+  pub value-evaluated : (old new : V) (p : Position) (r : ProbeAnswer) → IsValid p → source.gives old p r → source.asked_of new ≡ counted (source.asked_of old)
       → ((c : Class) (f : SourceFault) → IsOf c p → IsErrOf r (probe.TableRead f) → source.may_fail old c f)
       → ((c : Class) (f : SourceFault) → source.may_fail new c f → source.may_fail old c f)
       → ((c : Class) → IsErrOf r (probe.NoTable c) → source.held old c ≡ false) → (source.is_honest old → IfErr r IsNotDamage)
-      → source.failed_of new ≡ faults_after (source.failed_of old) r → (source.is_honest old → source.is_honest new) → ((c : Class) → source.held new c ≡ source.held old c)
-      → HasToldSome source {T = Value} old r new
-  value-told old new p (Ok v) valid g n so before u d f i s =
-      of-told source old new (asked-one source old new p (Ok v) valid g n so before) f i s
-  value-told old new p (Err e) valid g n so before u d f i s =
+      → source.failed_of new ≡ faults_after (source.failed_of old) r → (source.is_honest old → source.is_honest new)
+      → ((c : Class) → source.held new c ≡ source.held old c)
+      → HasEvaluatedSome source {T = Value} old r new
+  value-evaluated old new p (Ok v) valid g n so before u d f i s =
+      of-evaluated source old new (asked-one source old new p (Ok v) valid g n so before) f i s
+  value-evaluated old new p (Err e) valid g n so before u d f i s =
       of-fault source Value old new e (asked-one source old new p (Err e) valid g n so before)
       (λ c q. u c (ap Err q)) d (f ∙ same-faults (source.failed_of old) (Err e)) i s
 

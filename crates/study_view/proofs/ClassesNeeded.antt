@@ -1,14 +1,12 @@
 -- Classes that positions need, one by one.
-use Rattle.std.proofs.Common.{◌≡◌, ◌⊎◌, ℕ, zero, suc, ◌+◌, ◌<◌, ◌≤◌, Bool, true, false, List, [], ◌∷◌, ◌++◌, length, arith, refl, sym, ap, subst, ◌∙◌, inl, inr, append_assoc}
+use Rattle.std.proofs.Common.{◌≡◌, ◌⊎◌, zero, suc, ◌+◌, Bool, true, List, [], ◌∷◌, ◌++◌, arith, refl, sym, ap, subst, ◌∙◌, inl, inr, append_assoc}
 use Rattle.std.specs.Prelude.{◌↔◌}
 use Rattle.std.specs.List.{Contains}
-use Rattle.std.proofs.lemmas.List.{append-nil}
-use Rattle.std.proofs.lemmas.Bool.{false≢true}
 use Rattle.study_board.specs.Position.{Position, IsValid}
 use Rattle.study_material.specs.declared.class.Class.{Class}
 use Rattle.study_material.specs.Class.{IsOf, PositionsHaveOneClass}
 use Rattle.study_material.specs.Needs.{IsNeeded, IsOrder, NeedsClass}
-use Rattle.study_view.specs.Setup.{IsNeededBy, AreThose}
+use Rattle.study_view.specs.Setup.{AreThose}
 
 -- ---- elements of a list
 

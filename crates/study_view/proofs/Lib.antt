@@ -1,4 +1,4 @@
-pub mod MovesTold
+pub mod MovesReported
 pub mod AllAsked
 pub mod StartsAt
 pub mod NodeLines
@@ -9,4 +9,4 @@ pub mod OneSurvey
 pub mod NewNode
 pub mod PassedSquares
 pub mod ClassesNeeded
-pub mod SurveyTold
+pub mod SurveyReported

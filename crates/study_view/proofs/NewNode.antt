@@ -9,16 +9,13 @@ use Rattle.study_values.specs.declared.value.Value.{Value}
 use Rattle.study_values.specs.declared.value.Value.TheVariants.{Draw}
 use Rattle.study_tree.specs.Forest.{Forest, none, more, Twig}
 use Rattle.study_tree.specs.Edits.{has_node, node_in, width, children_at, add_last}
-use Rattle.study_tree.specs.Tree.{Spot, spot_at, twig_spot, has_spot}
+use Rattle.study_tree.specs.Tree.{Spot, spot_at, twig_spot}
 use Rattle.study_marks.specs.declared.mark.Mark.{Mark}
-use Rattle.study_marks.specs.declared.mark.MoveMark.{MoveMark}
 use Rattle.study_marks.specs.declared.mark_rules.Aim.{Aim}
-use Rattle.study_marks.specs.Annotated.{IsMoveMark, AreAnnotated, IsAnnotated}
-use Rattle.study_marks.specs.Edits.{with_insertion}
+use Rattle.study_marks.specs.Annotated.{AreAnnotated}
 use Rattle.study_marks.specs.Goals.{aim_of, hero_moves}
 use Rattle.study_marks.specs.Marks.{own_faults, faults_in}
-use Rattle.study_marks.specs.Study.{Study, mapped, moves_to, position_after, position_at, plain_study}
-use Rattle.study_marks.specs.Trial.{IsMarkOf}
+use Rattle.study_marks.specs.Study.{Study, mapped, moves_to, position_after, position_at}
 use Rattle.study_marks.proofs.OneAnnotation.{one-value}
 use Rattle.study_marks.proofs.PathRenewed.{spot-there}
 use Rattle.study_view.proofs.OneView.{one-mark}

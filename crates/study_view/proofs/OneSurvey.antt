@@ -14,30 +14,32 @@ use Rattle.study_marks.specs.Goals.{holds}
 use Rattle.study_marks.proofs.OneAnnotation.{one-value, one-list}
 use Rattle.study_facts.specs.Continuations.{wanted_moves}
 use Rattle.study_view.specs.declared.survey_squares.SquareResult.{SquareResult}
-use Rattle.study_view.specs.declared.survey_squares.SquareResult.TheVariants.{Impossible, Fails, Holds}
+use Rattle.study_view.specs.declared.survey_squares.SquareResult.TheVariants.{Impossible}
 use Rattle.study_view.specs.declared.survey_squares.SurveyedSquare.{SurveyedSquare}
 use Rattle.study_view.specs.Survey.{with_man_moved, fault_of_man_moved, aim_in, result_by_moves, other_squares, survey_line, standing_line}
-use Rattle.study_view.specs.Survey.{IsToldBy, IsTold, IsStanding, AreStandings, SurveysAreUnique}
+use Rattle.study_view.specs.Survey.{IsResultBy, IsResult, IsStanding, AreStandings, SurveysAreUnique}
 
-one-told-by : EachHasAtMostOneValue → (b h : Bool) (a : Aim) (q : Position) (v : Value) (s t : SquareResult) → IsToldBy b h a q v s → IsToldBy b h a q v t → s ≡ t
-one-told-by law false h a q v s t i j = i ∙ sym j
-one-told-by law true false a q v s t i j = i ∙ sym j
-one-told-by law true true a q v s t i j =
-    i.2 ∙ ap (result_by_moves v) (i.1.2 ∙ ap (wanted_moves (holds a (0 + 1)) (legal_list q)) (one-list law q (legal_list q) i.1.0 j.1.0 i.1.1 j.1.1) ∙ sym j.1.2) ∙ sym j.2
+one-evaluated-by : EachHasAtMostOneValue → (b h : Bool) (a : Aim) (q : Position) (v : Value) (s t : SquareResult) → IsResultBy b h a q v s
+    → IsResultBy b h a q v t → s ≡ t
+one-evaluated-by law false h a q v s t i j = i ∙ sym j
+one-evaluated-by law true false a q v s t i j = i ∙ sym j
+one-evaluated-by law true true a q v s t i j =
+    i.2 ∙ ap (result_by_moves v) (i.1.2 ∙ ap (wanted_moves (holds a (0 + 1)) (legal_list q)) (one-list law q (legal_list q) i.1.0 j.1.0 i.1.1 j.1.1)
+    ∙ sym j.1.2) ∙ sym j.2
 
-one-told : EachHasAtMostOneValue → (st : Stipulation) (q : Position) (s t : SquareResult) → IsTold st q s → IsTold st q t → s ≡ t
-one-told law st q s t i j =
+one-evaluated : EachHasAtMostOneValue → (st : Stipulation) (q : Position) (s t : SquareResult) → IsResult st q s → IsResult st q t → s ≡ t
+one-evaluated law st q s t i j =
     let a = aim_in st q in
-    one-told-by law (holds a 0 j.0) a.hero_first a q j.0 s t
-    (subst (λ (v : Value). IsToldBy (holds a 0 v) a.hero_first a q v s) (one-value law q i.0 j.0 i.1 j.1) i.2) j.2
+    one-evaluated-by law (holds a 0 j.0) a.hero_first a q j.0 s t
+    (subst (λ (v : Value). IsResultBy (holds a 0 v) a.hero_first a q v s) (one-value law q i.0 j.0 i.1 j.1) i.2) j.2
 
 one-standing : EachHasAtMostOneValue → (p : Position) (from : ℕ) (st : Stipulation) (x : ℕ) (s t : SquareResult)
     → IsStanding p from st x s → IsStanding p from st x t → s ≡ t
 one-standing law p from st x s t i j = go (fault_of_man_moved p from x) i j
   where
-    go : (o : Option PositionFault) → MatchOption o (IsTold st (with_man_moved p from x) s) (λ fault. s ≡ Impossible)
-        → MatchOption o (IsTold st (with_man_moved p from x) t) (λ fault. t ≡ Impossible) → s ≡ t
-    go None h k = one-told law st (with_man_moved p from x) s t h k
+    go : (o : Option PositionFault) → MatchOption o (IsResult st (with_man_moved p from x) s) (λ fault. s ≡ Impossible)
+        → MatchOption o (IsResult st (with_man_moved p from x) t) (λ fault. t ≡ Impossible) → s ≡ t
+    go None h k = one-evaluated law st (with_man_moved p from x) s t h k
     go (Some f) h k = h ∙ sym k
 
 stood-is : (x y : SurveyedSquare) → x.at ≡ y.at → x.standing ≡ y.standing → x ≡ y

@@ -1,5 +1,5 @@
 -- A study has one view at a path.
-use Rattle.std.proofs.Common.{◌≡◌, ℕ, ◌+◌, ◌++◌, List, [], ◌∷◌, Option, Some, refl, sym, ap, subst, ◌∙◌, length, IsTrue}
+use Rattle.std.proofs.Common.{◌≡◌, ℕ, ◌+◌, ◌++◌, List, [], ◌∷◌, Option, Some, sym, ap, ◌∙◌, length}
 use Rattle.std.specs.List.{flat_map}
 use Rattle.study_board.specs.Position.{Position}
 use Rattle.study_moves.specs.declared.moves.Move.{Move}
@@ -15,7 +15,6 @@ use Rattle.study_marks.specs.Annotated.{IsMoveMark}
 use Rattle.study_marks.specs.Goals.{aim_of}
 use Rattle.study_marks.specs.Marks.{move_mark}
 use Rattle.study_marks.specs.Study.{Study, position_at}
-use Rattle.study_marks.specs.Trial.{IsMarkOf}
 use Rattle.study_marks.proofs.OneAnnotation.{one-value, one-list}
 use Rattle.study_marks.proofs.PathRenewed.{spot-there}
 use Rattle.study_facts.specs.Order.{written_order}

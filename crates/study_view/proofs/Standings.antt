@@ -1,6 +1,6 @@
 -- Squares one by one, and the result for each.
-use Rattle.std.proofs.Common.{◌≡◌, ℕ, ◌+◌, ◌-◌, ◌<◌, ◌≤◌, ◌==◌, suc, Bool, true, false, not, List, [], ◌∷◌, ◌++◌, Option, Some, None, Result, Ok, Err, OnOk, cond, arith, refl, sym, ap, subst, ◌∙◌, append_assoc}
-use Rattle.std.specs.Prelude.{MatchOption, IsSome}
+use Rattle.std.proofs.Common.{◌≡◌, ℕ, ◌+◌, ◌-◌, ◌<◌, ◌≤◌, ◌==◌, suc, Bool, true, false, not, List, [], ◌∷◌, ◌++◌, Result, Ok, Err, OnOk, cond, arith}
+use Rattle.std.proofs.Common.{refl, sym, ap, subst, ◌∙◌, append_assoc}
 use Rattle.std.specs.List.{filter, range_with_len, All}
 use Rattle.std.proofs.lemmas.List.{append-nil}
 use Rattle.std.proofs.lemmas.Bool.{ne_eqb, eq-eqb}
@@ -8,22 +8,20 @@ use Rattle.study_board.specs.Position.{Position, IsValid, in_order}
 use Rattle.study_board.specs.declared.men.Man.{Man}
 use Rattle.study_board.specs.declared.men.Side.{Side}
 use Rattle.study_board.specs.declared.men.Side.TheVariants.{White, Black}
-use Rattle.study_board.specs.Men.{same_side, moved_if}
+use Rattle.study_board.specs.Men.{moved_if}
 use Rattle.study_board.proofs.MenInOrder.{IsPermutation-in_order}
-use Rattle.study_material.specs.Lists.{lists, kinds_of, put_kind, ordered, of, is_other_than_king, Lists}
+use Rattle.study_material.specs.Lists.{lists, kinds_of, ordered, of, Lists}
 use Rattle.study_material.proofs.KindCounts.{lists-IsPermutation}
 use Rattle.study_facts.proofs.Within.{LeadsTo, needs-own}
-use Rattle.study_board.specs.declared.fault.PositionFault.{PositionFault}
 use Rattle.study_marks.specs.declared.stipulation.Stipulation.{Stipulation}
 use Rattle.study_view.specs.declared.survey_squares.SquareResult.{SquareResult}
-use Rattle.study_view.specs.declared.survey_squares.SquareResult.TheVariants.{Impossible}
 use Rattle.study_view.specs.declared.survey_squares.SurveyedSquare.{SurveyedSquare}
 use Rattle.study_moves.specs.Rules.{is_legal}
 use Rattle.study_values.specs.declared.value.Value.{Value}
 use Rattle.study_facts.specs.declared.continuation.EvaluatedMove.{EvaluatedMove}
 use Rattle.study_facts.proofs.Chosen.{all-first}
 use Rattle.study_view.specs.Shown.{IsPlayedIn}
-use Rattle.study_view.specs.Survey.{moved_men, result_by_moves, with_man_moved, fault_of_man_moved, squares_but, IsStanding, IsTold, AreStandings}
+use Rattle.study_view.specs.Survey.{moved_men, result_by_moves, with_man_moved, squares_but, IsStanding, AreStandings}
 
 range-step : (n : ℕ) → n < 64 → range_with_len n (64 - n) ≡ n ∷ range_with_len (n + 1) (64 - (n + 1))
 range-step n lt =
@@ -64,13 +62,13 @@ adds-past p from n st old new (Err x) lt e h = tt
 pub adds-one : {T E : Type 0} (p : Position) (from n : ℕ) (st : Stipulation) (s : SquareResult) (old mid new : List SurveyedSquare) (r : Result T E)
     → n < 64 → (n ≡ from → ⊥) → IsStanding p from st n s → mid ≡ old ++ (record { at = n; standing = s }) ∷ []
     → OnOk r (Adds p from st (squares_but from (n + 1) (64 - (n + 1))) mid new) → OnOk r (Adds p from st (squares_but from n (64 - n)) old new)
-adds-one p from n st s old mid new (Ok x) lt e told m h =
+adds-one p from n st s old mid new (Ok x) lt e evaluated m h =
     subst (λ (l : List ℕ). Adds p from st l old new) (sym (next-square from n lt e)) (
       (record { at = n; standing = s }) ∷ h.0,
-      (refl, told, h.1),
+      (refl, evaluated, h.1),
       h.2 ∙ ap (λ (l : List SurveyedSquare). l ++ h.0) m ∙ append_assoc old ((record { at = n; standing = s }) ∷ []) h.0,
     )
-adds-one p from n st s old mid new (Err x) lt e told m h = tt
+adds-one p from n st s old mid new (Err x) lt e evaluated m h = tt
 
 -- the one move that holds is legal
 pub by-legal : (q : Position) (v : Value) (list : List EvaluatedMove) → All (λ x. is_legal q x.played ≡ true) list → IsPlayedIn q (result_by_moves v list)
@@ -95,7 +93,8 @@ moved-lists from to men = rw (moved-kinds White from to men, moved-kinds Black f
 
 stood-lists : (p : Position) (from to : ℕ) → lists (with_man_moved p from to).men ≡ lists p.men
 stood-lists p from to =
-    lists-IsPermutation (moved_men from to p.men) (in_order (moved_men from to p.men)) (IsPermutation-in_order (moved_men from to p.men)) ∙ moved-lists from to p.men
+    lists-IsPermutation (moved_men from to p.men) (in_order (moved_men from to p.men)) (IsPermutation-in_order (moved_men from to p.men))
+    ∙ moved-lists from to p.men
 
 -- it is of the same class
 pub leads-stood : (p : Position) (from to : ℕ) (q : Position) → IsValid q → q ≡ with_man_moved p from to → LeadsTo p q

@@ -1,5 +1,5 @@
 -- The parts of a view, one after the other.
-use Rattle.std.proofs.Common.{◌≡◌, ℕ, ◌++◌, List, [], ◌∷◌, true, length, refl, sym, ap, subst, ◌∙◌, IsTrue}
+use Rattle.std.proofs.Common.{◌≡◌, ℕ, ◌++◌, List, true, length, ap, subst, ◌∙◌, IsTrue}
 use Rattle.std.specs.List.{flat_map}
 use Rattle.study_board.specs.Position.{Position}
 use Rattle.study_moves.specs.LegalList.{legal_list}
@@ -15,10 +15,10 @@ use Rattle.study_facts.specs.Continuations.{AreChosen, positions_after}
 use Rattle.study_facts.specs.Nodes.{value_at}
 use Rattle.study_facts.specs.Order.{LinesOfEach, written_order}
 use Rattle.study_facts.specs.Zugzwang.{ZugzwangLines}
-use Rattle.study_view.specs.Marking.{holding_count, told_line}
+use Rattle.study_view.specs.Marking.{holding_count, line_of_move}
 use Rattle.study_view.specs.View.{start_to, node_line, head_lines, IsView, asked_at}
 use Rattle.study_view.specs.Words.{at_line}
-use Rattle.study_view.proofs.MovesTold.{moves-told}
+use Rattle.study_view.proofs.MovesReported.{moves-evaluated}
 use Rattle.study_view.proofs.StartsAt.{position-of}
 
 pub asked-is : {L : Type 0} (s : Study L) (path : List ℕ) (here : Start) → here ≡ start_to s path
@@ -30,15 +30,15 @@ pub view-is : (s : Study Mark) (path : List ℕ) (here : Start) (a : Aim) (d : �
     → AreChosen (λ v. true) here.position (legal_list here.position) list
     → nodes ≡ flat_map (node_line s) (written_order s) → LinesOfEach (ZugzwangLines s) (written_order s) zugzwangs
     → text ≡ head_lines s ++ (nodes ++ (at_line path here.position
-    ++ (flat_map (told_line a d here before (holding_count a d list)) list ++ zugzwangs)))
+    ++ (flat_map (line_of_move a d here before (holding_count a d list)) list ++ zugzwangs)))
     → IsView s path text
 view-is s path here a d before list nodes zugzwangs text found e ea ed ev chosen en zs h =
     let p : here.position ≡ position_at s path = position-of s path here e in
-    let lines = flat_map (told_line a d here before (holding_count a d list)) list in (
+    let lines = flat_map (line_of_move a d here before (holding_count a d list)) list in (
       lines,
       zugzwangs,
       found,
-      moves-told s path a d here before list ea ed e ev (subst (λ (q : Position). AreChosen (λ v. true) q (legal_list q) list) p chosen),
+      moves-evaluated s path a d here before list ea ed e ev (subst (λ (q : Position). AreChosen (λ v. true) q (legal_list q) list) p chosen),
       zs,
       h ∙ ap (λ (t : List ℕ). head_lines s ++ (t ++ (at_line path here.position ++ (lines ++ zugzwangs)))) en
           ∙ ap (λ q. head_lines s ++ (flat_map (node_line s) (written_order s) ++ (at_line path q ++ (lines ++ zugzwangs)))) p,

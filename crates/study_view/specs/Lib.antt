@@ -7,4 +7,4 @@ pub mod Survey
 pub mod Shown
 pub mod Insertion
 pub mod Setup
-pub mod Told
+pub mod Reported

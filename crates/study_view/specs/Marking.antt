@@ -14,6 +14,6 @@ holding_count a d [] = 0
 holding_count a d (x ∷ xs) = (if holds a (d + 1) x.value then 1 else 0) + holding_count a d xs
 
 -- the line of a move from a node at depth d, with this start and this value, if n of the legal moves hold
-abbrev pub told_line : Aim → ℕ → Start → Value → ℕ → EvaluatedMove → List ℕ
-told_line a d here before n x =
+abbrev pub line_of_move : Aim → ℕ → Start → Value → ℕ → EvaluatedMove → List ℕ
+line_of_move a d here before n x =
     move_line here x.played x.value (Some (mark_of (hero_moves a d) (holds a d before) (holds a (d + 1) x.value) n))

@@ -1,6 +1,6 @@
 -- The result of a stipulation with a man on each other square.
 use Rattle.std.specs.Prelude.{◌≡◌, ℕ, ◌==◌, not, Bool, true, false, List, [], ◌∷◌, ◌++◌, length, map, codes, decimal}
-use Rattle.std.specs.Prelude.{Option, Some, None, MatchOption, if◌then◌else◌}
+use Rattle.std.specs.Prelude.{Option, Some, None, MatchOption}
 use Rattle.std.specs.List.{filter, flat_map, range_with_len}
 use Rattle.study_board.specs.declared.men.Man.{Man}
 use Rattle.study_board.specs.declared.fault.PositionFault.{PositionFault}
@@ -44,17 +44,17 @@ result_by_moves v (x ∷ []) = Only v x.played
 result_by_moves v (x ∷ y ∷ l) = HoldsBy v (length (x ∷ y ∷ l))
 
 -- the result for a position with the value v: whether the stipulation holds, and whether the hero is to move
-abbrev pub IsToldBy : Bool → Bool → Aim → Position → Value → SquareResult → Type 0
-IsToldBy false hero a q v standing = standing ≡ Fails v
-IsToldBy true false a q v standing = standing ≡ Holds v
-IsToldBy true true a q v standing = (list : List EvaluatedMove) × AreHoldingMoves a 0 q list × (standing ≡ result_by_moves v list)
+abbrev pub IsResultBy : Bool → Bool → Aim → Position → Value → SquareResult → Type 0
+IsResultBy false hero a q v standing = standing ≡ Fails v
+IsResultBy true false a q v standing = standing ≡ Holds v
+IsResultBy true true a q v standing = (list : List EvaluatedMove) × AreHoldingMoves a 0 q list × (standing ≡ result_by_moves v list)
 
-abbrev pub IsTold : Stipulation → Position → SquareResult → Type 0
-IsTold st q standing = (v : Value) × IsValueOf q v × IsToldBy (holds (aim_in st q) 0 v) (aim_in st q).hero_first (aim_in st q) q v standing
+abbrev pub IsResult : Stipulation → Position → SquareResult → Type 0
+IsResult st q standing = (v : Value) × IsValueOf q v × IsResultBy (holds (aim_in st q) 0 v) (aim_in st q).hero_first (aim_in st q) q v standing
 
 -- the result for the man on the square x
 abbrev pub IsStanding : Position → ℕ → Stipulation → ℕ → SquareResult → Type 0
-IsStanding p from st x standing = MatchOption (fault_of_man_moved p from x) (IsTold st (with_man_moved p from x) standing) (λ fault. standing ≡ Impossible)
+IsStanding p from st x standing = MatchOption (fault_of_man_moved p from x) (IsResult st (with_man_moved p from x) standing) (λ fault. standing ≡ Impossible)
 
 abbrev pub AreStandings : Position → ℕ → Stipulation → List ℕ → List SurveyedSquare → Type 0
 AreStandings p from st [] [] = Unit {0}

@@ -13,7 +13,7 @@ pub enum ViewFault {
     OutOfMemory,
     #[error("the device failed")]
     Device,
-    #[error("a value is not told: {0}")]
+    #[error("a value could not be read: {0}")]
     Values(ProbeFault),
 }
 
@@ -32,10 +32,10 @@ impl From<ProbeFault> for ViewFault {
     ghost use Rattle.std.specs.Prelude.{◌≡◌};
     ghost use Rattle.study_view.specs.declared.fault.ViewFault.TheVariants.{Values};
 
-    ghost from_gives = { λ untold fault. fault ≡ Values untold };
+    ghost from_gives = { λ no_value fault. fault ≡ Values no_value };
 
-    fn from(untold: ProbeFault) -> ViewFault {
-        ViewFault::Values(untold)
+    fn from(no_value: ProbeFault) -> ViewFault {
+        ViewFault::Values(no_value)
     }
 }
 
@@ -48,6 +48,6 @@ pub enum SurveyFault {
     OutOfMemory,
     #[error("the device failed")]
     Device,
-    #[error("a value is not told: {0}")]
+    #[error("a value could not be read: {0}")]
     Values(ProbeFault),
 }

@@ -1,7 +1,7 @@
 //! Laws over the definitions, stated by functions that do nothing.
 ghost use Rattle.study_view.specs.Insertion.{MarksOfMovesAreThoseOfInsertions};
 ghost use Rattle.study_view.specs.Survey.{SurveysAreUnique};
-ghost use Rattle.study_view.specs.Told.{SurveysTellTheGame};
+ghost use Rattle.study_view.specs.Reported.{SurveysTellTheGame};
 ghost use Rattle.study_view.specs.View.{ViewsAreUnique, PlainStudiesHaveOneView};
 
 use study_marks::annotations_are_unique;

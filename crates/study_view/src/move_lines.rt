@@ -2,7 +2,7 @@
 ghost use Rattle.std.specs.Prelude.{◌≡◌, ◌+◌, ◌≤◌, ◌<◌, ◌^◌, ◌++◌, true, length, Some, OnOk};
 ghost use Rattle.std.specs.List.{All, flat_map};
 ghost use Rattle.study_moves.specs.Rules.{is_legal};
-ghost use Rattle.study_view.specs.Marking.{holding_count, told_line};
+ghost use Rattle.study_view.specs.Marking.{holding_count, line_of_move};
 
 use crate::words::add_move;
 use std::alloc::{AllocError, Allocator};
@@ -39,7 +39,7 @@ fn holding_count(aim: &Aim, depth: usize, list: &[EvaluatedMove]) -> usize
 }
 
 /// The line of a move.
-fn add_told<A: Allocator>(
+fn add_reported<A: Allocator>(
     text: &mut Text<'_, A>,
     here: &ViewNode<'_>,
     count: usize,
@@ -49,7 +49,7 @@ fn add_told<A: Allocator>(
     requires few { count ≤ MAX_MOVES }
     requires legal { is_legal here.now.start.now.position x.now.played ≡ true }
     ensures { OnOk result (text.new ≡ text.old
-        ++ told_line here.now.aim.now here.now.depth here.now.start.now
+        ++ line_of_move here.now.aim.now here.now.depth here.now.start.now
         here.now.value count x.now) }
 {
     let mark = mark_of(here.aim, here.depth, here.value, x.value, count);
@@ -68,11 +68,11 @@ fn add_each<A: Allocator>(
     requires legal { All (λ x. is_legal here.now.start.now.position x.played ≡ true) list.now }
     ensures { OnOk result (text.new ≡ text.old
         ++ flat_map
-        (told_line here.now.aim.now here.now.depth here.now.start.now
+        (line_of_move here.now.aim.now here.now.depth here.now.start.now
         here.now.value count) list.now) }
 {
     for x in list {
-        add_told(text, here, count, x)?;
+        add_reported(text, here, count, x)?;
     }
     Ok(())
 }
@@ -87,7 +87,7 @@ pub fn add_moves<A: Allocator>(
     requires few { length list.now ≤ MAX_MOVES }
     requires legal { All (λ x. is_legal here.now.start.now.position x.played ≡ true) list.now }
     ensures { OnOk result (text.new ≡ text.old
-        ++ flat_map (told_line here.now.aim.now here.now.depth here.now.start.now here.now.value
+        ++ flat_map (line_of_move here.now.aim.now here.now.depth here.now.start.now here.now.value
         (holding_count here.now.aim.now here.now.depth list.now)) list.now) }
 {
     let count = holding_count(here.aim, here.depth, list);

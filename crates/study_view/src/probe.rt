@@ -6,7 +6,7 @@ ghost use Rattle.study_moves.specs.Rules.{is_legal};
 ghost use Rattle.study_values.specs.Game.{IsValueOf};
 ghost use Rattle.study_facts.specs.Asked.{within};
 ghost use Rattle.study_facts.specs.Continuations.{AreChosen, AreHoldingMoves, positions_after};
-ghost use Rattle.study_view.specs.Asked.{HasToldEach, HasToldSome};
+ghost use Rattle.study_view.specs.Asked.{HasEvaluatedEach, HasEvaluatedSome};
 
 use arrayvec::ArrayVec;
 use study_board::Position;
@@ -25,7 +25,7 @@ pub fn evaluate_legal_moves<V: Values>(
         AreChosen (λ v. true) node.now.position.now (legal_list node.now.position.now) list.items) }
     ensures legal { IfOk result (λ list.
         All (λ x. is_legal node.now.position.now x.played ≡ true) list.items) }
-    ensures asked { HasToldEach V.source
+    ensures asked { HasEvaluatedEach V.source
         node.now.position.now
         (positions_after node.now.position.now (legal_list node.now.position.now))
         values.old result values.new }
@@ -36,7 +36,7 @@ pub fn evaluate_legal_moves<V: Values>(
 /// The value of a position.
 pub fn ask_value<V: Values>(q: &Position, values: &mut V) -> Result<Value, ProbeFault>
     ensures game { V.source.is_honest values.old → IfOk result (IsValueOf q.now) }
-    ensures asked { HasToldSome (within q.now V.source) values.old result values.new }
+    ensures asked { HasEvaluatedSome (within q.now V.source) values.old result values.new }
 {
     // (the position is valid, as the clauses on its answer say)
     let _men = q.men();
@@ -52,7 +52,7 @@ pub fn ask_first_moves<V: Values>(
     ensures game { V.source.is_honest values.old
         → IfOk result (λ list. AreHoldingMoves aim.now 0 q.now list.items) }
     ensures legal { IfOk result (λ list. All (λ x. is_legal q.now x.played ≡ true) list.items) }
-    ensures asked { HasToldSome (within q.now V.source) values.old result values.new }
+    ensures asked { HasEvaluatedSome (within q.now V.source) values.old result values.new }
 {
     let node = NodeContext {
         aim,

@@ -6,10 +6,10 @@ ghost use Rattle.study_board.specs.Position.{man_at, IsValid};
 ghost use Rattle.study_marks.specs.Goals.{holds};
 ghost use Rattle.study_values.specs.declared.values.ProbeFault.{ProbeFault as AProbeFault};
 ghost use Rattle.study_facts.specs.Asked.{within};
-ghost use Rattle.study_view.specs.Asked.{HasToldSome, HasSurveyed};
+ghost use Rattle.study_view.specs.Asked.{HasEvaluatedSome, HasSurveyed};
 ghost use Rattle.study_view.specs.declared.survey_squares.SurveyedSquare.{SurveyedSquare as AStood};
 ghost use Rattle.study_view.specs.Survey.{moved_men, with_man_moved, fault_of_man_moved, result_by_moves, other_squares};
-ghost use Rattle.study_view.specs.Survey.{IsToldBy, IsTold, IsStanding, AreStandings, squares_but};
+ghost use Rattle.study_view.specs.Survey.{IsResultBy, IsResult, IsStanding, AreStandings, squares_but};
 ghost use Rattle.study_view.specs.Shown.{IsPlayedIn, IsShown};
 
 use crate::fault::SurveyFault;
@@ -114,9 +114,9 @@ fn result_by_value<V: Values>(
     values: &mut V,
 ) -> Result<SquareResult, ProbeFault>
     ensures game { V.source.is_honest values.old → IfOk result
-        (IsToldBy (holds aim.now 0 value) aim.now.hero_first aim.now q.now value) }
+        (IsResultBy (holds aim.now 0 value) aim.now.hero_first aim.now q.now value) }
     ensures legal { IfOk result (IsPlayedIn q.now) }
-    ensures asked { HasToldSome (within q.now V.source) values.old result values.new }
+    ensures asked { HasEvaluatedSome (within q.now V.source) values.old result values.new }
 {
     if !holds(aim, 0, value) {
         return Ok(SquareResult::Fails(value));
@@ -136,9 +136,9 @@ fn result_of<V: Values>(
     stipulation: &Stipulation,
     values: &mut V,
 ) -> Result<SquareResult, ProbeFault>
-    ensures game { V.source.is_honest values.old → IfOk result (IsTold stipulation.now q.now) }
+    ensures game { V.source.is_honest values.old → IfOk result (IsResult stipulation.now q.now) }
     ensures legal { IfOk result (IsPlayedIn q.now) }
-    ensures asked { HasToldSome (within q.now V.source) values.old result values.new }
+    ensures asked { HasEvaluatedSome (within q.now V.source) values.old result values.new }
 {
     let aim = aim_of(stipulation, q.to_move());
     match ask_value(q, values) {
@@ -157,7 +157,7 @@ fn result_on<V: Values>(
         (IsStanding question.now.position.now question.now.square question.now.stipulation.now x) }
     ensures legal { IfOk result (λ s.
         IsShown question.now.position.now question.now.square (record { at = x; standing = s })) }
-    ensures asked { HasToldSome (within question.now.position.now V.source)
+    ensures asked { HasEvaluatedSome (within question.now.position.now V.source)
         values.old result values.new }
 {
     match with_man_at(question.position, question.square, x) {
@@ -201,7 +201,7 @@ fn push_results_from<V: Values>(
         question.now.square question.now.stipulation.now
         (squares_but question.now.square number (64 - number)) more
         × (list.new.items ≡ list.old.items ++ more)) }
-    ensures asked { HasToldSome (within question.now.position.now V.source)
+    ensures asked { HasEvaluatedSome (within question.now.position.now V.source)
         values.old result values.new }
 {
     if number >= 64 {
@@ -231,7 +231,7 @@ pub fn push_results<V: Values>(
         (other_squares question.now.square) list.items) }
     ensures listed { IfOk result (λ list.
         All (IsShown question.now.position.now question.now.square) list.items) }
-    ensures asked { HasToldSome (within question.now.position.now V.source)
+    ensures asked { HasEvaluatedSome (within question.now.position.now V.source)
         values.old result values.new }
 {
     let mut list = ArrayVec::new();

@@ -211,7 +211,7 @@ pub fn write_survey<'a, A: Allocator, V: Values, W: Write>(
         × TakesPrefix (W.contents out.old) (W.contents out.new) text }
     ensures gone { result ≡ Err SurveyFault.NoMan → out.new ≡ out.old }
     ensures memory { result ≡ Err SurveyFault.OutOfMemory → out.new ≡ out.old }
-    ensures untold { (fault : AProbeFault)
+    ensures no_value { (fault : AProbeFault)
         → result ≡ Err (SurveyFault.Values fault) → out.new ≡ out.old }
     ensures asked { HasSurveyed (within question.now.position.now V.source)
         values.old result values.new }

@@ -13,7 +13,7 @@ ghost use Rattle.study_facts.specs.Asked.{within};
 ghost use Rattle.study_facts.specs.Order.{LinesOfEach, written_order};
 ghost use Rattle.study_facts.specs.Zugzwang.{ZugzwangLines};
 ghost use Rattle.study_view.specs.Asked.{HasViewed, HasWalked};
-ghost use Rattle.study_view.specs.Marking.{holding_count, told_line};
+ghost use Rattle.study_view.specs.Marking.{holding_count, line_of_move};
 ghost use Rattle.study_view.specs.View.{start_to, node_line, head_lines, IsView, IsViewOf, asked_at};
 ghost use Rattle.study_view.specs.Words.{at_line};
 
@@ -87,7 +87,7 @@ fn text_of<'a, 'b, A: Allocator, B: Allocator>(
     requires legal { All (λ x. is_legal here.now.start.now.position x.played ≡ true) list.now }
     ensures { IfOk result (λ text. text ≡ head_lines (marked bench.now)
         ++ (lines.now.nodes ++ (at_line steps.now here.now.start.now.position
-        ++ (flat_map (told_line here.now.aim.now here.now.depth here.now.start.now here.now.value
+        ++ (flat_map (line_of_move here.now.aim.now here.now.depth here.now.start.now here.now.value
         (holding_count here.now.aim.now here.now.depth list.now)) list.now
         ++ lines.now.zugzwangs)))) }
 {
@@ -187,7 +187,7 @@ pub fn write_view<'a, 'b, A: Allocator, B: Allocator, V: Values, W: Write>(
         × TakesPrefix (W.contents out.old) (W.contents out.new) text }
     ensures gone { result ≡ Err ViewFault.NoSuchNode → out.new ≡ out.old }
     ensures memory { result ≡ Err ViewFault.OutOfMemory → out.new ≡ out.old }
-    ensures untold { (fault : AProbeFault)
+    ensures no_value { (fault : AProbeFault)
         → result ≡ Err (ViewFault.Values fault) → out.new ≡ out.old }
     ensures asked { HasViewed V.source
         (marked bench.now).start.position

@@ -1,5 +1,5 @@
 -- Whole answers, and refusals.
-use Rattle.std.proofs.Common.{◌≡◌, ◌⊎◌, ℕ, Bool, true, false, List, [], ◌∷◌, Option, Result, Ok, Err, refl, sym, ap, subst, ◌∙◌, inl, inr}
+use Rattle.std.proofs.Common.{◌≡◌, ◌⊎◌, ℕ, Bool, true, false, List, Option, Result, Ok, Err, refl, sym, ap, subst, ◌∙◌, inl, inr}
 use Rattle.std.specs.Prelude.{IfOk, IfErr, IsErrAnd}
 use Rattle.study_script.specs.declared.running.RunFault.{RunFault}
 use Rattle.study_script.specs.declared.running.RunFault.TheVariants as run_fault
@@ -21,9 +21,9 @@ use Rattle.study_script.specs.declared.document.Document.{Document as HeldDocume
 use Rattle.study_script.specs.declared.tables.Tables.{Tables}
 use Rattle.study_script.specs.declared.tables.Tables.TheVariants.{Whole, Paged}
 use Rattle.study_script.specs.State.{State, is_among}
-use Rattle.study_web.specs.Views.{IsViewUntold, StudyStopped}
+use Rattle.study_web.specs.Views.{IsViewFault, StudyStopped}
 use Rattle.study_script.specs.SessionHolds.{Holds, document_seen, are_paged, tables_may_fail, tables_source}
-use Rattle.study_report.specs.Told.{IsUntoldIn}
+use Rattle.study_report.specs.Reported.{IsValueFaultIn}
 use Rattle.study_web.specs.declared.request_fault.RequestFault.{RequestFault}
 use Rattle.study_web.specs.declared.request_fault.RequestFault.TheVariants as denial
 use Rattle.study_web.specs.declared.reply.AnswerFault.{AnswerFault}
@@ -42,8 +42,8 @@ use Rattle.study_listing.specs.declared.fault.Stop.TheVariants as stops
 use Rattle.study_listing.specs.Stops.{StopsUndamaged}
 use Rattle.study_search.specs.Faults.{CanReport}
 use Rattle.study_web.specs.Found.{of_stop}
-use Rattle.study_web.specs.Opened.{IsHeldAs, IsOfTables, IsOfValues, IsValueUntold, IsSearchUntold, IsOfSearch}
-use Rattle.study_web.specs.Told.{denial_text, IsDenied, IsAnswerFault}
+use Rattle.study_web.specs.Opened.{IsHeldAs, IsOfTables, IsOfValues, IsValueFault, IsSearchFault, IsOfSearch}
+use Rattle.study_web.specs.Reported.{denial_text, IsDenied, IsAnswerFault}
 
 pub whole_denied : (IsIt : List ℕ → Type 0) (May : RequestFault → Type 0) (Stops : RunFault → Type 0) (d : RequestFault) (text : List ℕ) (ended : Ending)
     → IsDenied d text ended → May d → Stops run_fault.OutOfMemory → IsWhole IsIt May Stops text ended
@@ -53,20 +53,20 @@ whole_denied IsIt May Stops d text (ending.Stopped fault) (same, is) may stops =
 whole_denied IsIt May Stops d text (Ran summary) x may stops = absurd x
 
 -- a finished text, or the reason why there is none
-pub whole_told : {V : Type 0} (made : Result V AnswerFault) (items : V → List ℕ) (IsIt : List ℕ → Type 0) (May : RequestFault → Type 0)
+pub whole_reported : {V : Type 0} (made : Result V AnswerFault) (items : V → List ℕ) (IsIt : List ℕ → Type 0) (May : RequestFault → Type 0)
     (Stops : RunFault → Type 0) (text : List ℕ) (ended : Ending) → IfOk made (λ v. (ended ≡ Answered) × (text ≡ items v))
     → IfErr made (λ why. IsAnswerFault why text ended) → IfOk made (λ v. IsIt (items v)) → IfErr made (MayEnd May Stops)
     → Stops run_fault.OutOfMemory → IsWhole IsIt May Stops text ended
-whole_told (Ok v) items IsIt May Stops text ended (e, t) untold is may stops = rw (e, t) is
-whole_told (Err (no_text.Denied d)) items IsIt May Stops text ended done untold is may stops =
-    whole_denied IsIt May Stops d text ended untold may stops
-whole_told (Err (no_text.Stopped fault)) items IsIt May Stops text ended done (e, t) is may stops = rw (e, t) (may, refl)
+whole_reported (Ok v) items IsIt May Stops text ended (e, t) no_value is may stops = rw (e, t) is
+whole_reported (Err (no_text.Denied d)) items IsIt May Stops text ended done no_value is may stops =
+    whole_denied IsIt May Stops d text ended no_value may stops
+whole_reported (Err (no_text.Stopped fault)) items IsIt May Stops text ended done (e, t) is may stops = rw (e, t) (may, refl)
 
 -- there is no text, for this reason
-pub untold_end : (May : RequestFault → Type 0) (Stops : RunFault → Type 0) (why : AnswerFault) (text : List ℕ) (ended : Ending) → IsAnswerFault why text ended
+pub no_value_end : (May : RequestFault → Type 0) (Stops : RunFault → Type 0) (why : AnswerFault) (text : List ℕ) (ended : Ending) → IsAnswerFault why text ended
     → MayEnd May Stops why → Stops run_fault.OutOfMemory → IsWhole (λ t. ⊥) May Stops text ended
-untold_end May Stops (no_text.Denied d) text ended untold may stops = whole_denied (λ t. ⊥) May Stops d text ended untold may stops
-untold_end May Stops (no_text.Stopped fault) text ended (e, t) may stops = rw (e, t) (may, refl)
+no_value_end May Stops (no_text.Denied d) text ended no_value may stops = whole_denied (λ t. ⊥) May Stops d text ended no_value may stops
+no_value_end May Stops (no_text.Stopped fault) text ended (e, t) may stops = rw (e, t) (may, refl)
 
 -- ---- why the values of an opened store cannot be read
 
@@ -91,14 +91,14 @@ search_over h m Right d is = inl is
 pub search_stopped : (h : Known) (m : Faults) (Right : Type 0) (stop : Stop) → ((c : Class) → stop ≡ stops.Values (probe.NoTable c) → IsHeldAs (h c) false)
     → ((f : SourceFault) → stop ≡ stops.Values (probe.TableRead f) → (c : Class) × (m c f ≡ true))
     → (Right → StopsUndamaged stop) → IsOfSearch h m Right (of_stop stop)
-search_stopped h m Right (stops.Values fault) lacks fails right = inr (fault, untold-in fault lacks fails right, refl)
+search_stopped h m Right (stops.Values fault) lacks fails right = inr (fault, no_value-in fault lacks fails right, refl)
   where
-    untold-in : (fault : ProbeFault) → ((c : Class) → stops.Values fault ≡ stops.Values (probe.NoTable c) → IsHeldAs (h c) false)
+    no_value-in : (fault : ProbeFault) → ((c : Class) → stops.Values fault ≡ stops.Values (probe.NoTable c) → IsHeldAs (h c) false)
         → ((f : SourceFault) → stops.Values fault ≡ stops.Values (probe.TableRead f) → (c : Class) × (m c f ≡ true))
-        → (Right → StopsUndamaged (stops.Values fault)) → IsSearchUntold h m Right fault
-    untold-in (probe.NoTable c) lacks fails right = lacks c refl
-    untold-in (probe.TableRead f) lacks fails right = fails f refl
-    untold-in (probe.PageDamaged c n) lacks fails right = right
+        → (Right → StopsUndamaged (stops.Values fault)) → IsSearchFault h m Right fault
+    no_value-in (probe.NoTable c) lacks fails right = lacks c refl
+    no_value-in (probe.TableRead f) lacks fails right = fails f refl
+    no_value-in (probe.PageDamaged c n) lacks fails right = right
 search_stopped h m Right stops.TooManyStudies lacks fails right = inl refl
 search_stopped h m Right stops.WriteDevice lacks fails right = inl refl
 
@@ -107,22 +107,22 @@ pub search_reported : {V : Type 0} (source : ValueSource V)
     → (h : Known) (m : Faults) (Right : Type 0) (v : V) (fault : ProbeFault) → CanReport source v fault
     → ((c : Class) → IsHeldAs (h c) (source.held v c)) → ((c : Class) (f : SourceFault) → source.may_fail v c f → m c f ≡ true) → (Right → source.is_honest v)
     → IsOfSearch h m Right (denial.Refused (of_probe fault))
-search_reported source h m Right v fault can known fails right = inr (fault, untold-in fault can, refl)
+search_reported source h m Right v fault can known fails right = inr (fault, no_value-in fault can, refl)
   where
-    untold-in : (fault : ProbeFault) → CanReport source v fault → IsSearchUntold h m Right fault
-    untold-in (probe.NoTable c) none = subst (IsHeldAs (h c)) none (known c)
-    untold-in (probe.TableRead f) r = (r.0, fails r.0 f r.1)
-    untold-in (probe.PageDamaged c n) damaged = λ k. damaged (right k)
+    no_value-in : (fault : ProbeFault) → CanReport source v fault → IsSearchFault h m Right fault
+    no_value-in (probe.NoTable c) none = subst (IsHeldAs (h c)) none (known c)
+    no_value-in (probe.TableRead f) r = (r.0, fails r.0 f r.1)
+    no_value-in (probe.PageDamaged c n) damaged = λ k. damaged (right k)
 
 module _ {V : Type 0} (source : ValueSource V) where
-  untold : (h : Known) (m : Faults) (Right : Type 0) (p : Position) → IsValid p → (old new : V) (fault : ProbeFault)
+  no_value : (h : Known) (m : Faults) (Right : Type 0) (p : Position) → IsValid p → (old new : V) (fault : ProbeFault)
       → Stopped (within p source) old fault new → ((c : Class) → IsHeldAs (h c) (source.held old c))
-      → ((c : Class) (f : SourceFault) → source.may_fail old c f → m c f ≡ true) → (Right → source.is_honest old) → IsValueUntold h m Right p fault
-  untold h m Right p valid old new (probe.NoTable c) is known fails right =
-      (subst (IsHeldAs (h c)) (is.untold c refl) (known c), missed-needed source p valid old new (probe.NoTable c) c is.told refl)
-  untold h m Right p valid old new (probe.TableRead f) is known fails right =
-      let r = unread-needed source p valid old new (probe.TableRead f) f is.told refl in (r.0, r.1, fails r.0 f r.2)
-  untold h m Right p valid old new (probe.PageDamaged c n) is known fails right = λ k. is.no_damage (right k)
+      → ((c : Class) (f : SourceFault) → source.may_fail old c f → m c f ≡ true) → (Right → source.is_honest old) → IsValueFault h m Right p fault
+  no_value h m Right p valid old new (probe.NoTable c) is known fails right =
+      (subst (IsHeldAs (h c)) (is.no_value c refl) (known c), missed-needed source p valid old new (probe.NoTable c) c is.evaluated refl)
+  no_value h m Right p valid old new (probe.TableRead f) is known fails right =
+      let r = unread-needed source p valid old new (probe.TableRead f) f is.evaluated refl in (r.0, r.1, fails r.0 f r.2)
+  no_value h m Right p valid old new (probe.PageDamaged c n) is known fails right = λ k. is.no_damage (right k)
 
   -- a survey is refused for the value that cannot be read
   pub survey_denied : (h : Known) (m : Faults) (Right : Type 0) (old new : V) (fault : ProbeFault) (start : Start) (square : ℕ)
@@ -132,7 +132,7 @@ module _ {V : Type 0} (source : ValueSource V) where
       → IsSurveyDenial (IsOfValues h m Right start.position) start square (denial.Refused (of_probe fault))
   survey_denied h m Right old new fault start square r valid e is known fails right =
       let stopped = subst (λ (x : Result (Unit {0}) SurveyFault). HasSurveyed (within start.position source) old x new) e is in
-      inr (fault, untold h m Right start.position valid old new fault stopped known fails right, refl)
+      inr (fault, no_value h m Right start.position valid old new fault stopped known fails right, refl)
 
   -- a view is refused for the value that cannot be read
   pub view_stopped : (p : Position) (asked : List Position) (old new : V) (fault : ProbeFault) (r : Result (Unit {0}) ViewFault) → r ≡ Err (view.Values fault)
@@ -142,16 +142,16 @@ module _ {V : Type 0} (source : ValueSource V) where
       there.stopped
 
   -- if a state has the same tables, the value cannot be read for this fault
-  pub untold_in : (s : State) (p : Position) → IsValid p → (old new : V) (fault : ProbeFault)
+  pub no_value_in : (s : State) (p : Position) → IsValid p → (old new : V) (fault : ProbeFault)
       → Stopped (within p source) old fault new
       → source.is_honest old → ((c : Class) → source.held old c ≡ is_among s.classes c)
-      → ((c : Class) (f : SourceFault) → source.may_fail old c f → (s.paged ≡ true) × (s.shelf.faults c f ≡ true)) → IsUntoldIn s p fault
-  untold_in s p valid old new (probe.NoTable c) is honest known fails =
-      (sym (known c) ∙ is.untold c refl, missed-needed source p valid old new (probe.NoTable c) c is.told refl)
-  untold_in s p valid old new (probe.TableRead f) is honest known fails =
-      let r = unread-needed source p valid old new (probe.TableRead f) f is.told refl in
+      → ((c : Class) (f : SourceFault) → source.may_fail old c f → (s.paged ≡ true) × (s.shelf.faults c f ≡ true)) → IsValueFaultIn s p fault
+  no_value_in s p valid old new (probe.NoTable c) is honest known fails =
+      (sym (known c) ∙ is.no_value c refl, missed-needed source p valid old new (probe.NoTable c) c is.evaluated refl)
+  no_value_in s p valid old new (probe.TableRead f) is honest known fails =
+      let r = unread-needed source p valid old new (probe.TableRead f) f is.evaluated refl in
       let k = fails r.0 f r.2 in (k.0, r.0, r.1, k.1)
-  untold_in s p valid old new (probe.PageDamaged c n) is honest known fails = absurd (is.no_damage honest)
+  no_value_in s p valid old new (probe.PageDamaged c n) is honest known fails = absurd (is.no_damage honest)
 
 -- pages read from tables that may fail
 paged_where : {P A : Type 0} (gives : GivesOf P) (t : Tables P A) (c : Class) (f : SourceFault) → tables_may_fail gives t c f → are_paged t ≡ true
@@ -159,13 +159,13 @@ paged_where gives (Whole w) c f h = absurd h
 paged_where gives (Paged w) c f h = refl
 
 -- the same for the tables of a session
-pub untold_left : {P A : Type 0} (honest : P → Table → ℕ → Type 0) (gives : GivesOf P) (b : HeldDocument A) (old new : Tables P A) (fault : ProbeFault)
+pub no_value_left : {P A : Type 0} (honest : P → Table → ℕ → Type 0) (gives : GivesOf P) (b : HeldDocument A) (old new : Tables P A) (fault : ProbeFault)
     → StudyStopped (tables_source honest gives) (document_seen b) old fault new
-    → (s : State) → Holds honest gives b old s → IsViewUntold s fault
-untold_left honest gives b old new fault (plain, seen, valid, is) s holds = (
+    → (s : State) → Holds honest gives b old s → IsViewFault s fault
+no_value_left honest gives b old new fault (plain, seen, valid, is) s holds = (
   plain,
   sym holds.document ∙ seen,
-  untold_in (tables_source honest gives) s plain.start.position valid old new
+  no_value_in (tables_source honest gives) s plain.start.position valid old new
       fault is holds.values holds.classes (λ c f h. (sym holds.paged ∙ paged_where gives old c f h, holds.faults c f h)),
 )
 
@@ -177,46 +177,46 @@ if_right (Err e) items Right IsIt f = tt
 
 -- ---- why there is no view
 
-pub node_denial : (Untold : ProbeFault → Type 0) (Lacks : Type 0) → Lacks → IsViewDenial Untold Lacks (denial.Refused NoSuchNode)
-node_denial Untold Lacks h = inr (inl (refl, h))
+pub node_denial : (NoValue : ProbeFault → Type 0) (Lacks : Type 0) → Lacks → IsViewDenial NoValue Lacks (denial.Refused NoSuchNode)
+node_denial NoValue Lacks h = inr (inl (refl, h))
 
-pub memory_denial : (Untold : ProbeFault → Type 0) (Lacks : Type 0) → IsViewDenial Untold Lacks (denial.Refused OutOfMemory)
-memory_denial Untold Lacks = inl refl
+pub memory_denial : (NoValue : ProbeFault → Type 0) (Lacks : Type 0) → IsViewDenial NoValue Lacks (denial.Refused OutOfMemory)
+memory_denial NoValue Lacks = inl refl
 
-pub probe_denial : (Untold : ProbeFault → Type 0) (Lacks : Type 0) (fault : ProbeFault) → Untold fault
-    → IsViewDenial Untold Lacks (denial.Refused (of_probe fault))
-probe_denial Untold Lacks fault is = inr (inr (fault, is, refl))
+pub probe_denial : (NoValue : ProbeFault → Type 0) (Lacks : Type 0) (fault : ProbeFault) → NoValue fault
+    → IsViewDenial NoValue Lacks (denial.Refused (of_probe fault))
+probe_denial NoValue Lacks fault is = inr (inr (fault, is, refl))
 
 -- without a text: no such node, or no memory
-pub node_end : (Untold : ProbeFault → Type 0) (Lacks : Type 0) (Stops : RunFault → Type 0) (why : AnswerFault)
-    → why ≡ no_text.Denied (denial.Refused NoSuchNode) → Lacks → MayEnd (IsViewDenial Untold Lacks) Stops why
-node_end Untold Lacks Stops why e h = subst (MayEnd (IsViewDenial Untold Lacks) Stops) (sym e) (node_denial Untold Lacks h)
+pub node_end : (NoValue : ProbeFault → Type 0) (Lacks : Type 0) (Stops : RunFault → Type 0) (why : AnswerFault)
+    → why ≡ no_text.Denied (denial.Refused NoSuchNode) → Lacks → MayEnd (IsViewDenial NoValue Lacks) Stops why
+node_end NoValue Lacks Stops why e h = subst (MayEnd (IsViewDenial NoValue Lacks) Stops) (sym e) (node_denial NoValue Lacks h)
 
-pub memory_end : {V : Type 0} (made : Result V AnswerFault) (Untold : ProbeFault → Type 0) (Lacks : Type 0)
-    → IfErr made (λ why. why ≡ no_text.Denied (denial.Refused OutOfMemory)) → IfErr made (MayEnd (IsViewDenial Untold Lacks) IsNever)
-memory_end (Ok v) Untold Lacks h = tt
-memory_end (Err why) Untold Lacks h = subst (MayEnd (IsViewDenial Untold Lacks) IsNever) (sym h) (memory_denial Untold Lacks)
+pub memory_end : {V : Type 0} (made : Result V AnswerFault) (NoValue : ProbeFault → Type 0) (Lacks : Type 0)
+    → IfErr made (λ why. why ≡ no_text.Denied (denial.Refused OutOfMemory)) → IfErr made (MayEnd (IsViewDenial NoValue Lacks) IsNever)
+memory_end (Ok v) NoValue Lacks h = tt
+memory_end (Err why) NoValue Lacks h = subst (MayEnd (IsViewDenial NoValue Lacks) IsNever) (sym h) (memory_denial NoValue Lacks)
 
-module _ (Untold Unread : ProbeFault → Type 0) (Lacks Misses : Type 0) (untold-so : (fault : ProbeFault) → Untold fault → Unread fault)
+module _ (NoValue Unread : ProbeFault → Type 0) (Lacks Misses : Type 0) (no_value-so : (fault : ProbeFault) → NoValue fault → Unread fault)
     (lacks : Lacks → Misses) where
-  weaker_view : (d : RequestFault) → IsViewDenial Untold Lacks d → IsViewDenial Unread Misses d
+  weaker_view : (d : RequestFault) → IsViewDenial NoValue Lacks d → IsViewDenial Unread Misses d
   weaker_view d (inl same) = inl same
   weaker_view d (inr (inl (same, is))) = inr (inl (same, lacks is))
-  weaker_view d (inr (inr (fault, is, same))) = inr (inr (fault, untold-so fault is, same))
+  weaker_view d (inr (inr (fault, is, same))) = inr (inr (fault, no_value-so fault is, same))
 
-  weaker_end : (Stops : RunFault → Type 0) (why : AnswerFault) → MayEnd (IsViewDenial Untold Lacks) Stops why → MayEnd (IsViewDenial Unread Misses) Stops why
+  weaker_end : (Stops : RunFault → Type 0) (why : AnswerFault) → MayEnd (IsViewDenial NoValue Lacks) Stops why → MayEnd (IsViewDenial Unread Misses) Stops why
   weaker_end Stops (no_text.Denied d) h = weaker_view d h
   weaker_end Stops (no_text.Stopped fault) h = h
 
   -- an error that is passed on
   pub passed_on : {V : Type 0} (made : Result V AnswerFault) (Stops : RunFault → Type 0) (why : AnswerFault) → IsErrAnd made (λ x. x ≡ why)
-      → MayEnd (IsViewDenial Untold Lacks) Stops why → IfErr made (MayEnd (IsViewDenial Unread Misses) Stops)
+      → MayEnd (IsViewDenial NoValue Lacks) Stops why → IfErr made (MayEnd (IsViewDenial Unread Misses) Stops)
   passed_on (Ok v) Stops why e h = absurd e
   passed_on (Err x) Stops why e h = subst (MayEnd (IsViewDenial Unread Misses) Stops) (sym e) (weaker_end Stops why h)
 
   -- a reason why there is no view of what is left is also a reason for the script
   pub weaker_denial : {V : Type 0} (May : RequestFault → Type 0) (Stops Ends : RunFault → Type 0) → ((fault : RunFault) → Stops fault → Ends fault)
-      → (made : Result V AnswerFault) → IfErr made (MayEnd (IsViewDenial Untold Lacks) Stops)
+      → (made : Result V AnswerFault) → IfErr made (MayEnd (IsViewDenial NoValue Lacks) Stops)
       → IfErr made (MayEnd (λ d. May d ⊎ IsViewDenial Unread Misses d) Ends)
   weaker_denial May Stops Ends ends (Ok v) h = tt
   weaker_denial May Stops Ends ends (Err (no_text.Denied d)) h = inr (weaker_view d h)
@@ -224,7 +224,7 @@ module _ (Untold Unread : ProbeFault → Type 0) (Lacks Misses : Type 0) (untold
 
   -- the same over the files of the request
   pub handed_denial : {V : Type 0} (May Might : RequestFault → Type 0) (Stops : RunFault → Type 0) → ((d : RequestFault) → May d → Might d)
-      → (made : Result V AnswerFault) → IfErr made (MayEnd (λ d. May d ⊎ IsViewDenial Untold Lacks d) Stops)
+      → (made : Result V AnswerFault) → IfErr made (MayEnd (λ d. May d ⊎ IsViewDenial NoValue Lacks d) Stops)
       → IfErr made (MayEnd (λ d. Might d ⊎ IsViewDenial Unread Misses d) Stops)
   handed_denial May Might Stops may (Ok v) h = tt
   handed_denial May Might Stops may (Err (no_text.Denied d)) (inl h) = inl (may d h)

@@ -83,24 +83,24 @@ module _ {P : Type 0} (held : Bool) (gives : GivesOf P) (honest : HonestOf P) (s
     (m : Class → SourceFault → Bool) (c : Class) (lacks : held ≡ false) (opened : IsOpened (headers c))
     (given : (bytes : List ℕ) → gives source of_header (Ok bytes) → IsGiven (headers c) (Ok bytes))
     (fails : (q : Question) (f : SourceFault) → IsQuestionOf c q → gives source q (Err f) → m c f ≡ true) where
-  given_as : (told : Result (List ℕ) SourceFault) → gives source of_header told → IsGivenAs (headers c) (m c) told
+  given_as : (reported : Result (List ℕ) SourceFault) → gives source of_header reported → IsGivenAs (headers c) (m c) reported
   given_as (Ok bytes) g = given bytes g
   given_as (Err f) g = (opened, fails of_header f tt g)
 
   abbrev Answers : PagedFault → Type 0
-  Answers fault = (told : Result (List ℕ) SourceFault) × (held ≡ false → MayAnswer gives honest source told)
-      × IsRefusedBy (paged_fault held c told) (Err fault)
+  Answers fault = (reported : Result (List ℕ) SourceFault) × (held ≡ false → MayAnswer gives honest source reported)
+      × IsRefusedBy (paged_fault held c reported) (Err fault)
 
   named_by : (fault : PagedFault) → (fault ≡ paged.OutOfMemory → ⊥) → (o : Option PagedFault) → IsRefusedBy o (Err fault) → o ≡ Some fault
   named_by fault other None is = absurd (other is)
   named_by fault other (Some x) is = let e : fault ≡ x = cc in ap (λ (k : PagedFault). Some k) (sym e)
 
   bad_file : (fault : PagedFault) → (fault ≡ paged.OutOfMemory → ⊥) → Answers fault → IsBadFile (headers c) (m c) c (refusal_of_paged fault)
-  bad_file fault other (told, answers, by) = inr (
-    told,
-    given_as told (answers lacks).0,
+  bad_file fault other (reported, answers, by) = inr (
+    reported,
+    given_as reported (answers lacks).0,
     fault,
-    named_by fault other (paged_fault false c told) (subst (λ (b : Bool). IsRefusedBy (paged_fault b c told) (Err fault)) lacks by),
+    named_by fault other (paged_fault false c reported) (subst (λ (b : Bool). IsRefusedBy (paged_fault b c reported) (Err fault)) lacks by),
     refl,
   )
 

@@ -19,6 +19,6 @@ pub line_none : (all now : List (List ℕ)) (old : List Position) → positions_
 line_none all now old is none = sym (is ∙ ap (λ (ls : List (List ℕ)). old ++ positions_in ls) none ∙ append-nil old)
 
 -- the result of a call that was not refused
-pub told_where_ok : {T E : Type 0} (r : Result T E) (P : Type 0) → is_err r ≡ false → OnOk r P → P
-told_where_ok (Ok x) P e h = h
-told_where_ok (Err x) P e h = absurd (false≢true (sym e))
+pub known_where_ok : {T E : Type 0} (r : Result T E) (P : Type 0) → is_err r ≡ false → OnOk r P → P
+known_where_ok (Ok x) P e h = h
+known_where_ok (Err x) P e h = absurd (false≢true (sym e))

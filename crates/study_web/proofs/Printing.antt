@@ -11,7 +11,7 @@ use Rattle.study_web.specs.Answers.{IsOwnEnd, IsPrinted, IsPrintedTo, IsFileOver
 use Rattle.study_web.specs.Opened.{AreAllRight, IsOfFiles}
 use Rattle.study_web.specs.Spans.{header_given}
 use Rattle.study_web.specs.Store.{known, faults_known}
-use Rattle.study_web.specs.Told.{denial_text, ending_of, IsDenied}
+use Rattle.study_web.specs.Reported.{denial_text, ending_of, IsDenied}
 use Rattle.study_web.specs.Views.{OverStore}
 use Rattle.study_web.proofs.Shelves.{over_made, right_made}
 
@@ -23,10 +23,10 @@ module _ (spans : List FileSpan) (bytes script : List ℕ) where
   by_summary text (Ok summary) own (inr h) = h
   by_summary text (Err fault) own (inr h) = (own, inr h)
 
-  pub printed_as : (told text : List ℕ) (summary : Result Summary RunFault) (ended : Ending) → text ≡ told → ended ≡ ending_of summary
-      → IsOwnEnd summary → ((summary ≡ Err OutOfMemory) × (told ≡ [])) ⊎ IsPrintedTo spans bytes script told summary
+  pub printed_as : (reported text : List ℕ) (summary : Result Summary RunFault) (ended : Ending) → text ≡ reported → ended ≡ ending_of summary
+      → IsOwnEnd summary → ((summary ≡ Err OutOfMemory) × (reported ≡ [])) ⊎ IsPrintedTo spans bytes script reported summary
       → IsPrinted spans bytes script text ended
-  printed_as told text summary ended t e own h = rw (t, e) (by_summary told summary own h)
+  printed_as reported text summary ended t e own h = rw (t, e) (by_summary reported summary own h)
 
   pub printed_denied : (d : RequestFault) (text : List ℕ) (ended : Ending) → IsOfFiles spans bytes d → IsDenied d text ended
       → IsPrinted spans bytes script text ended

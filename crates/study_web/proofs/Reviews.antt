@@ -15,7 +15,7 @@ use Rattle.study_web.specs.Opened.{IsOfFiles}
 use Rattle.study_web.specs.Spans.{file_in, file_faults, header_given}
 use Rattle.study_web.specs.Store.{known, faults_known}
 use Rattle.study_web.specs.Views.{OverStore}
-use Rattle.study_web.specs.Told.{denial_text, ending_of, IsDenied}
+use Rattle.study_web.specs.Reported.{denial_text, ending_of, IsDenied}
 use Rattle.study_web.proofs.Opening.{among_chosen}
 use Rattle.study_web.proofs.Shelves.{over_made}
 
@@ -25,9 +25,9 @@ module _ (spans : List FileSpan) (bytes script : List ℕ) where
   by_summary text (Ok summary) own h = h
   by_summary text (Err fault) own h = (own, h)
 
-  pub reviewed_as : (told text : List ℕ) (summary : Result Summary RunFault) (ended : Ending) → text ≡ told → ended ≡ ending_of summary
-      → IsOwnEnd summary → IsReviewedTo spans bytes script told summary → IsReviewed spans bytes script text ended
-  reviewed_as told text summary ended t e own h = rw (t, e) (by_summary told summary own h)
+  pub reviewed_as : (reported text : List ℕ) (summary : Result Summary RunFault) (ended : Ending) → text ≡ reported → ended ≡ ending_of summary
+      → IsOwnEnd summary → IsReviewedTo spans bytes script reported summary → IsReviewed spans bytes script text ended
+  reviewed_as reported text summary ended t e own h = rw (t, e) (by_summary reported summary own h)
 
   pub reviewed_denied : (d : RequestFault) (text : List ℕ) (ended : Ending) → IsOfFiles spans bytes d → IsDenied d text ended
       → IsReviewed spans bytes script text ended
@@ -36,7 +36,16 @@ module _ (spans : List FileSpan) (bytes script : List ℕ) where
   reviewed_denied d text (Stopped fault) of (same, is) =
       let chosen : Class → Bool = λ c. is_some (file_in spans bytes c) in
       let shelf : StoreKnowledge = record { files = λ c. None; headers = λ c. None; faults = λ c f. file_faults (file_in spans bytes c) c f } in
-      rw (same, is) (tt, λ right. (filter chosen class_list, among_chosen chosen, shelf, λ c f. refl, (None, (0, omega arith, omega arith, (tt, [], tt, refl)))))
+      rw (same, is) (
+        tt,
+        λ right. (
+          filter chosen class_list,
+          among_chosen chosen,
+          shelf,
+          λ c f. refl,
+          (None, (0, omega arith, omega arith, (tt, [], tt, refl))),
+        ),
+      )
   reviewed_denied d text (Ran summary) of x = absurd x
 
 pub review_made : {spans at : List FileSpan} {bytes bs : List ℕ} {written : List Bool} → at ≡ spans → bs ≡ bytes → written ≡ replicate 36 false

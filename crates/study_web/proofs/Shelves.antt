@@ -17,7 +17,8 @@ use Rattle.study_values.specs.declared.values.ProbeFault.TheVariants as probe
 use Rattle.study_reply.specs.declared.refusal.Refusal.{Refusal}
 use Rattle.study_web.specs.declared.request_fault.RequestFault.{RequestFault}
 use Rattle.study_web.specs.declared.request_fault.RequestFault.TheVariants as denial
-use Rattle.study_web.specs.Opened.{IsHeldAs, AreHandedIn, AreAllRight, IsBadFile, IsOfTables, IsValueUntold, IsOfValues, IsOfFiles, IsOfFileValues, IsSearchUntold, IsOfSearch, IsOfFileSearch}
+use Rattle.study_web.specs.Opened.{IsHeldAs, AreHandedIn, AreAllRight, IsBadFile, IsOfTables, IsValueFault, IsOfValues, IsOfFiles, IsOfFileValues}
+use Rattle.study_web.specs.Opened.{IsSearchFault, IsOfSearch, IsOfFileSearch}
 use Rattle.study_web.specs.Views.{OverStore, OverFiles}
 use Rattle.study_web.specs.Store.{is_written, known, faults_known, IsShelf, AreRightFiles}
 
@@ -33,9 +34,9 @@ none_written : (c : Class) → is_written (replicate 36 false) c ≡ false
 none_written c = get_or-replicate 36 (class_number c) false false (place_below c)
 
 module _ (spans : List FileSpan) (bytes : List ℕ) where
-  known_at_first : {T : Type 0} (told : Option (List ℕ) → T) (c : Class)
-      → known told spans bytes (replicate 36 false) c ≡ Some (told (file_in spans bytes c))
-  known_at_first told c = rw (none_written c) refl
+  known_at_first : {T : Type 0} (reported : Option (List ℕ) → T) (c : Class)
+      → known reported spans bytes (replicate 36 false) c ≡ Some (reported (file_in spans bytes c))
+  known_at_first reported c = rw (none_written c) refl
 
   faults_at_first : (c : Class) (f : SourceFault) → faults_known spans bytes (replicate 36 false) c f ≡ file_faults (file_in spans bytes c) c f
   faults_at_first c f = rw (none_written c) refl
@@ -78,9 +79,9 @@ module _ (h k : Class → Option (Result (List ℕ) StoreFault)) (m n : Class �
     (alike : (c : Class) (f : SourceFault) → m c f ≡ n c f) where
   bad_alike : (c : Class) (refusal : Refusal) → IsBadFile (h c) (m c) c refusal → IsBadFile (k c) (n c) c refusal
   bad_alike c refusal (inl is) = inl (subst (λ (o : Option (Result (List ℕ) StoreFault)). IsGiven o (Err store.Device)) (same c) is.0, is.1)
-  bad_alike c refusal (inr (told, is, fault, by, named)) = inr (told, given_alike told is, fault, by, named)
+  bad_alike c refusal (inr (reported, is, fault, by, named)) = inr (reported, given_alike reported is, fault, by, named)
     where
-      given_alike : (told : Result (List ℕ) SourceFault) → IsGivenAs (h c) (m c) told → IsGivenAs (k c) (n c) told
+      given_alike : (reported : Result (List ℕ) SourceFault) → IsGivenAs (h c) (m c) reported → IsGivenAs (k c) (n c) reported
       given_alike (Ok bytes) is = subst (λ (o : Option (Result (List ℕ) StoreFault)). IsGiven o (Ok bytes)) (same c) is
       given_alike (Err f) is = (subst (λ (o : Option (Result (List ℕ) StoreFault)). IsOpened o) (same c) is.0, sym (alike c f) ∙ is.1)
 
@@ -94,23 +95,24 @@ module _ (h k : Class → Option (Result (List ℕ) StoreFault)) (m n : Class �
   still_named (Ok x) is = tt
   still_named (Err d) is = tables_alike d is
 
-  untold_alike : (Right Sound : Type 0) → (Sound → Right) → (p : Position) (fault : ProbeFault) → IsValueUntold h m Right p fault → IsValueUntold k n Sound p fault
-  untold_alike Right Sound g p (probe.NoTable c) is = (subst (λ (o : Option (Result (List ℕ) StoreFault)). IsHeldAs o false) (same c) is.0, is.1)
-  untold_alike Right Sound g p (probe.TableRead f) (c, needs, is) = (c, needs, sym (alike c f) ∙ is)
-  untold_alike Right Sound g p (probe.PageDamaged c i) is = λ k. is (g k)
+  no_value_alike : (Right Sound : Type 0) → (Sound → Right) → (p : Position) (fault : ProbeFault) → IsValueFault h m Right p fault
+      → IsValueFault k n Sound p fault
+  no_value_alike Right Sound g p (probe.NoTable c) is = (subst (λ (o : Option (Result (List ℕ) StoreFault)). IsHeldAs o false) (same c) is.0, is.1)
+  no_value_alike Right Sound g p (probe.TableRead f) (c, needs, is) = (c, needs, sym (alike c f) ∙ is)
+  no_value_alike Right Sound g p (probe.PageDamaged c i) is = λ k. is (g k)
 
   pub values_alike : (Right Sound : Type 0) → (Sound → Right) → (p : Position) (d : RequestFault) → IsOfValues h m Right p d → IsOfValues k n Sound p d
   values_alike Right Sound g p d (inl is) = inl (tables_alike d is)
-  values_alike Right Sound g p d (inr (fault, is, same)) = inr (fault, untold_alike Right Sound g p fault is, same)
+  values_alike Right Sound g p d (inr (fault, is, same)) = inr (fault, no_value_alike Right Sound g p fault is, same)
 
-  search_untold_alike : (Right Sound : Type 0) → (Sound → Right) → (fault : ProbeFault) → IsSearchUntold h m Right fault → IsSearchUntold k n Sound fault
-  search_untold_alike Right Sound g (probe.NoTable c) is = subst (λ (o : Option (Result (List ℕ) StoreFault)). IsHeldAs o false) (same c) is
-  search_untold_alike Right Sound g (probe.TableRead f) (c, is) = (c, sym (alike c f) ∙ is)
-  search_untold_alike Right Sound g (probe.PageDamaged c i) is = λ k. is (g k)
+  search_no_value_alike : (Right Sound : Type 0) → (Sound → Right) → (fault : ProbeFault) → IsSearchFault h m Right fault → IsSearchFault k n Sound fault
+  search_no_value_alike Right Sound g (probe.NoTable c) is = subst (λ (o : Option (Result (List ℕ) StoreFault)). IsHeldAs o false) (same c) is
+  search_no_value_alike Right Sound g (probe.TableRead f) (c, is) = (c, sym (alike c f) ∙ is)
+  search_no_value_alike Right Sound g (probe.PageDamaged c i) is = λ k. is (g k)
 
   pub search_alike : (Right Sound : Type 0) → (Sound → Right) → (d : RequestFault) → IsOfSearch h m Right d → IsOfSearch k n Sound d
   search_alike Right Sound g d (inl is) = inl (tables_alike d is)
-  search_alike Right Sound g d (inr (fault, is, same)) = inr (fault, search_untold_alike Right Sound g fault is, same)
+  search_alike Right Sound g d (inr (fault, is, same)) = inr (fault, search_no_value_alike Right Sound g fault is, same)
 
 -- the same for a store with these spans and bytes
 module _ {spans at : List FileSpan} {bytes bs : List ℕ} {written : List Bool} (e : at ≡ spans) (f : bs ≡ bytes) (w : written ≡ replicate 36 false) where

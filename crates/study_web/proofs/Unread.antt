@@ -26,35 +26,35 @@ unread_as script fault own at is (inr none) = rw none (no_memory script)
 -- ---- a run over a slice, into memory
 
 -- a run that ends for want of memory leaves nothing
-pub own_shape : (script text written : List ℕ) (left : Option (List ℕ)) (ran told : Result Summary RunFault) → RunShape script left ran
-    → ((text ≡ written) × (told ≡ ran)) ⊎ ((text ≡ []) × (told ≡ Err OutOfMemory)) → (left : Option (List ℕ)) × RunShape script left told
-own_shape script text written left ran told is (inl (same, ended)) = (left, subst (RunShape script left) (sym ended) is)
-own_shape script text written left ran told is (inr (none, ended)) = rw ended (Some script, refl)
+pub own_shape : (script text written : List ℕ) (left : Option (List ℕ)) (ran reported : Result Summary RunFault) → RunShape script left ran
+    → ((text ≡ written) × (reported ≡ ran)) ⊎ ((text ≡ []) × (reported ≡ Err OutOfMemory)) → (left : Option (List ℕ)) × RunShape script left reported
+own_shape script text written left ran reported is (inl (same, ended)) = (left, subst (RunShape script left) (sym ended) is)
+own_shape script text written left ran reported is (inr (none, ended)) = rw ended (Some script, refl)
 
-pub own_fits : (script text written : List ℕ) (left : Option (List ℕ)) (ran told : Result Summary RunFault)
+pub own_fits : (script text written : List ℕ) (left : Option (List ℕ)) (ran reported : Result Summary RunFault)
     → Fits script left (Some []) (Some written) ran
-    → ((text ≡ written) × (told ≡ ran)) ⊎ ((text ≡ []) × (told ≡ Err OutOfMemory))
-    → (left : Option (List ℕ)) × Fits script left (Some []) (Some text) told
-own_fits script text written left ran told is (inl (same, ended)) = (left, rw (same, ended) is)
-own_fits script text written left ran told is (inr (none, ended)) = rw (none, ended) (Some script, refl)
+    → ((text ≡ written) × (reported ≡ ran)) ⊎ ((text ≡ []) × (reported ≡ Err OutOfMemory))
+    → (left : Option (List ℕ)) × Fits script left (Some []) (Some text) reported
+own_fits script text written left ran reported is (inl (same, ended)) = (left, rw (same, ended) is)
+own_fits script text written left ran reported is (inr (none, ended)) = rw (none, ended) (Some script, refl)
 
-pub own_outcome : (first : State) (script text written : List ℕ) (left : Option (List ℕ)) (ran told : Result Summary RunFault)
+pub own_outcome : (first : State) (script text written : List ℕ) (left : Option (List ℕ)) (ran reported : Result Summary RunFault)
     → Outcome true first script left (Some []) (Some written) ran
-    → ((text ≡ written) × (told ≡ ran)) ⊎ ((text ≡ []) × (told ≡ Err OutOfMemory))
-    → (left : Option (List ℕ)) × Outcome true first script left (Some []) (Some text) told
-own_outcome first script text written left ran told is (inl (same, ended)) = (left, rw (same, ended) is)
-own_outcome first script text written left ran told is (inr (none, ended)) = rw (none, ended) (Some script, (refl, refl))
+    → ((text ≡ written) × (reported ≡ ran)) ⊎ ((text ≡ []) × (reported ≡ Err OutOfMemory))
+    → (left : Option (List ℕ)) × Outcome true first script left (Some []) (Some text) reported
+own_outcome first script text written left ran reported is (inl (same, ended)) = (left, rw (same, ended) is)
+own_outcome first script text written left ran reported is (inr (none, ended)) = rw (none, ended) (Some script, (refl, refl))
 
-pub own_review : (first : State) (script text written : List ℕ) (left : Option (List ℕ)) (ran told : Result Summary RunFault)
+pub own_review : (first : State) (script text written : List ℕ) (left : Option (List ℕ)) (ran reported : Result Summary RunFault)
     → ReportOutcome IsReviewAs refused_line no_remark first script left (Some []) (Some written) ran
-    → ((text ≡ written) × (told ≡ ran)) ⊎ ((text ≡ []) × (told ≡ Err OutOfMemory))
-    → (left : Option (List ℕ)) × ReportOutcome IsReviewAs refused_line no_remark first script left (Some []) (Some text) told
-own_review first script text written left ran told is (inl (same, ended)) = (left, rw (same, ended) is)
-own_review first script text written left ran told is (inr (none, ended)) =
+    → ((text ≡ written) × (reported ≡ ran)) ⊎ ((text ≡ []) × (reported ≡ Err OutOfMemory))
+    → (left : Option (List ℕ)) × ReportOutcome IsReviewAs refused_line no_remark first script left (Some []) (Some text) reported
+own_review first script text written left ran reported is (inl (same, ended)) = (left, rw (same, ended) is)
+own_review first script text written left ran reported is (inr (none, ended)) =
     rw (none, ended) (None, (0, omega arith, omega arith, (tt, [], tt, refl)))
 
 -- what is true of the written text is true of the result, unless memory ran out
-pub own_as : (P : List ℕ → Result Summary RunFault → Type 0) (text written : List ℕ) (ran told : Result Summary RunFault) → P written ran
-    → ((text ≡ written) × (told ≡ ran)) ⊎ ((text ≡ []) × (told ≡ Err OutOfMemory)) → ((told ≡ Err OutOfMemory) × (text ≡ [])) ⊎ P text told
-own_as P text written ran told is (inl (same, ended)) = inr (rw (same, ended) is)
-own_as P text written ran told is (inr (none, ended)) = inl (ended, none)
+pub own_as : (P : List ℕ → Result Summary RunFault → Type 0) (text written : List ℕ) (ran reported : Result Summary RunFault) → P written ran
+    → ((text ≡ written) × (reported ≡ ran)) ⊎ ((text ≡ []) × (reported ≡ Err OutOfMemory)) → ((reported ≡ Err OutOfMemory) × (text ≡ [])) ⊎ P text reported
+own_as P text written ran reported is (inl (same, ended)) = inr (rw (same, ended) is)
+own_as P text written ran reported is (inr (none, ended)) = inl (ended, none)

@@ -42,8 +42,8 @@ use Rattle.study_web.specs.Asked.{Asked, Asks, run, review, report, tables, make
 use Rattle.study_web.specs.Row.{IsRow}
 use Rattle.study_web.specs.Setup.{AreTables, positions_in, squares_text}
 use Rattle.study_web.specs.Store.{IsShelf, AreRightFiles}
-use Rattle.study_web.specs.Told.{denial_text, ending_of, IsDenied}
-use Rattle.study_web.specs.Views.{refused_line, over_files, IsViewOver, IsUntoldOver, LacksNodeOver, OverFiles}
+use Rattle.study_web.specs.Reported.{denial_text, ending_of, IsDenied}
+use Rattle.study_web.specs.Views.{refused_line, over_files, IsViewOver, IsValueFaultOver, LacksNodeOver, OverFiles}
 
 -- ---- how a request ends that is answered as a whole or refused
 
@@ -128,15 +128,15 @@ IsMakeAnswer spans bytes c = IsWhole (IsMadeFile spans bytes c) (IsMakeDenial sp
 
 -- why there is no view: want of memory, no node at the path, or a value that cannot be read; each of the last two only if it is the case
 abbrev pub IsViewDenial : (ProbeFault → Type 0) → Type 0 → RequestFault → Type 0
-IsViewDenial Untold Lacks d =
+IsViewDenial NoValue Lacks d =
     (d ≡ denial.Refused OutOfMemory) ⊎ ((d ≡ denial.Refused NoSuchNode) × Lacks)
-    ⊎ ((fault : ProbeFault) × Untold fault × (d ≡ denial.Refused (of_probe fault)))
+    ⊎ ((fault : ProbeFault) × NoValue fault × (d ≡ denial.Refused (of_probe fault)))
 
 -- The view of what the script leaves, over right files; a node is missing, or a value cannot be read, only as the script leaves it.
 abbrev pub IsViewed : List FileSpan → List ℕ → List ℕ → List ℕ → List ℕ → Ending → Type 0
 IsViewed spans bytes script steps =
     IsWhole (λ text. AreAllRight spans bytes → OverFiles spans bytes (IsViewOver script steps text))
-    (λ d. IsOfFiles spans bytes d ⊎ IsViewDenial (λ fault. AreAllRight spans bytes → OverFiles spans bytes (IsUntoldOver script fault))
+    (λ d. IsOfFiles spans bytes d ⊎ IsViewDenial (λ fault. AreAllRight spans bytes → OverFiles spans bytes (IsValueFaultOver script fault))
     (AreAllRight spans bytes → OverFiles spans bytes (LacksNodeOver script steps)) d) (IsUnread script)
 
 -- the review of the script's studies

@@ -3,7 +3,7 @@ use Rattle.std.specs.Prelude.{ℕ, nat_le, List, [], ◌∷◌, length, Option, 
 use Rattle.study_material.specs.declared.class.Class.{Class}
 use Rattle.study_command.specs.declared.command.SyntaxFault.TheVariants.{BadArguments}
 use Rattle.study_reply.specs.declared.refusal.Refusal.TheVariants.{Form, NotAClass}
-use Rattle.study_script.specs.Replies.{class_told}
+use Rattle.study_script.specs.Replies.{class_parsed}
 use Rattle.study_listing.specs.declared.piece_words.Piece.{Piece}
 use Rattle.study_listing.specs.declared.piece_words.PieceFault.{PieceFault}
 use Rattle.study_listing.specs.declared.piece_words.PieceFault.TheVariants as fault
@@ -26,4 +26,4 @@ find_of (Some c) ws = find_for c ws
 
 abbrev pub find_asked : List (List ℕ) → Asks
 find_asked [] = Err (Form BadArguments)
-find_asked (name ∷ ws) = find_of (class_told name) ws
+find_asked (name ∷ ws) = find_of (class_parsed name) ws

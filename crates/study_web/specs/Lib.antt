@@ -8,7 +8,7 @@ pub mod Found
 pub mod Setup
 pub mod Spans
 pub mod Store
-pub mod Told
+pub mod Reported
 pub mod Row
 pub mod Views
 pub mod Answers

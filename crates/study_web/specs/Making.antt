@@ -1,6 +1,6 @@
 -- The file of a class's table, and why it cannot be made.
 use Rattle.std.specs.Prelude.{◌≡◌, ◌≢◌, ◌⊎◌, ◌<◌, nat_le, ℕ, Bool, true, false, ◌&&◌, List, [], ◌∷◌, is_some, Option, Some, None, Ok, Err}
-use Rattle.std.specs.List.{list_all, Contains}
+use Rattle.std.specs.List.{list_all}
 use Rattle.study_material.specs.declared.class.Class.{Class}
 use Rattle.study_material.specs.Needs.{size, needs_of, IsNeeded, IsOrder}
 use Rattle.study_retro.specs.declared.builder.BuildFault.{BuildFault}

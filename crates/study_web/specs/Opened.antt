@@ -45,8 +45,8 @@ denial_of c fault = denial.OfFile c (refusal_of_paged fault)
 abbrev pub IsBadFile : Option (Result (List ℕ) StoreFault) → (SourceFault → Bool) → Class → Refusal → Type 0
 IsBadFile known faults c refusal =
     (IsGiven known (Err store.Device) × (refusal ≡ Device))
-    ⊎ ((told : Result (List ℕ) SourceFault) × IsGivenAs known faults told
-    × (fault : PagedFault) × (paged_fault false c told ≡ Some fault) × (refusal ≡ refusal_of_paged fault))
+    ⊎ ((reported : Result (List ℕ) SourceFault) × IsGivenAs known faults reported
+    × (fault : PagedFault) × (paged_fault false c reported ≡ Some fault) × (refusal ≡ refusal_of_paged fault))
 
 -- the headers and the faults of the classes' files
 module _ (headers : Class → Option (Result (List ℕ) StoreFault)) (faults : Class → SourceFault → Bool) where
@@ -59,24 +59,24 @@ module _ (headers : Class → Option (Result (List ℕ) StoreFault)) (faults : C
 
   -- Why the value of a position that is reached cannot be read: there is no file for a class that the position needs, or it cannot be read, or a page is
   -- damaged, which never happens with right files.
-  abbrev pub IsValueUntold : Type 0 → Position → ProbeFault → Type 0
-  IsValueUntold Right p (probe.NoTable c) = IsHeldAs (headers c) false × NeedsClass p c
-  IsValueUntold Right p (probe.TableRead f) = (c : Class) × NeedsClass p c × (faults c f ≡ true)
-  IsValueUntold Right p (probe.PageDamaged c n) = Right → ⊥
+  abbrev pub IsValueFault : Type 0 → Position → ProbeFault → Type 0
+  IsValueFault Right p (probe.NoTable c) = IsHeldAs (headers c) false × NeedsClass p c
+  IsValueFault Right p (probe.TableRead f) = (c : Class) × NeedsClass p c × (faults c f ≡ true)
+  IsValueFault Right p (probe.PageDamaged c n) = Right → ⊥
 
   -- why the tables give no answer: they are not opened, or a value cannot be read
   abbrev pub IsOfValues : Type 0 → Position → RequestFault → Type 0
-  IsOfValues Right p d = IsOfTables d ⊎ ((fault : ProbeFault) × IsValueUntold Right p fault × (d ≡ denial.Refused (of_probe fault)))
+  IsOfValues Right p d = IsOfTables d ⊎ ((fault : ProbeFault) × IsValueFault Right p fault × (d ≡ denial.Refused (of_probe fault)))
 
   -- Why a search has no answer: the tables are not opened, or a value cannot be read: there is no file for its class, or it cannot be read, or a page is
   -- damaged, which never happens with right files.
-  abbrev pub IsSearchUntold : Type 0 → ProbeFault → Type 0
-  IsSearchUntold Right (probe.NoTable c) = IsHeldAs (headers c) false
-  IsSearchUntold Right (probe.TableRead f) = (c : Class) × (faults c f ≡ true)
-  IsSearchUntold Right (probe.PageDamaged c n) = Right → ⊥
+  abbrev pub IsSearchFault : Type 0 → ProbeFault → Type 0
+  IsSearchFault Right (probe.NoTable c) = IsHeldAs (headers c) false
+  IsSearchFault Right (probe.TableRead f) = (c : Class) × (faults c f ≡ true)
+  IsSearchFault Right (probe.PageDamaged c n) = Right → ⊥
 
   abbrev pub IsOfSearch : Type 0 → RequestFault → Type 0
-  IsOfSearch Right d = IsOfTables d ⊎ ((fault : ProbeFault) × IsSearchUntold Right fault × (d ≡ denial.Refused (of_probe fault)))
+  IsOfSearch Right d = IsOfTables d ⊎ ((fault : ProbeFault) × IsSearchFault Right fault × (d ≡ denial.Refused (of_probe fault)))
 
 -- the same for the files of the request
 abbrev pub IsOfFiles : List FileSpan → List ℕ → RequestFault → Type 0

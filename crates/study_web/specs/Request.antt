@@ -12,11 +12,11 @@ use Rattle.study_marks.specs.Edits.{is_printable}
 use Rattle.study_marks.specs.declared.stipulation.Goal.{Goal}
 use Rattle.study_marks.specs.declared.stipulation.Goal.TheVariants.{Win, Draw}
 use Rattle.study_marks.specs.declared.stipulation.Stipulation.{Stipulation}
-use Rattle.study_command.specs.Parser.{one_word, path_of, path_seen, side_told, mate_in, mate_moves_of}
+use Rattle.study_command.specs.Parser.{one_word, path_of, path_seen, side_parsed, mate_in, mate_moves_of}
 use Rattle.study_command.specs.declared.command.SyntaxFault.TheVariants.{BadByte, UnknownCommand, BadArguments, UnknownStipulation}
 use Rattle.study_reply.specs.declared.refusal.Refusal.{Refusal}
 use Rattle.study_reply.specs.declared.refusal.Refusal.TheVariants.{Form, NotAClass, Fen}
-use Rattle.study_script.specs.Replies.{class_told}
+use Rattle.study_script.specs.Replies.{class_parsed}
 use Rattle.study_search.specs.declared.only_moves.Outcome.{Outcome}
 use Rattle.study_listing.specs.Requests.{outcome_named}
 use Rattle.study_web.specs.Asked.{Asked, Asks, run, review, report, tables, make, view, survey, passed, find, unread, row, bring}
@@ -37,7 +37,7 @@ make_of (Some c) = Ok (make c)
 
 abbrev pub make_asked : Option (List ℕ) → Asks
 make_asked None = Err (Form BadArguments)
-make_asked (Some name) = make_of (class_told name)
+make_asked (Some name) = make_of (class_parsed name)
 
 abbrev pub view_of : Option (List ℕ) → Asks
 view_of None = Err (Form BadArguments)
@@ -53,10 +53,10 @@ with_start asked (Ok start) = Ok (asked start)
 with_start asked (Err fault) = Err (Fen fault)
 
 -- a file and a rank
-abbrev pub square_told : List ℕ → Option ℕ
-square_told (file ∷ rank ∷ []) =
+abbrev pub square_parsed : List ℕ → Option ℕ
+square_parsed (file ∷ rank ∷ []) =
     if nat_le 97 file && nat_le file 104 && (nat_le 49 rank && nat_le rank 56) then Some (8 * (rank - 49) + (file - 97)) else None
-square_told _ = None
+square_parsed _ = None
 
 -- `win`, `draw` or `mate K`, and the rest
 abbrev pub with_rest : Option Goal → List ℕ → Option (Goal × List ℕ)
@@ -82,7 +82,7 @@ aimed_at _ _ = None
 
 abbrev pub stipulation_begun : List (List ℕ) → List ℕ → Option (Stipulation × List ℕ)
 stipulation_begun [] text = None
-stipulation_begun (side ∷ more) text = aimed_at (side_told side) (goal_begun (words (behind_word text)) (behind_word text))
+stipulation_begun (side ∷ more) text = aimed_at (side_parsed side) (goal_begun (words (behind_word text)) (behind_word text))
 
 -- `SQUARE SIDE GOAL FEN`
 abbrev pub survey_for : ℕ → Option (Stipulation × List ℕ) → Asks
@@ -95,7 +95,7 @@ survey_at (Some square) text = survey_for square (stipulation_begun (words text)
 
 abbrev pub survey_asked : List (List ℕ) → List ℕ → Asks
 survey_asked [] text = Err (Form BadArguments)
-survey_asked (square ∷ more) text = survey_at (square_told square) (behind_word text)
+survey_asked (square ∷ more) text = survey_at (square_parsed square) (behind_word text)
 
 -- `win FEN` or `draw FEN`
 abbrev pub row_for : Option Outcome → List ℕ → Asks

@@ -3,7 +3,7 @@ use Rattle.std.specs.Prelude.{◌≡◌, ℕ, List, codes, decimal, Option, Some
 use Rattle.study_board.specs.Position.{Position}
 use Rattle.study_search.specs.declared.only_moves.Outcome.{Outcome}
 use Rattle.study_search.specs.OnlyMoves.{IsMost}
-use Rattle.study_web.specs.Told.{line_of}
+use Rattle.study_web.specs.Reported.{line_of}
 
 -- `5`; or `none` if the side to move has not the outcome
 abbrev pub row_text : Option ℕ → List ℕ

@@ -10,15 +10,15 @@ use Rattle.study_notation.specs.Fen.{start_of}
 use Rattle.study_notation.specs.FenSpelling.{square_text}
 use Rattle.study_command.specs.Parser.{Asks, fen_command, command_of}
 use Rattle.study_view.specs.Setup.{AreClassesNeeded}
-use Rattle.study_web.specs.Told.{line_of}
+use Rattle.study_web.specs.Reported.{line_of}
 
-abbrev pub position_told : Result Start FenFault → List Position
-position_told (Ok start) = start.position ∷ []
-position_told (Err fault) = []
+abbrev pub position_decoded : Result Start FenFault → List Position
+position_decoded (Ok start) = start.position ∷ []
+position_decoded (Err fault) = []
 
 -- the position of a line `position` or `shift`, if its FEN is valid
 abbrev pub position_asked : Asks → List Position
-position_asked (Ok (Some (fen_command word fen))) = position_told (start_of fen)
+position_asked (Ok (Some (fen_command word fen))) = position_decoded (start_of fen)
 position_asked _ = []
 
 abbrev pub position_in : List ℕ → List Position

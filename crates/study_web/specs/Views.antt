@@ -14,7 +14,7 @@ use Rattle.study_script.specs.declared.store.StoreFault.{StoreFault}
 use Rattle.study_script.specs.State.{Document, empty, start, study, StoreKnowledge, State, is_among}
 use Rattle.study_report.specs.Lines.{refusal_line, no_remark}
 use Rattle.study_report.specs.Outcome.{AreAdded, begun, point_after, report_text}
-use Rattle.study_report.specs.Told.{Added, IsUntoldIn}
+use Rattle.study_report.specs.Reported.{Added, IsValueFaultIn}
 use Rattle.study_view.specs.View.{IsViewOf}
 use Rattle.study_view.specs.Words.{start_lines}
 use Rattle.study_web.specs.declared.file_spans.FileSpan.{FileSpan}
@@ -64,12 +64,12 @@ abbrev pub LacksNodeOver : List ℕ → List ℕ → List Class → StoreKnowled
 LacksNodeOver script path classes shelf = (state : State) × (refused : List ℕ) × IsLeft classes shelf script state refused × LacksNode state.document path
 
 -- a value that is probed from the start of the study cannot be read
-abbrev pub IsViewUntold : State → ProbeFault → Type 0
-IsViewUntold s fault = (plain : PlainStudy) × (s.document ≡ study plain) × IsUntoldIn s plain.start.position fault
+abbrev pub IsViewFault : State → ProbeFault → Type 0
+IsViewFault s fault = (plain : PlainStudy) × (s.document ≡ study plain) × IsValueFaultIn s plain.start.position fault
 
 -- the same in the state that a script leaves
-abbrev pub IsUntoldOver : List ℕ → ProbeFault → List Class → StoreKnowledge → Type 0
-IsUntoldOver script fault classes shelf = (state : State) × (refused : List ℕ) × IsLeft classes shelf script state refused × IsViewUntold state fault
+abbrev pub IsValueFaultOver : List ℕ → ProbeFault → List Class → StoreKnowledge → Type 0
+IsValueFaultOver script fault classes shelf = (state : State) × (refused : List ℕ) × IsLeft classes shelf script state refused × IsViewFault state fault
 
 -- ---- over files
 

@@ -2,7 +2,7 @@
 ghost use Rattle.std.specs.Prelude.{◌≡◌, ◌≤◌, ◌⊎◌, ◌++◌, ℕ, List, length, take, drop, min, is_some, IfSome, IfOk, OnOk};
 ghost use Rattle.study_web.specs.Answers.{IsAnswer, IsHanded, IsNothing, is_paged, spans_of};
 ghost use Rattle.study_web.specs.Request.{request_of};
-ghost use Rattle.study_web.specs.Told.{ending_text};
+ghost use Rattle.study_web.specs.Reported.{ending_text};
 ghost use Rattle.study_web.specs.declared.reply.Ending.{Ending as AnEnding};
 
 use crate::dispatch::answer;

@@ -25,7 +25,7 @@ impl Report for Refusals {
     ghost remark = { λ line. no_remark line };
 
     // Nothing is kept.
-    ghost lists = { λ refusals told. Unit {0} };
+    ghost lists = { λ refusals reported. Unit {0} };
 
     fn add_study<'a, 'b, A: Allocator, B: Allocator, V: Values, W: Write>(
         &mut self,

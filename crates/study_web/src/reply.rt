@@ -1,6 +1,6 @@
 //! An answer, and how it ended.
 ghost use Rattle.std.specs.Prelude.{◌≡◌, [], IfOk, IfErr};
-ghost use Rattle.study_web.specs.Told.{IsDenied, IsAnswerFault, ending_of};
+ghost use Rattle.study_web.specs.Reported.{IsDenied, IsAnswerFault, ending_of};
 
 use crate::request_fault::RequestFault;
 use crate::wire_text::put_request_fault;
@@ -60,7 +60,7 @@ fn stopped<'a, A: Allocator>(alloc: &'a A, fault: RunFault) -> Answer<'a, A>
 }
 
 /// A text, or why there is none.
-pub fn told<'a, A: Allocator>(
+pub fn reported<'a, A: Allocator>(
     alloc: &'a A,
     made: Result<Vec<u8, &'a A>, AnswerFault>,
 ) -> Answer<'a, A>

@@ -20,12 +20,12 @@ pub fn printed_of<'a, S: TableStore, A: Allocator>(
     pages: Option<u16>,
 ) -> Result<RunOutput<'a, A>, RequestFault>
     requires { IfSome pages (λ n. (1 ≤ n) × (n ≤ 4096)) }
-    ensures own { IfOk result (λ told. IsOwnEnd told.summary) }
-    ensures file { IfOk result (λ told.
-        ((told.summary ≡ Err RunFault.OutOfMemory) × (told.text.items ≡ []))
+    ensures own { IfOk result (λ reported. IsOwnEnd reported.summary) }
+    ensures file { IfOk result (λ reported.
+        ((reported.summary ≡ Err RunFault.OutOfMemory) × (reported.text.items ≡ []))
         ⊎ (((c : AClass) → S.honest store.old true c)
         → OverStore (S.headers store.old) (S.faults store.old)
-        (IsFileOver script.now told.text.items told.summary))) }
+        (IsFileOver script.now reported.text.items reported.summary))) }
     ensures denied { IfErr result (IsOfTables (S.headers store.old) (S.faults store.old)) }
 {
     match open_tables(alloc, store, pages) {

@@ -6,7 +6,7 @@ ghost use Rattle.study_command.specs.Parser.{one_word};
 ghost use Rattle.study_notation.specs.Fen.{start_of};
 ghost use Rattle.study_text.specs.Words.{words};
 ghost use Rattle.study_marks.specs.Edits.{is_printable};
-ghost use Rattle.study_script.specs.Replies.{class_told};
+ghost use Rattle.study_script.specs.Replies.{class_parsed};
 ghost use Rattle.study_listing.specs.Requests.{outcome_named};
 ghost use Rattle.study_web.specs.Request.{without_arguments, make_asked, view_asked, with_start, goal_begun, stipulation_begun};
 ghost use Rattle.study_web.specs.Request.{survey_asked, row_asked, import_asked, word_asked, request_of, request_seen, asks_seen};
@@ -139,9 +139,9 @@ fn read_make(rest: &[u8]) -> Result<Request<'_>, Refusal>
     }
 }
 
-#[tactic(auto, unfolding(study_script::specs::Replies::class_told))]
+#[tactic(auto, unfolding(study_script::specs::Replies::class_parsed))]
 pub(crate) fn read_class(name: &str) -> Option<Class>
-    ensures { result ≡ class_told name.now }
+    ensures { result ≡ class_parsed name.now }
 {
     match Class::parse(name) {
         Ok(class) => Some(class),

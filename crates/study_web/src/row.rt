@@ -6,7 +6,7 @@ ghost use Rattle.study_search.specs.OnlyMoves.{IsMost};
 ghost use Rattle.study_web.specs.Answers.{MayEnd, IsNoMemory};
 ghost use Rattle.study_web.specs.Opened.{IsOfSearch};
 ghost use Rattle.study_web.specs.Row.{row_text, IsRow};
-ghost use Rattle.study_web.specs.Told.{line_of};
+ghost use Rattle.study_web.specs.Reported.{line_of};
 
 use crate::reply::AnswerFault;
 use crate::request::Rowed;
@@ -45,7 +45,10 @@ fn row_text<'a, A: Allocator>(alloc: &'a A, most: Option<u8>) -> Result<Vec<u8, 
 }
 
 /// The same, or want of memory.
-fn told_row<'a, A: Allocator>(alloc: &'a A, most: Option<u8>) -> Result<Vec<u8, &'a A>, AnswerFault>
+fn reported_row<'a, A: Allocator>(
+    alloc: &'a A,
+    most: Option<u8>,
+) -> Result<Vec<u8, &'a A>, AnswerFault>
     ensures text { IfOk result (λ text. text.items ≡ row_text most) }
     ensures none { IfErr result (λ why.
         why ≡ AnswerFault.Denied (RequestFault.Refused Refusal.OutOfMemory)) }
@@ -84,7 +87,7 @@ pub fn row_of<'a, S: TableStore, A: Allocator>(
         Err(denial) => Err(AnswerFault::Denied(denial)),
         Ok(mut tables) => match most_of(asked, &mut tables) {
             Err(fault) => Err(AnswerFault::Denied(RequestFault::Refused(of_probe(fault)))),
-            Ok(most) => told_row(alloc, most),
+            Ok(most) => reported_row(alloc, most),
         },
     }
 }

@@ -13,7 +13,7 @@ ghost use Rattle.study_view.specs.View.{IsViewOf};
 ghost use Rattle.study_view.specs.Words.{start_lines};
 ghost use Rattle.study_web.specs.Answers.{MayEnd, IsNever, IsOwnEnd, IsReviewOver, IsUnread, IsViewDenial};
 ghost use Rattle.study_web.specs.Opened.{IsOfTables};
-ghost use Rattle.study_web.specs.Views.{IsDocumentView, IsLeft, IsUntoldOver, IsViewOver, LacksNode, LacksNodeOver, OverStore, IsViewUntold, StudyStopped};
+ghost use Rattle.study_web.specs.Views.{IsDocumentView, IsLeft, IsValueFaultOver, IsViewOver, LacksNode, LacksNodeOver, OverStore, IsViewFault, StudyStopped};
 
 use crate::ended::{RunOutput, own_end, own_fault};
 use crate::refusals::Refusals;
@@ -41,10 +41,10 @@ pub fn review_of<'a, S: TableStore, A: Allocator>(
     pages: Option<u16>,
 ) -> Result<RunOutput<'a, A>, RequestFault>
     requires { IfSome pages (λ n. (1 ≤ n) × (n ≤ 4096)) }
-    ensures own { IfOk result (λ told. IsOwnEnd told.summary) }
-    ensures review { ((c : AClass) → S.honest store.old true c) → IfOk result (λ told.
+    ensures own { IfOk result (λ reported. IsOwnEnd reported.summary) }
+    ensures review { ((c : AClass) → S.honest store.old true c) → IfOk result (λ reported.
         OverStore (S.headers store.old) (S.faults store.old)
-        (IsReviewOver script.now told.text.items told.summary)) }
+        (IsReviewOver script.now reported.text.items reported.summary)) }
     ensures denied { IfErr result (IsOfTables (S.headers store.old) (S.faults store.old)) }
 {
     match open_tables(alloc, store, pages) {
@@ -243,7 +243,7 @@ fn view_of_end<'a, P: PageSource, A: Allocator>(
     ensures none { IfErr result (MayEnd (IsViewDenial
         (λ fault. (state : State)
         → Holds P.honest P.gives left.entry.document left.entry.tables state
-        → IsViewUntold state fault)
+        → IsViewFault state fault)
         (LacksNode (document_seen left.entry.document) (steps_of path.now))) IsNever) }
     ensures text { tables_honest P.honest left.entry.tables → IsMarked left.entry.document
         → IfOk result (λ text. (view : List ℕ)
@@ -279,7 +279,7 @@ pub fn view_of<'a, S: TableStore, A: Allocator>(
     ensures none { IfErr result
         (MayEnd (λ d. IsOfTables (S.headers store.old) (S.faults store.old) d ⊎ IsViewDenial
         (λ fault. ((c : AClass) → S.honest store.old true c)
-        → OverStore (S.headers store.old) (S.faults store.old) (IsUntoldOver script.now fault))
+        → OverStore (S.headers store.old) (S.faults store.old) (IsValueFaultOver script.now fault))
         (((c : AClass) → S.honest store.old true c)
         → OverStore (S.headers store.old) (S.faults store.old)
         (LacksNodeOver script.now (steps_of path.now)))

@@ -5,7 +5,7 @@ ghost use Rattle.study_command.specs.Lines.{script_lines};
 ghost use Rattle.study_view.specs.Setup.{passed_squares, AreClassesNeeded};
 ghost use Rattle.study_web.specs.Answers.{MayEnd, IsNoMemory, IsOutOfMemory, IsUnread};
 ghost use Rattle.study_web.specs.Setup.{position_in, positions_in, classes_text, squares_text, AreTables};
-ghost use Rattle.study_web.specs.Told.{line_of};
+ghost use Rattle.study_web.specs.Reported.{line_of};
 ghost use Rattle.study_notation.specs.FenSpelling.{square_text};
 ghost use Rattle.study_material.specs.Class.{name_of};
 

@@ -3,7 +3,7 @@ ghost use Rattle.std.specs.Prelude.{◌≡◌, ◌++◌, OnOk, codes, decimal};
 ghost use Rattle.std.specs.Io.KnownBytes.{Appends};
 ghost use Rattle.study_material.specs.Class.{name_of};
 ghost use Rattle.study_reply.specs.Names.{argument_text, words_of};
-ghost use Rattle.study_web.specs.Told.{line_of, unread_text, denial_text, stop_text, ending_text};
+ghost use Rattle.study_web.specs.Reported.{line_of, unread_text, denial_text, stop_text, ending_text};
 
 use crate::reply::Ending;
 use crate::request_fault::RequestFault;

@@ -122,7 +122,12 @@ both-ways law p valid z = record {
     z.less.1,
     z.less.0,
     z.less.3,
-    ((z.less.2).0, subst (λ (q : Position). IsValueOf q (z.less.2).0) back (value-along p (without_idle_passed_square p) (law p valid).value (z.less.2).0 (z.less.2).1), (z.less.2).2),
+    (
+      (z.less.2).0,
+      subst (λ (q : Position). IsValueOf q (z.less.2).0) back (value-along p (without_idle_passed_square p) (law p valid).value (z.less.2).0
+          (z.less.2).1),
+      (z.less.2).2,
+    ),
     (let less = z.less.4 in let turned : z.less.1 + z.less.0 < 2 = omega (arith, less) in turned),
   );
 }

@@ -26,7 +26,7 @@ const TWO: &[u8] = b"[Event \"A \"first\" one\"]
 1. Kd3 (1. Kb6 *
 ";
 
-const TWO_TOLD: &[u8] = b"# game 1, line 1: stipulated by its comment
+const TWO_REPORTED: &[u8] = b"# game 1, line 1: stipulated by its comment
 # not taken over: comments 1, NAGs 1, repeated 1
 # White was: R\xe9ti
 position 8/8/8/4k3/8/4K3/4P3/8 w - - 0 1
@@ -64,7 +64,7 @@ fn check<A: Allocator>(
 #[test]
 fn games_come_to_their_blocks(rt: HostRuntime) -> Result<(), Fail> {
     let alloc = rt.alloc();
-    assert!(rt; check(&alloc, TWO, None, TWO_TOLD)?);
+    assert!(rt; check(&alloc, TWO, None, TWO_REPORTED)?);
     assert!(rt; check(&alloc, b"", None, b"# games 0, studies 0\n")?);
     Ok(())
 }
@@ -86,8 +86,8 @@ fn a_file_may_come_in_byte_by_byte(rt: HostRuntime) -> Result<(), Fail> {
     }
     assert!(rt; importer.met() == 1);
     let imported = importer.finish(&mut script)?;
-    assert!(rt; script.as_slice() == TWO_TOLD);
-    assert!(rt; imported.met == 2 && imported.told == 2 && imported.studies == 1);
+    assert!(rt; script.as_slice() == TWO_REPORTED);
+    assert!(rt; imported.met == 2 && imported.reported == 2 && imported.studies == 1);
     Ok(())
 }
 
@@ -107,9 +107,9 @@ fn games_may_be_chosen(rt: HostRuntime) -> Result<(), Fail> {
         importer.take(*byte, &mut script)?;
     }
     let imported = importer.finish(&mut script)?;
-    let told = b"# game 2, line 11, column 12: NoSuchMove at Kb6\n\n# games 1, studies 0\n";
-    assert!(rt; script.as_slice() == told.as_slice());
-    assert!(rt; imported.met == 2 && imported.told == 1 && imported.studies == 0);
+    let reported = b"# game 2, line 11, column 12: NoSuchMove at Kb6\n\n# games 1, studies 0\n";
+    assert!(rt; script.as_slice() == reported.as_slice());
+    assert!(rt; imported.met == 2 && imported.reported == 1 && imported.studies == 0);
     Ok(())
 }
 
@@ -140,7 +140,7 @@ fn the_stipulation_may_be_given(rt: HostRuntime) -> Result<(), Fail> {
         hero: Side::White,
         goal: Goal::Win,
     });
-    let told = b"# game 1, line 1: stipulated by the option
+    let reported = b"# game 1, line 1: stipulated by the option
 position 8/8/8/4k3/8/4K3/4P3/8 w - - 0 1
 stipulate white win
 tag Event ?
@@ -153,7 +153,7 @@ pgn
 
 # games 1, studies 1
 ";
-    assert!(rt; check(&alloc, text.as_slice(), given, told.as_slice())?);
+    assert!(rt; check(&alloc, text.as_slice(), given, reported.as_slice())?);
     Ok(())
 }
 
@@ -183,7 +183,7 @@ const PHRASES: &[u8] = b"[FEN \"8/8/8/4k3/8/4K3/4P3/8 w - - 0 1\"]
 {White to move and play} *
 ";
 
-const PHRASES_TOLD: &[u8] = b"# game 1, line 1: stipulated by its comment
+const PHRASES_REPORTED: &[u8] = b"# game 1, line 1: stipulated by its comment
 # not taken over: comments 1
 position 8/8/8/4k3/8/4K3/4P3/8 w - - 0 1
 stipulate white draw
@@ -242,7 +242,7 @@ pgn
 #[test]
 fn a_comment_states_what_is_to_be_done(rt: HostRuntime) -> Result<(), Fail> {
     let alloc = rt.alloc();
-    assert!(rt; check(&alloc, PHRASES, None, PHRASES_TOLD)?);
+    assert!(rt; check(&alloc, PHRASES, None, PHRASES_REPORTED)?);
     Ok(())
 }
 
@@ -268,7 +268,7 @@ const NULL_MOVES: &[u8] = b"[FEN \"8/8/8/4k3/8/4K3/4P3/8 w - - 0 1\"]
 1. Kd3 \xe2\x80\x93 2. Kc4 1-0
 ";
 
-const NULL_MOVES_TOLD: &[u8] = b"# game 1, line 1: stipulated by its tag Result
+const NULL_MOVES_REPORTED: &[u8] = b"# game 1, line 1: stipulated by its tag Result
 # not taken over: null moves 2, moves behind 3
 position 8/8/8/4k3/8/4K3/4P3/8 w - - 0 1
 stipulate white win
@@ -296,7 +296,7 @@ pgn
 #[test]
 fn a_main_line_has_no_null_move(rt: HostRuntime) -> Result<(), Fail> {
     let alloc = rt.alloc();
-    assert!(rt; check(&alloc, NULL_MOVES, None, NULL_MOVES_TOLD)?);
+    assert!(rt; check(&alloc, NULL_MOVES, None, NULL_MOVES_REPORTED)?);
     Ok(())
 }
 
@@ -325,7 +325,7 @@ $1 & (
 [x {an open comment (Kd5
 ";
 
-const BEHIND_TOLD: &[u8] = b"# game 1, line 4, column 17: BehindResult
+const BEHIND_REPORTED: &[u8] = b"# game 1, line 4, column 17: BehindResult
 
 # game 2, line 11, column 6 (Horwitz, B.): BehindResult
 
@@ -351,7 +351,7 @@ pgn
 #[test]
 fn behind_a_result_there_are_no_moves(rt: HostRuntime) -> Result<(), Fail> {
     let alloc = rt.alloc();
-    assert!(rt; check(&alloc, BEHIND, None, BEHIND_TOLD)?);
+    assert!(rt; check(&alloc, BEHIND, None, BEHIND_REPORTED)?);
     Ok(())
 }
 
@@ -364,7 +364,7 @@ fn each_growth_may_be_refused(rt: HostRuntime) -> Result<(), Fail> {
         let heap = LocalHeap::new(rt.alloc(), 64 + step * 64)?;
         match import(&heap, TWO, None) {
             Ok(script) => {
-                assert!(rt; script.as_slice() == TWO_TOLD);
+                assert!(rt; script.as_slice() == TWO_REPORTED);
                 done = true;
                 break;
             }
@@ -396,7 +396,7 @@ const AUTHORS: &[u8] = b"[Event \"a\"]
 1. Kd3 *
 ";
 
-const AUTHORS_TOLD: &[u8] = b"# game 1, line 1 (Kasparyan, G.): left out: 5 men
+const AUTHORS_REPORTED: &[u8] = b"# game 1, line 1 (Kasparyan, G.): left out: 5 men
 
 # game 2, line 13, column 4 (Sokolov, M.): NoSuchMove at Kb6
 
@@ -409,6 +409,6 @@ const AUTHORS_TOLD: &[u8] = b"# game 1, line 1 (Kasparyan, G.): left out: 5 men
 #[test]
 fn games_that_are_left_out_have_their_authors(rt: HostRuntime) -> Result<(), Fail> {
     let alloc = rt.alloc();
-    assert!(rt; check(&alloc, AUTHORS, None, AUTHORS_TOLD)?);
+    assert!(rt; check(&alloc, AUTHORS, None, AUTHORS_REPORTED)?);
     Ok(())
 }

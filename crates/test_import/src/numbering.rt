@@ -48,7 +48,7 @@ const MISSING: &[u8] = b"[FEN \"8/8/8/4k3/8/4K3/4P3/8 w - - 0 1\"]
  . Kd5
 ";
 
-const MISSING_TOLD: &[u8] = b"# game 1, line 4, column 8: Numbering at 2
+const MISSING_REPORTED: &[u8] = b"# game 1, line 4, column 8: Numbering at 2
 
 # game 2, line 9, column 12: Numbering at 2
 
@@ -125,7 +125,7 @@ fn check<A: Allocator>(alloc: &A, text: &[u8], wanted: &[u8]) -> Result<bool, Al
 #[test]
 fn numbers_fit(rt: HostRuntime) -> Result<(), Fail> {
     let alloc = rt.alloc();
-    assert!(rt; check(&alloc, MISSING, MISSING_TOLD)?);
+    assert!(rt; check(&alloc, MISSING, MISSING_REPORTED)?);
     assert!(rt; check(&alloc, HONEST, b"# games 9, studies 9\n")?);
     Ok(())
 }

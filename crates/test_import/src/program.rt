@@ -54,7 +54,7 @@ fn check_ends(
     games: &mut MemoryReader<'_>,
     wanted: &[u8],
     status: u8,
-    told: &[u8],
+    reported: &[u8],
 ) -> Result<(), Fail> {
     let alloc = rt.alloc();
     let mut out = MemoryWriter::new(&alloc);
@@ -62,7 +62,7 @@ fn check_ends(
     let ended = import_stream(&alloc, &options, games, &mut out, &mut errors);
     let is_right = ended == status
         && out.taken.as_slice() == wanted
-        && errors.taken.as_slice() == told;
+        && errors.taken.as_slice() == reported;
     if is_right {
         Ok(())
     } else {
@@ -184,14 +184,14 @@ fn each_growth_of_a_run_may_be_refused(rt: HostRuntime) -> Result<(), Fail> {
 /// Runs the program over a reader that fails after some bytes; compares the output so far.
 fn check_stops(rt: &HostRuntime, after: usize, wanted: &[u8]) -> Result<(), Fail> {
     let mut games = MemoryReader::failing_after(GAMES, after);
-    let told = b"studyimport: ReadDevice\n";
+    let reported = b"studyimport: ReadDevice\n";
     check_ends(
         rt,
         chosen(1, u32::MAX),
         &mut games,
         wanted,
         3,
-        told.as_slice(),
+        reported.as_slice(),
     )
 }
 

@@ -100,7 +100,7 @@ fn games_come_to_their_tails(rt: HostRuntime) -> Result<(), Fail> {
     }
     let imported = importer.finish(&mut script)?;
     assert!(rt; script.as_slice() == TAILS);
-    assert!(rt; imported.told == 4 && imported.studies == 2);
+    assert!(rt; imported.reported == 4 && imported.studies == 2);
     let script = import(&alloc, GAMES, None)?;
     assert!(rt; script.as_slice() == LEFT_OUT);
     Ok(())

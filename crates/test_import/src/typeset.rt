@@ -9,7 +9,8 @@ use study_import::import;
 /// sentence that states nothing.
 const TYPESET: &[u8] = b"[FEN \"8/8/8/4k3/8/4K3/4P3/8 w - - 0 1\"]
 
-{White wins} 1. Ke3\xe2\x80\x93d3 Ke5\xe2\x80\x91f5 2. Kd3\xe2\x88\x92d4+\xe2\x80\x93 Kf5\xe2\x80\x90f4 +\xe2\x80\x93 3. e2\xe2\x80\x92e3+ \xe2\x80\x93+ 1\xe2\x80\x930
+{White wins} 1. Ke3\xe2\x80\x93d3 Ke5\xe2\x80\x91f5 2. Kd3\xe2\x88\x92d4+\xe2\x80\x93 Kf5\xe2\x80\x90f4 +\xe2\x80\x93 \
+3. e2\xe2\x80\x92e3+ \xe2\x80\x93+ 1\xe2\x80\x930
 
 [FEN \"8/8/8/4k3/8/4K3/4P3/8 w - - 0 1\"]
 [Result \"\xc2\xbd\xe2\x80\x93\xc2\xbd\"]
@@ -62,7 +63,7 @@ const TYPESET: &[u8] = b"[FEN \"8/8/8/4k3/8/4K3/4P3/8 w - - 0 1\"]
 {White wins by a tempo} *
 ";
 
-const TYPESET_TOLD: &[u8] = b"# game 1, line 1: stipulated by its comment
+const TYPESET_REPORTED: &[u8] = b"# game 1, line 1: stipulated by its comment
 # not taken over: comments 1, NAGs 2
 position 8/8/8/4k3/8/4K3/4P3/8 w - - 0 1
 stipulate white win
@@ -179,6 +180,6 @@ fn check<A: Allocator>(alloc: &A, text: &[u8], wanted: &[u8]) -> Result<bool, Al
 #[test]
 fn typeset_games_are_read(rt: HostRuntime) -> Result<(), Fail> {
     let alloc = rt.alloc();
-    assert!(rt; check(&alloc, TYPESET, TYPESET_TOLD)?);
+    assert!(rt; check(&alloc, TYPESET, TYPESET_REPORTED)?);
     Ok(())
 }

@@ -1,13 +1,12 @@
 //! Studies of the gallery: the facts of a review, by an independent program.
-use crate::studies::{Moves, is_written, node, study, tables_of, white};
+use crate::studies::{Moves, is_written, position_at, study, tables_of, white};
 use arrayvec::ArrayVec;
 use std::alloc::Global;
 use std::process::Abort;
 use study_board::Position;
 use study_facts::{
-    Defence, EvaluatedMove, alternatives, best_play, children_in, defences, drawing_moves,
-    holding_moves, is_in_solution, missing_moves, move_context_at, node_position_at, refutations,
-    timed_alternatives,
+    Defence, EvaluatedMove, NodeContext, aim_in, alternatives, best_play, children_in, defences,
+    drawing_moves, holding_moves, missing_moves, move_to, refutations, timed_alternatives,
 };
 use study_marks::Bench;
 use study_material::Class;
@@ -59,24 +58,34 @@ fn list_of<'a, V: Values>(
     list: List,
     values: &mut V,
 ) -> (Position, ArrayVec<EvaluatedMove, MAX_MOVES>) {
+    let aim = aim_in(bench);
     if list == List::Alternatives {
-        let made = move_context_at(bench, steps).expect(rt, "a move");
-        assert!(rt; made.before.depth <= 256);
-        let list = alternatives(&node(&made.before), made.played, values).ok();
-        return (made.before.position, list.expect(rt, "values"));
+        let (_, front) = steps.split_last().expect(rt, "a move");
+        let m = move_to(bench, steps).expect(rt, "a move");
+        let position = position_at(rt, alloc, bench, front);
+        let before = NodeContext {
+            aim: &aim,
+            depth: front.len(),
+            position: &position,
+        };
+        let list = alternatives(&before, m, values).ok();
+        return (position, list.expect(rt, "values"));
     }
-    let place = node_position_at(bench, steps).expect(rt, "a node");
-    assert!(rt; place.depth <= 256);
+    let position = position_at(rt, alloc, bench, steps);
+    let at = NodeContext {
+        aim: &aim,
+        depth: steps.len(),
+        position: &position,
+    };
     let there = children_in(alloc, bench, steps).ok().expect(rt, "memory");
     let there = there.expect(rt, "a node");
-    let at = node(&place);
     let list = match list {
         List::Drawing => drawing_moves(&at, values),
         List::Holding => holding_moves(&at, values),
         List::Missing => missing_moves(&at, there.as_slice(), values),
         _ => refutations(&at, values),
     };
-    (place.position, list.ok().expect(rt, "values"))
+    (position, list.ok().expect(rt, "values"))
 }
 
 /// The list at a node for a mate in so many moves: its moves, each with the value after it.
@@ -138,38 +147,38 @@ fn lists_of_moves_are_those_of_an_independent_program(rt: HostRuntime) {
     let mut values = tables_of(&rt, &alloc, &[Class::KK, Class::KRK]);
     for (moves, steps, list, wanted) in ROWS {
         let bench = waiting(&rt, &alloc, moves, &mut values);
-        let (position, told) = list_of(&rt, &alloc, &bench, steps, list, &mut values);
-        assert_eq!(rt; told.len(), wanted.len(), "{list:?} {steps:?}");
-        for (x, (san, value)) in told.as_slice().iter().zip(wanted.iter()) {
+        let (position, evaluated) = list_of(&rt, &alloc, &bench, steps, list, &mut values);
+        assert_eq!(rt; evaluated.len(), wanted.len(), "{list:?} {steps:?}");
+        for (x, (san, value)) in evaluated.as_slice().iter().zip(wanted.iter()) {
             assert!(rt; is_written(&position, &x.played, san), "{san}");
             assert!(rt; x.value == *value, "{san}");
         }
     }
 }
 
-/// The only defence to the waiting move, with its only answer, and the nodes of the solution.
+/// The only defence to the waiting move, with its only answer.
 #[test]
-fn the_defence_has_one_answer_in_the_solution(rt: HostRuntime) {
+fn the_defence_has_one_answer(rt: HostRuntime) {
     let alloc = rt.alloc();
     let mut values = tables_of(&rt, &alloc, &[Class::KK, Class::KRK]);
     let bench = waiting(&rt, &alloc, 3, &mut values);
-    let place = node_position_at(&bench, &[0]).expect(&rt, "a node");
-    assert!(rt; place.depth <= 256);
-    let list = defences(&node(&place), &[], &mut values).ok();
+    let position = position_at(&rt, &alloc, &bench, &[0]);
+    let aim = aim_in(&bench);
+    let node = NodeContext {
+        aim: &aim,
+        depth: 1,
+        position: &position,
+    };
+    let list = defences(&node, &[], &mut values).ok();
     let list = list.expect(&rt, "values");
-    let reply = move_context_at(&bench, &[0, 0]).expect(&rt, "a move");
-    let answer = move_context_at(&bench, &[0, 0, 0]).expect(&rt, "a move");
     let wanted = Defence {
-        played: reply.played,
+        played: move_to(&bench, &[0, 0]).expect(&rt, "a move"),
         value: Value::Win(3),
         answers: 1,
-        only: Some(answer.played),
+        only: move_to(&bench, &[0, 0, 0]),
     };
     assert!(rt; list.as_slice() == [wanted].as_slice());
-    assert!(rt; node_position_at(&bench, &[3]).is_none() && move_context_at(&bench, &[]).is_none());
-    for (steps, is_in) in [(&[0, 0, 0][..], true), (&[0, 0, 1], false), (&[1], false)] {
-        assert!(rt; is_in_solution(&place.aim, steps) == is_in, "{steps:?}");
-    }
+    assert!(rt; move_to(&bench, &[3]).is_none() && move_to(&bench, &[]).is_none());
 }
 
 /// Best play from a won end.
@@ -178,8 +187,7 @@ fn best_play_goes_on_to_the_mate(rt: HostRuntime) {
     let alloc = rt.alloc();
     let mut values = tables_of(&rt, &alloc, &[Class::KK, Class::KRK]);
     let bench = waiting(&rt, &alloc, 3, &mut values);
-    let end = node_position_at(&bench, &[0, 0, 1, 0]).expect(&rt, "a node");
-    let mut p = end.position;
+    let mut p = position_at(&rt, &alloc, &bench, &[0, 0, 1, 0]);
     let play = best_play(&p, &mut values).ok().expect(&rt, "values");
     let moves = ["Rc7+", "Ka8", "Kb5", "Kb8", "Kb6", "Ka8", "Rc8#"];
     assert_eq!(rt; play.len(), moves.len());
@@ -201,14 +209,26 @@ fn one_alternative_of_a_win_loses_time(rt: HostRuntime) {
     let moves: Moves = &[(&[], "Qg7"), (&[0], "Kb8"), (&[0, 0], "Qb7")];
     let fen = "k7/8/1K6/8/8/8/8/6Q1 w - - 0 1";
     let bench = study(&rt, &alloc, fen, white(&rt, None), moves, &mut values);
+    let aim = aim_in(&bench);
     for (steps, back, count) in [(&[0][..], "none", 21), (&[0, 0, 0], "Qg1", 27)] {
-        let made = move_context_at(&bench, steps).expect(&rt, "a move");
-        assert!(rt; made.before.depth <= 256);
-        let list = timed_alternatives(&made.before, made.played, &mut values).ok();
+        let (_, front) = steps.split_last().expect(&rt, "a move");
+        let m = move_to(&bench, steps).expect(&rt, "a move");
+        let mut line = Vec::new(&alloc);
+        for depth in 0..steps.len() {
+            let p = position_at(&rt, &alloc, &bench, &steps[..depth]);
+            assert!(rt; line.push(p).is_ok());
+        }
+        let position = position_at(&rt, &alloc, &bench, front);
+        let before = NodeContext {
+            aim: &aim,
+            depth: front.len(),
+            position: &position,
+        };
+        let list = timed_alternatives(&before, line.as_slice(), m, &mut values).ok();
         let list = list.expect(&rt, "values");
         assert_eq!(rt; list.len(), count);
         for x in list.as_slice() {
-            let is_back = is_written(&made.before.position, &x.played, back);
+            let is_back = is_written(&position, &x.played, back);
             assert!(rt; x.time == if is_back { Some(0) } else { None });
         }
     }

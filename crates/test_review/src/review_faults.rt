@@ -1,8 +1,7 @@
 //! Values that cannot be read: a missing table, and a device that fails at each probe in turn.
 use crate::studies::{position_of, tables_of};
-use arrayvec::ArrayVec;
 use std::process::Abort;
-use study_facts::{NodeContext, NodePosition, best_play, defences, timed_alternatives};
+use study_facts::{NodeContext, best_play, defences, timed_alternatives};
 use study_marks::{Aim, Goal};
 use study_material::Class;
 use study_notation::read_san;
@@ -29,13 +28,11 @@ fn fault_of<V: Values>(rt: &impl Abort, call: Call, values: &mut V) -> Option<Pr
     let position = position_of(rt, "8/8/8/8/8/2k5/8/K6Q w - - 0 1");
     let check = read_san(&position, "Qh3+").ok().expect(rt, "a move");
     let reply = position_of(rt, "8/8/8/8/8/2k4Q/8/K7 b - - 0 1");
-    let mut line = ArrayVec::new();
-    line.push(position.copied());
-    let root = NodePosition {
-        aim: WIN,
+    let line = [position.copied()];
+    let root = NodeContext {
+        aim: &WIN,
         depth: 0,
-        position,
-        line,
+        position: &position,
     };
     let node = NodeContext {
         aim: &WIN,
@@ -43,8 +40,8 @@ fn fault_of<V: Values>(rt: &impl Abort, call: Call, values: &mut V) -> Option<Pr
         position: &reply,
     };
     match call {
-        Call::TimedAlternatives => timed_alternatives(&root, check, values).err(),
-        Call::BestPlay => best_play(&root.position, values).err(),
+        Call::TimedAlternatives => timed_alternatives(&root, &line, check, values).err(),
+        Call::BestPlay => best_play(&position, values).err(),
         Call::Defences => defences(&node, &[], values).err(),
     }
 }
@@ -69,7 +66,7 @@ fn each_question_of_a_call_fails_in_turn(rt: HostRuntime) {
 
 /// A class without a table is named, and no failure is counted.
 #[test]
-fn a_missing_table_is_told_by_its_name(rt: HostRuntime) {
+fn a_missing_table_is_evaluated_by_its_name(rt: HostRuntime) {
     let alloc = rt.alloc();
     let mut values = tables_of(&rt, &alloc, &[Class::KK]);
     for call in CALLS {

@@ -38,7 +38,7 @@ fn rook_mates<'a, V: Values>(
 
 /// A tree without moves, and one that ends with the only mate.
 #[test]
-fn an_empty_tree_and_a_mate_are_told(rt: HostRuntime) {
+fn an_empty_tree_and_a_mate_are_evaluated(rt: HostRuntime) {
     let alloc = rt.alloc();
     let mut values = tables_of(&rt, &alloc, &[Class::KK, Class::KRK]);
     let rows: [(Option<u8>, Moves, &[u8]); 2] = [
@@ -74,7 +74,7 @@ fn nothing_is_written_before_there_is_memory_for_all(rt: HostRuntime) -> Result<
 
 /// Each probe of a review fails in turn: the fault is reported, nothing more is probed, and nothing is written.
 #[test]
-fn nothing_is_written_where_a_value_is_not_told(rt: HostRuntime) -> Result<(), Fail> {
+fn nothing_is_written_where_a_value_is_not_evaluated(rt: HostRuntime) -> Result<(), Fail> {
     let alloc = rt.alloc();
     let mut whole = tables_of(&rt, &alloc, &[Class::KK, Class::KRK]);
     let empty = rook_mates(&rt, &alloc, None, &[], &mut whole);

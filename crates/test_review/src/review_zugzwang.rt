@@ -63,7 +63,7 @@ fn mutual_zugzwangs_are_those_of_the_list(rt: HostRuntime) {
 
 /// One probe after the other fails, and a table is missing: the fault is reported, and no more is probed.
 #[test]
-fn a_zugzwang_is_not_told_where_a_value_is_not(rt: HostRuntime) {
+fn a_zugzwang_is_not_evaluated_where_a_value_is_not(rt: HostRuntime) {
     let alloc = rt.alloc();
     let p = position_of(&rt, "8/8/8/k7/8/K7/1P6/8 w - - 0 1");
     let mut none = tables_of(&rt, &alloc, &[Class::KK]);

@@ -1,10 +1,8 @@
 //! Studies over built tables, and nodes for a review.
-ghost use Rattle.std.specs.Prelude.{◌≡◌};
 
 use std::alloc::Allocator;
 use std::process::Abort;
 use study_board::{Position, Side};
-use study_facts::{NodeContext, NodePosition};
 use study_marks::{Bench, Goal, MateMoves, Stipulation};
 use study_material::Class;
 use study_moves::{Move, is_legal};
@@ -50,6 +48,14 @@ pub(crate) fn white(rt: &impl Abort, moves: Option<u8>) -> Stipulation {
 /// The moves of a study, each inserted last below the node at a path.
 pub(crate) type Moves = &'static [(&'static [u16], &'static str)];
 
+fn path_of<'a, A: Allocator>(rt: &impl Abort, alloc: &'a A, steps: &[u16]) -> Path<'a, A> {
+    let mut path = Path::root(alloc);
+    for step in steps {
+        assert!(rt; path.push(*step).is_ok());
+    }
+    path
+}
+
 /// A study with these moves.
 pub(crate) fn study<'a, A: Allocator, V: Values>(
     rt: &impl Abort,
@@ -64,10 +70,7 @@ pub(crate) fn study<'a, A: Allocator, V: Values>(
         .ok()
         .expect(rt, "a study");
     for (steps, san) in moves {
-        let mut path = Path::root(alloc);
-        for step in *steps {
-            assert!(rt; path.push(*step).is_ok());
-        }
+        let path = path_of(rt, alloc, steps);
         let at = bench.start_at(&path).expect(rt, "a node");
         let m = read_san(&at.position, san).ok().expect(rt, "a move");
         assert!(rt; bench.insert(&path, m, values).is_ok(), "{san}");
@@ -75,14 +78,16 @@ pub(crate) fn study<'a, A: Allocator, V: Values>(
     bench
 }
 
-pub(crate) fn node(place: &NodePosition) -> NodeContext<'_>
-    ensures { result.depth ≡ place.now.depth }
-{
-    NodeContext {
-        aim: &place.aim,
-        depth: place.depth,
-        position: &place.position,
-    }
+/// The position of a node.
+pub(crate) fn position_at<'a, A: Allocator>(
+    rt: &impl Abort,
+    alloc: &'a A,
+    bench: &Bench<'a, A>,
+    steps: &[u16],
+) -> Position {
+    let path = path_of(rt, alloc, steps);
+    let at = bench.start_at(&path).expect(rt, "a node");
+    at.position
 }
 
 /// Whether the move is legal and has this text.

@@ -58,7 +58,7 @@ fn expect_faults(rt: &impl Abort, rows: &str) {
 }
 
 #[test]
-fn the_first_fault_of_a_position_is_told(rt: HostRuntime) {
+fn the_first_fault_of_a_position_is_reported(rt: HostRuntime) {
     expect_faults(&rt, FAULTS);
     expect_faults(&rt, TWO_FAULTS);
 }

@@ -24,7 +24,7 @@ fn is_man(men: &[Man], slot: usize, word: &str) -> bool {
 }
 
 /// Classes, numbers, the men in the order of their slots and the side to move, by the digits of the numbers.
-const TOLD: &str = "\
+const DECODED: &str = "\
 KK,658,K0 k18,b
 KRK,20543,K10 k0 R63,w
 KPK,85536,K40 k56 P32,w
@@ -35,7 +35,7 @@ KPKP,26081051,K3 k31 P28 p27,b";
 
 #[test]
 fn numbers_tell_their_men(rt: HostRuntime) {
-    for row in TOLD.lines() {
+    for row in DECODED.lines() {
         let (class, number) = start(&rt, row);
         let setup = decode_men(class, number);
         let mut slot = 0usize;

@@ -8,7 +8,7 @@ use study_moves::{
 };
 
 #[test]
-fn mates_and_stalemates_are_told_apart(rt: HostRuntime) {
+fn mates_and_stalemates_are_distinguished(rt: HostRuntime) {
     let stale = sound(&rt, "K0 k56 Q41,b,-");
     assert!(rt; is_stalemate(&stale) && !is_mate(&stale) && !in_check(&stale));
     let mate = sound(&rt, "K41 k56 R63,b,-");

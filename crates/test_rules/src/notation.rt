@@ -70,7 +70,7 @@ fn has_fault(fen: &str, fault: &str) -> bool {
 }
 
 #[test]
-fn the_first_fault_of_a_fen_is_told(rt: HostRuntime) {
+fn the_first_fault_of_a_fen_is_reported(rt: HostRuntime) {
     for row in FAULTS.lines() {
         assert!(rt; has_fault(field(row, 0), field(row, 1)), "{row}");
     }
@@ -227,7 +227,7 @@ fn expect_read(rt: &impl Abort, fen: &str, rows: &str) {
 }
 
 #[test]
-fn san_is_read_or_its_fault_told(rt: HostRuntime) {
+fn san_is_read_or_its_fault_reported(rt: HostRuntime) {
     expect_read(&rt, KNIGHTS, OF_KNIGHTS);
     expect_read(&rt, PROMOTION, OF_PROMOTION);
     expect_read(&rt, PASSED, OF_PASSED);

@@ -50,7 +50,7 @@ fn fails_once<A: Allocator>(
 
 /// Writers fail, or accept nothing, as planned, each time or once.
 #[test]
-fn writers_in_memory_fail_where_they_are_told(rt: HostRuntime) {
+fn writers_in_memory_fail_as_planned(rt: HostRuntime) {
     let alloc = rt.alloc();
     for when_full in [WhenFull::Fail, WhenFull::TakeNothing] {
         for (room, want, taken) in [
@@ -80,7 +80,7 @@ fn is_text(bytes: &[u8], text: &str) -> bool {
 
 /// Readers fail as planned, each time or once.
 #[test]
-fn readers_in_memory_fail_where_they_are_told(rt: HostRuntime) {
+fn readers_in_memory_fail_as_planned(rt: HostRuntime) {
     let mut text = Vec::new(rt.alloc());
     assert!(rt; read_on(&mut MemoryReader::new(b"abc"), &mut text) == Some(3));
     assert!(rt; is_text(text.as_slice(), "abc"));

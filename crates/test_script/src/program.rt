@@ -20,10 +20,11 @@ fn check_words(
     let is_right = match read_words(rt.alloc(), words.as_slice()) {
         Ok(options) => wanted == Ok((options.tables, options.pages, options.separate)),
         Err(error) => {
-            let told = format!(in rt.alloc(); "{error}")?;
+            let message = format!(in rt.alloc(); "{error}")?;
             match wanted {
                 Ok(_) => false,
-                Err((code, text)) => error.exit_code() == code && told.as_str().starts_with(text),
+                Err((code, text)) => error.exit_code() == code
+                    && message.as_str().starts_with(text),
             }
         }
     };
@@ -51,13 +52,13 @@ fn options_are_read(rt: HostRuntime) -> Result<(), Fail> {
 
 /// Help and the version are printed; words are refused, an empty name of the folder too.
 #[test]
-fn help_and_version_are_told_and_words_refused(rt: HostRuntime) -> Result<(), Fail> {
+fn help_and_version_are_reported_and_words_refused(rt: HostRuntime) -> Result<(), Fail> {
     check_words(&rt, &["--help"], Err((0, "Answers a script of commands")))?;
     check_words(&rt, &["-h"], Err((0, "Answers a script of commands")))?;
     check_words(
         &rt,
         &["--version"],
-        Err((0, "studybench 1.6.0 (kit rattle-kit-13f)\n")),
+        Err((0, "studybench 1.7.0 (kit rattle-kit-13f)\n")),
     )?;
     for words in [
         ["--pages", "0"],
@@ -83,7 +84,7 @@ fn check_ends<A: Allocator>(
     out: &mut MemoryWriter<'_, Global>,
     replies: &[u8],
     status: u8,
-    told: &[u8],
+    message: &[u8],
 ) -> Result<(), Fail> {
     let room = rt.alloc();
     let mut errors = MemoryWriter::new(&room);
@@ -93,7 +94,7 @@ fn check_ends<A: Allocator>(
         separate: false,
     };
     let ended = answer_script(rt, alloc, &options, script, out, &mut errors);
-    if out.taken.as_slice() == replies && ended == status && errors.taken.as_slice() == told {
+    if out.taken.as_slice() == replies && ended == status && errors.taken.as_slice() == message {
         Ok(())
     } else {
         Err(Fail::new(format_args!("status {ended}, not {status}")))
@@ -126,15 +127,15 @@ fn exit_statuses_follow_the_replies(rt: HostRuntime) -> Result<(), Fail> {
     for when_full in [WhenFull::Fail, WhenFull::TakeNothing] {
         let mut script = MemoryReader::new(REFUSED);
         let mut out = MemoryWriter::with_room(&alloc, 5, when_full);
-        let told = b"studybench: WriteDevice\n";
-        check_ends(&rt, &alloc, &mut script, &mut out, b"error", 3, told)?;
+        let message = b"studybench: WriteDevice\n";
+        check_ends(&rt, &alloc, &mut script, &mut out, b"error", 3, message)?;
     }
     Ok(())
 }
 
 /// A line of more than 1,024 bytes, a reader that fails, one line too many, and no memory.
 #[test]
-fn each_stop_is_told(rt: HostRuntime) -> Result<(), Fail> {
+fn each_stop_is_reported(rt: HostRuntime) -> Result<(), Fail> {
     let alloc = rt.alloc();
     let mut script = REFUSED.to_vec(&alloc)?;
     for _ in 0..1025u32 {
@@ -142,11 +143,11 @@ fn each_stop_is_told(rt: HostRuntime) -> Result<(), Fail> {
     }
     let mut script = MemoryReader::new(script.as_slice());
     let mut out = MemoryWriter::new(&alloc);
-    let told = b"studybench: LineTooLong 5\n";
-    check_ends(&rt, &alloc, &mut script, &mut out, ERRORS, 3, told)?;
+    let message = b"studybench: LineTooLong 5\n";
+    check_ends(&rt, &alloc, &mut script, &mut out, ERRORS, 3, message)?;
     let mut script = MemoryReader::failing_after(REFUSED, 14);
     let mut out = MemoryWriter::new(&alloc);
-    let told = b"studybench: ReadDevice\n";
+    let message = b"studybench: ReadDevice\n";
     check_ends(
         &rt,
         &alloc,
@@ -154,17 +155,17 @@ fn each_stop_is_told(rt: HostRuntime) -> Result<(), Fail> {
         &mut out,
         b"error NoPosition\n",
         3,
-        told,
+        message,
     )?;
     let mut lines = Vec::new(&alloc);
     lines.resize(100_001, b'\n')?;
     let mut script = MemoryReader::new(lines.as_slice());
     let mut out = MemoryWriter::new(&alloc);
-    let told = b"studybench: TooManyLines\n";
-    check_ends(&rt, &alloc, &mut script, &mut out, b"", 3, told)?;
+    let message = b"studybench: TooManyLines\n";
+    check_ends(&rt, &alloc, &mut script, &mut out, b"", 3, message)?;
     let heap = LocalHeap::new(alloc, 256)?;
     let mut script = MemoryReader::new(REFUSED);
     let mut out = MemoryWriter::new(&alloc);
-    let told = b"studybench: OutOfMemory\n";
-    check_ends(&rt, &heap, &mut script, &mut out, b"", 3, told)
+    let message = b"studybench: OutOfMemory\n";
+    check_ends(&rt, &heap, &mut script, &mut out, b"", 3, message)
 }

@@ -87,22 +87,10 @@ fn save_kings(rt: &HostRuntime, folder: &str) -> Result<(), Fail> {
     )
 }
 
-/// One run saves files, and others load them, whole and by pages.
-#[test]
-fn what_one_run_saves_others_load(rt: HostRuntime) -> Result<(), Fail> {
-    save_kings(&rt, "saved")?;
+/// A run that loads what others saved, with whole tables.
+fn check_whole(rt: &HostRuntime) -> Result<(), Fail> {
     check(
-        &rt,
-        "saved",
-        None,
-        &["load KK\nbuild KRK\nsave KRK\n"],
-        &[
-            KINGS_LOADED,
-            "built KRK cells 81920 win 31\nsaved KRK bytes 82624\n",
-        ],
-    )?;
-    check(
-        &rt,
+        rt,
         "saved",
         None,
         &[
@@ -117,9 +105,13 @@ fn what_one_run_saves_others_load(rt: HostRuntime) -> Result<(), Fail> {
             MARKED,
             "error NoFile\n",
         ],
-    )?;
+    )
+}
+
+/// A run that loads what others saved, by pages.
+fn check_by_pages(rt: &HostRuntime) -> Result<(), Fail> {
     check(
-        &rt,
+        rt,
         "saved",
         Some(1),
         &[
@@ -132,7 +124,25 @@ fn what_one_run_saves_others_load(rt: HostRuntime) -> Result<(), Fail> {
             "error PagedMode\nerror PagedMode\nerror NoFile\n",
             MARKED,
         ],
+    )
+}
+
+/// One run saves files, and others load them, whole and by pages.
+#[test]
+fn what_one_run_saves_others_load(rt: HostRuntime) -> Result<(), Fail> {
+    save_kings(&rt, "saved")?;
+    check(
+        &rt,
+        "saved",
+        None,
+        &["load KK\nbuild KRK\nsave KRK\n"],
+        &[
+            KINGS_LOADED,
+            "built KRK cells 81920 win 31\nsaved KRK bytes 82624\n",
+        ],
     )?;
+    check_whole(&rt)?;
+    check_by_pages(&rt)?;
     check_cut(&rt, 82_623, MARKED)?;
     check_cut(&rt, 64 + 4128 * 5 + 9, SHORT)?;
     Ok(fs::remove_dir_all(&rt, "saved")?)
@@ -154,7 +164,7 @@ fn check_cut(rt: &HostRuntime, len: usize, study: &str) -> Result<(), Fail> {
 
 /// The file ends too early, or too late: the reply to `load`, whole and by pages, and the replies of a study then.
 #[test]
-fn a_file_of_another_length_is_told(rt: HostRuntime) -> Result<(), Fail> {
+fn a_file_of_another_length_is_reported(rt: HostRuntime) -> Result<(), Fail> {
     save_kings(&rt, "cut")?;
     let mut text = fs::read(&rt, "cut/KK.dtm")?;
     text.push(b'x')?;
@@ -202,7 +212,7 @@ fn check_load(rt: &HostRuntime, whole: &str, paged: &str) -> Result<(), Fail> {
 
 /// Another class, a folder, or nothing is in the file's place.
 #[test]
-fn a_file_that_is_not_there_is_told(rt: HostRuntime) -> Result<(), Fail> {
+fn a_file_that_is_not_there_is_reported(rt: HostRuntime) -> Result<(), Fail> {
     save_kings(&rt, "none")?;
     check_load(&rt, "error NoFile\n", "error NoFile\n")?;
     fs::copy(&rt, "none/KK.dtm", "none/KRK.dtm")?;
@@ -215,7 +225,7 @@ fn a_file_that_is_not_there_is_told(rt: HostRuntime) -> Result<(), Fail> {
 
 /// The folder does not exist, or is a file: nothing is loaded or saved, and the session continues.
 #[test]
-fn a_folder_that_is_not_there_is_told(rt: HostRuntime) -> Result<(), Fail> {
+fn a_folder_that_is_not_there_is_reported(rt: HostRuntime) -> Result<(), Fail> {
     let script = ["load KK\nbuild KK\nsave KK\nverify KK\n"];
     let rest = "built KK cells 1280 win -\nerror Device\nverified KK yes\n";
     check(&rt, "absent", None, &script, &["error NoFile\n", rest])?;
@@ -254,7 +264,7 @@ impl Seek for InterruptedOnce {
 
 /// Each error of a read ends the request for a page; the next request reads again.
 #[test]
-fn an_interrupted_read_is_told_and_made_again(rt: HostRuntime) {
+fn an_interrupted_read_is_reported_and_made_again(rt: HostRuntime) {
     let mut pages = FilePages {
         file: InterruptedOnce { reads: 0 },
         asked: 0,

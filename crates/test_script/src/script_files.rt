@@ -55,7 +55,7 @@ fn a_file_that_is_not_written_whole_is_not_saved(rt: HostRuntime) {
 
 /// A file that fails after so many bytes.
 #[test]
-fn a_file_that_fails_after_some_bytes_is_told(rt: HostRuntime) {
+fn a_file_that_fails_after_some_bytes_is_reported(rt: HostRuntime) {
     let alloc = rt.alloc();
     let text = text_of(&rt, &alloc, &[Class::KK]);
     for fails_after in [0usize, 63, 64, 4_191] {

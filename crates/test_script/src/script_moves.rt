@@ -40,7 +40,7 @@ position k7/8/8/8/8/8/8/8 x K - 0 1 -> error KingCount
 fen root -> fen k7/8/1K6/8/8/8/8/7R w - - 3 1";
 
 #[test]
-fn moves_are_listed_and_faults_of_fens_told(rt: HostRuntime) {
+fn moves_are_listed_and_faults_of_fens_reported(rt: HostRuntime) {
     let alloc = rt.alloc();
     for rows in [PIECES, PAWNS, TEXTS] {
         check(&rt, &alloc, rows);

@@ -24,7 +24,8 @@ const LIST: &str =
 <th>Stipulation</th><th>Verdict</th></tr></thead><tbody>\
 <tr><td></td><td>game 1, line 1 (Kasparyan, G.)</td><td></td><td></td><td>left out: 7 men</td></tr>\
 <tr><td>1</td><td><a href=\"#e1\">R &amp; D</a></td><td></td><td>White to draw</td><td>holds</td></tr>\
-<tr><td></td><td>game 3, line 52, column 17</td><td></td><td></td><td>NoSuchMove at &lt;Kb6&gt;</td></tr></tbody></table></article></body></html>\n";
+<tr><td></td><td>game 3, line 52, column 17</td><td></td><td></td><td>NoSuchMove at &lt;Kb6&gt;: no legal move of this position</td></tr>\
+</tbody></table></article></body></html>\n";
 
 #[test]
 fn each_game_has_its_row(rt: HostRuntime) -> Result<(), Fail> {

@@ -33,13 +33,14 @@ const REMARKS: &str =
 <p class=\"note\">White was: Réti, Richard</p><p class=\"note\">Event was: &lt;b&gt; &amp; &quot;Ж&quot;</p>\
 <p class=\"warn\">Line 8 was refused: <code>delete 7</code> <b>NoStudy</b>: no stipulation yet</p>\
 <p class=\"warn\">No page for game 2, line 31: left out: 7 men</p>\
-<p class=\"warn\">No page for game 3, line 52, column 17: NoSuchMove at Kb6</p>\
-<p class=\"warn\">No page for game 4, line 60: NoStipulation</p>\
+<p class=\"warn\">No page for game 3, line 52, column 17: NoSuchMove at Kb6: no legal move of this position</p>\
+<p class=\"warn\">No page for game 4, line 60: NoStipulation: it does not say what is to be done</p>\
 <article class=\"sum\"><header><h1>Entries and verdicts</h1></header><table><thead><tr><th>No.</th><th>Title</th><th>Author</th>\
 <th>Stipulation</th><th>Verdict</th></tr></thead><tbody>\
 <tr><td></td><td>game 2, line 31</td><td></td><td></td><td>left out: 7 men</td></tr>\
-<tr><td></td><td>game 3, line 52, column 17</td><td></td><td></td><td>NoSuchMove at Kb6</td></tr>\
-<tr><td></td><td>game 4, line 60</td><td></td><td></td><td>NoStipulation</td></tr></tbody></table></article></body></html>\n";
+<tr><td></td><td>game 3, line 52, column 17</td><td></td><td></td><td>NoSuchMove at Kb6: no legal move of this position</td></tr>\
+<tr><td></td><td>game 4, line 60</td><td></td><td></td><td>NoStipulation: it does not say what is to be done</td></tr>\
+</tbody></table></article></body></html>\n";
 
 /// The pages that are written to this writer, and the result.
 pub fn pages_to<'a>(

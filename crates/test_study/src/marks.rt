@@ -241,9 +241,9 @@ fn refuses_a_tag<'a, V: Values>(
         tag.push(Edit::Tag(TagName::Event, ArrayString::new()))
             .is_ok()
     );
-    let untold = calls::apply_all(bench, tag.as_slice(), values).err();
-    let untold = untold.expect(rt, "a tag without text");
-    assert!(rt; untold.done == 0 && matches!(untold.refusal, Refusal::TagText));
+    let no_value = calls::apply_all(bench, tag.as_slice(), values).err();
+    let no_value = no_value.expect(rt, "a tag without text");
+    assert!(rt; no_value.done == 0 && matches!(no_value.refusal, Refusal::TagText));
 }
 
 /// A list of edits stops at the first that is refused; those before it are made.
@@ -343,8 +343,13 @@ fn trial<'a, V: Values>(
 }
 
 /// The move to this square has this mark.
-fn expect_told(rt: &impl Abort, told: Result<Mark, Refusal<'_, Global>>, wanted: Mark, target: u8) {
-    assert!(rt; told.ok() == Some(wanted), "{target}");
+fn expect_evaluated(
+    rt: &impl Abort,
+    evaluated: Result<Mark, Refusal<'_, Global>>,
+    wanted: Mark,
+    target: u8,
+) {
+    assert!(rt; evaluated.ok() == Some(wanted), "{target}");
 }
 
 /// Each move has its mark.
@@ -361,8 +366,8 @@ fn expect_trials<'a, V: Values>(
             on_move: Some(*on_move),
             faults: *faults,
         };
-        let told = trial(rt, alloc, bench, steps, *squares, values);
-        expect_told(rt, told, mark, squares.1);
+        let evaluated = trial(rt, alloc, bench, steps, *squares, values);
+        expect_evaluated(rt, evaluated, mark, squares.1);
     }
 }
 

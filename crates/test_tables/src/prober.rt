@@ -398,7 +398,7 @@ fn fails_once<V: Values, A: Allocator>(
 
 /// A source that fails at one page: the fault is reported and counted, and the same probe succeeds next.
 #[test]
-fn a_page_that_is_not_read_is_told_once(rt: HostRuntime) {
+fn a_page_that_is_not_read_is_reported_once(rt: HostRuntime) {
     let alloc = rt.alloc();
     let table = patterned(&rt, &alloc, Class::KRK, 0);
     for bad in 0..20u32 {
@@ -410,7 +410,7 @@ fn a_page_that_is_not_read_is_told_once(rt: HostRuntime) {
 }
 
 /// Whether page 5 is reported as damaged and page 19 as cut off, and the value on any other page is that of the table.
-fn is_told<V: Values, A: Allocator>(
+fn is_reported<V: Values, A: Allocator>(
     rt: &impl Abort,
     values: &mut V,
     table: &Table<'_, A>,
@@ -426,7 +426,7 @@ fn is_told<V: Values, A: Allocator>(
 
 /// A damaged page and one that is cut off are reported each time, and no other page is.
 #[test]
-fn a_damaged_page_is_told_each_time(rt: HostRuntime) {
+fn a_damaged_page_is_reported_each_time(rt: HostRuntime) {
     let alloc = rt.alloc();
     let table = patterned(&rt, &alloc, Class::KRK, 0);
     let mut file = file_of(&rt, alloc, &table);
@@ -435,7 +435,7 @@ fn a_damaged_page_is_told_each_time(rt: HostRuntime) {
     let mut tables = paged(&rt, &alloc, 8, Class::KRK, file);
     for _ in 0..2u8 {
         for page in 0..20u32 {
-            assert!(rt; is_told(&rt, &mut tables, &table, page), "{page}");
+            assert!(rt; is_reported(&rt, &mut tables, &table, page), "{page}");
         }
     }
     assert!(rt; has_counts(&tables, 40, 4));
@@ -485,7 +485,7 @@ fn expect_refused<A: Allocator>(
 
 /// The faults of a source in their order, each over a source that has those after it too.
 #[test]
-fn the_first_fault_of_a_source_is_told(rt: HostRuntime) {
+fn the_first_fault_of_a_source_is_reported(rt: HostRuntime) {
     let alloc = rt.alloc();
     let table = patterned(&rt, &alloc, Class::KRK, 0);
     let mut tables = paged(&rt, &alloc, 1, Class::KRK, file_of(&rt, alloc, &table));
@@ -519,7 +519,7 @@ fn the_first_fault_of_a_source_is_told(rt: HostRuntime) {
 
 /// Each fault of a header that was read: its version, its class and its digest, and what comes first of two.
 #[test]
-fn the_first_fault_of_a_header_is_told(rt: HostRuntime) {
+fn the_first_fault_of_a_header_is_reported(rt: HostRuntime) {
     let alloc = rt.alloc();
     let table = patterned(&rt, &alloc, Class::KRK, 0);
     let mut tables = paged(&rt, &alloc, 1, Class::KRK, file_of(&rt, alloc, &table));

@@ -138,7 +138,7 @@ fn fault_of_place(place: usize, version: u16) -> FileFault {
 
 /// Each proper prefix of a text is reported as cut off.
 #[test]
-fn each_prefix_is_told_as_cut_off(rt: HostRuntime) {
+fn each_prefix_is_reported_as_cut_off(rt: HostRuntime) {
     let alloc = rt.alloc();
     let text = text_of_kk(&rt, &alloc);
     assert!(rt; fault(&alloc, text.as_slice()).is_none());
@@ -270,7 +270,7 @@ fn bytes_after_the_last_cell_have_to_be_zero(rt: HostRuntime) {
 
 /// A header with some fields changed and the digest made anew has the first fault in the order of the fields.
 #[test]
-fn the_first_fault_of_a_header_is_told(rt: HostRuntime) {
+fn the_first_fault_of_a_header_is_reported(rt: HostRuntime) {
     let alloc = rt.alloc();
     for (changes, want) in [
         ([(7usize, 0u8), (8, 9)], FileFault::NotATable),
@@ -313,7 +313,7 @@ fn faults_have_texts(rt: HostRuntime) -> Result<(), Fail> {
 
 /// Of two exchanged pages the first is reported, and nothing after it is read.
 #[test]
-fn exchanged_pages_are_told(rt: HostRuntime) {
+fn exchanged_pages_are_reported(rt: HostRuntime) {
     let alloc = rt.alloc();
     let text = text_of(&rt, &alloc, Class::KRK);
     let wrong = exchanged(&rt, &alloc, text.as_slice());

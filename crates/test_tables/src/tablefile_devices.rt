@@ -25,7 +25,7 @@ fn fails_after<A: Allocator>(
 
 /// A reader that fails after so many bytes, at the end too, whether or not it would go on.
 #[test]
-fn a_failing_reader_is_told_after_each_byte(rt: HostRuntime) {
+fn a_failing_reader_is_reported_after_each_byte(rt: HostRuntime) {
     let alloc = rt.alloc();
     let text = text_of_kk(&rt, &alloc);
     let bytes = text.as_slice();

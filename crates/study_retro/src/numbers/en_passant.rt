@@ -10,7 +10,7 @@ ghost use Rattle.study_material.specs.Class.{lists_of};
 ghost use Rattle.study_values.specs.Number.{has_both_pawns};
 ghost use Rattle.study_index.specs.Computed.{position_numbered};
 ghost use Rattle.study_values.specs.Index.{index_of};
-ghost use Rattle.study_retro.specs.Predecessors.{IsPlainNumber, IsNumberBefore, ComesBefore, PassesNone, IsTwinless, LeavesNone};
+ghost use Rattle.study_retro.specs.Predecessors.{IsPlainNumber, IsNumberBefore, ComesBefore, PassesNone, IsWithoutEnPassant, LeavesNone};
 
 use arrayvec::ArrayVec;
 use study_board::{Man, Position, Square, SquareSet};
@@ -175,7 +175,7 @@ fn are_adjacent_on_rank(a: u32, b: u32) -> bool
 /// Whether a capture in passing may be legal with the men and the side to move of the number, by the squares of its pawns.
 #[inline]
 pub fn may_have_en_passant(class: Class, number: u32) -> bool
-    ensures { result ≡ false → IsTwinless class number }
+    ensures { result ≡ false → IsWithoutEnPassant class number }
 {
     has_both_pawns(class) && are_adjacent_on_rank(number / 64 % 64, number % 64)
 }
@@ -196,7 +196,7 @@ fn adjacent_squares(a: Square) -> SquareSet
 /// Squares of the man of the last slot in a row of numbers with which no capture in passing is legal, by the squares of the pawns.
 #[inline]
 pub fn squares_without_en_passant(class: Class, row: u32) -> SquareSet
-    ensures { (y : ℕ) → y < 64 → has result y ≡ true → IsTwinless class (64 * row + y) }
+    ensures { (y : ℕ) → y < 64 → has result y ≡ true → IsWithoutEnPassant class (64 * row + y) }
 {
     if !has_both_pawns(class) {
         return SquareSet::empty().complement();

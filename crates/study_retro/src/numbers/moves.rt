@@ -10,7 +10,7 @@ ghost use Rattle.study_values.specs.Number.{cells_of};
 ghost use Rattle.study_index.specs.Computed.{position_numbered};
 ghost use Rattle.study_retro.specs.ClassGame.{class_game};
 ghost use Rattle.study_levels.specs.Numbered.{IsNumberedClass, NoLossBy};
-ghost use Rattle.study_retro.specs.Predecessors.{AreTold};
+ghost use Rattle.study_retro.specs.Predecessors.{AreEncoded};
 ghost use Rattle.study_retro.specs.Still.{HasMove, QuietMovesLose, QuietMovesLoseBy, IsWonAfter, move_to};
 
 use crate::captures::move_to;
@@ -95,7 +95,7 @@ pub fn loses_after<A: Allocator>(
     requires numbered { (q : Seen)
         × (position_numbered game.now.class departure.now.number ≡ Some q) }
     requires plain { departure.now.number < 16777216 }
-    requires told { AreTold game.now.class departure.now.number
+    requires encodes { AreEncoded game.now.class departure.now.number
         mover.setup.now.men.items mover.setup.now.to_move }
     requires man { Contains mover.setup.now.men.items mover.man.now }
     requires side { same_side mover.man.now.side mover.setup.now.to_move ≡ true }
@@ -144,7 +144,7 @@ pub fn quiet_moves_of<A: Allocator>(
     requires laws { IsNumberedClass (class_game game.now.class game.now.tables.now) }
     requires numbered { (q : Seen) × (position_numbered game.now.class number ≡ Some q) }
     requires plain { number < 16777216 }
-    requires told { AreTold game.now.class number
+    requires encodes { AreEncoded game.now.class number
         mover.setup.now.men.items mover.setup.now.to_move }
     requires man { Contains mover.setup.now.men.items mover.man.now }
     requires cells { length cells.now ≡ cells_of game.now.class }
@@ -191,7 +191,7 @@ pub fn quiet_moves<A: Allocator>(
     requires laws { IsNumberedClass (class_game game.now.class game.now.tables.now) }
     requires numbered { (q : Seen) × (position_numbered game.now.class number ≡ Some q) }
     requires plain { number < 16777216 }
-    requires told { AreTold game.now.class number setup.now.men.items setup.now.to_move }
+    requires encodes { AreEncoded game.now.class number setup.now.men.items setup.now.to_move }
     requires cells { length cells.now ≡ cells_of game.now.class }
     ensures yes { IsTrue result.escape
         → NoLossBy (class_game game.now.class game.now.tables.now) cells.now level number }
@@ -239,7 +239,7 @@ fn can_move(setup: &DecodedMen, man: &Man) -> bool
 /// Whether the side to move has a legal move, if the number has a position.
 pub fn has_move(class: Class, number: u32, setup: &DecodedMen) -> bool
     requires plain { number < 16777216 }
-    requires told { AreTold class number setup.now.men.items setup.now.to_move }
+    requires encodes { AreEncoded class number setup.now.men.items setup.now.to_move }
     ensures yes { IsTrue result → (q : Seen) → position_numbered class number ≡ Some q
         → (m : AMove) × (is_legal q m ≡ true) }
     ensures no { result ≡ false → (q : Seen) → position_numbered class number ≡ Some q → (m : AMove)

@@ -4,7 +4,7 @@ ghost use Rattle.study_board.specs.Position.{Position as Seen};
 ghost use Rattle.study_moves.specs.Unmoves.{CanHaveLed, move_from};
 ghost use Rattle.study_values.specs.Number.{cells_of};
 ghost use Rattle.study_index.specs.Computed.{position_numbered};
-ghost use Rattle.study_retro.specs.Predecessors.{AreTold, IsBeforeFrom, IsBeforeBy, IsBefore};
+ghost use Rattle.study_retro.specs.Predecessors.{AreEncoded, IsBeforeFrom, IsBeforeBy, IsBefore};
 ghost use Rattle.study_levels.specs.Propagation.{AreSet, IsSetWhere};
 
 use crate::mover::Mover;
@@ -83,7 +83,7 @@ pub fn write_before_man(
 ) -> u64
     requires numbered { (q : Seen) × (position_numbered class number ≡ Some q) }
     requires plain { number < 16777216 }
-    requires told { AreTold class number mover.setup.now.men.items mover.setup.now.to_move }
+    requires encodes { AreEncoded class number mover.setup.now.men.items mover.setup.now.to_move }
     requires man { Contains mover.setup.now.men.items mover.man.now }
     requires cell { 0 < change.cell }
     requires cells { length cells.old ≡ cells_of class }

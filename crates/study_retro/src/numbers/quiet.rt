@@ -9,7 +9,7 @@ ghost use Rattle.study_board.specs.Position.{Position as Seen, in_check};
 ghost use Rattle.study_board.specs.Sets.{has};
 ghost use Rattle.study_moves.specs.Game.{IsMate};
 ghost use Rattle.study_index.specs.Computed.{position_numbered};
-ghost use Rattle.study_retro.specs.Predecessors.{AreTold};
+ghost use Rattle.study_retro.specs.Predecessors.{AreEncoded};
 ghost use Rattle.study_retro.specs.Still.{HasOnlyQuiet, IsQuietPosition, rank_before_last};
 
 use crate::numbers::en_passant::may_have_en_passant;
@@ -96,7 +96,7 @@ pub fn may_promote(men: &[Man], side: Side) -> bool
 #[inline]
 fn stays_by(class: Class, number: u32, setup: &DecodedMen, attacked: SquareSet) -> bool
     requires plain { number < 16777216 }
-    requires told { AreTold class number setup.now.men.items setup.now.to_move }
+    requires encodes { AreEncoded class number setup.now.men.items setup.now.to_move }
     requires attacked { (x : ℕ) → x < 64
         → has attacked x ≡ is_attacked setup.now.men.items setup.now.to_move x }
     ensures { IsTrue result → (q : Seen)
@@ -113,7 +113,7 @@ fn stays_by(class: Class, number: u32, setup: &DecodedMen, attacked: SquareSet) 
 /// Whether each move of the side to move is quiet, if the number has a position.
 pub fn stays(class: Class, number: u32, setup: &DecodedMen) -> bool
     requires plain { number < 16777216 }
-    requires told { AreTold class number setup.now.men.items setup.now.to_move }
+    requires encodes { AreEncoded class number setup.now.men.items setup.now.to_move }
     ensures { IsTrue result → (q : Seen)
         → position_numbered class number ≡ Some q → HasOnlyQuiet q }
 {
@@ -124,7 +124,7 @@ pub fn stays(class: Class, number: u32, setup: &DecodedMen) -> bool
 /// Whether the side to move is in check, if the number has a position.
 #[inline]
 fn is_checked(class: Class, number: u32, setup: &DecodedMen) -> bool
-    requires { AreTold class number setup.now.men.items setup.now.to_move }
+    requires { AreEncoded class number setup.now.men.items setup.now.to_move }
     ensures { (q : Seen) → position_numbered class number ≡ Some q
         → in_check q.men q.to_move ≡ result }
 {
@@ -137,7 +137,7 @@ fn is_checked(class: Class, number: u32, setup: &DecodedMen) -> bool
 /// Whether the number has no position since the side to move could take the other king.
 #[inline]
 fn could_take_king(class: Class, number: u32, setup: &DecodedMen, attacked: SquareSet) -> bool
-    requires told { AreTold class number setup.now.men.items setup.now.to_move }
+    requires encodes { AreEncoded class number setup.now.men.items setup.now.to_move }
     requires attacked { (x : ℕ) → x < 64
         → has attacked x ≡ is_attacked setup.now.men.items setup.now.to_move x }
     ensures { IsTrue result → (q : Seen) → position_numbered class number ≡ Some q → ⊥ }
@@ -150,7 +150,7 @@ fn could_take_king(class: Class, number: u32, setup: &DecodedMen, attacked: Squa
 #[inline]
 fn is_no_mate(class: Class, number: u32, setup: &DecodedMen) -> bool
     requires plain { number < 16777216 }
-    requires told { AreTold class number setup.now.men.items setup.now.to_move }
+    requires encodes { AreEncoded class number setup.now.men.items setup.now.to_move }
     ensures { IsTrue result → (q : Seen) → position_numbered class number ≡ Some q → IsMate q → ⊥ }
 {
     if !is_checked(class, number, setup) {

@@ -161,10 +161,13 @@ pub struct CheckInfo<'r> {
     ghost piece: { same_kind last.now.kind King ≡ false },
     ghost rest: { AreRest others.now man.now.at men.items },
     ghost bear: { AreAttackers men.items (other_side side) attackers.items },
-    ghost all: { (x : ℕ) → x < 64 → has attacked x ≡ list_any (λ b. has b.squares x) attackers.items },
+    ghost all: { (x : ℕ) → x < 64
+        → has attacked x ≡ list_any (λ b. has b.squares x) attackers.items },
     ghost only: { ForSome king (IsOnlyKing others.now side) },
-    ghost last_bears: { ForSome king (AreChecks men.items last.now (other_side side) checks_of_last) },
-    ghost man_bears: { ForSome king (AreChecks men.items man.now (other_side side) checks_of_man) },
+    ghost last_bears: { ForSome king
+        (AreChecks men.items last.now (other_side side) checks_of_last) },
+    ghost man_bears: { ForSome king
+        (AreChecks men.items man.now (other_side side) checks_of_man) },
 }
 
 impl<'r> CheckInfo<'r> {

@@ -3,7 +3,7 @@ ghost use Rattle.std.specs.Prelude.{◌≡◌, ◌<◌, ◌+◌, ◌*◌, ℕ, f
 ghost use Rattle.study_board.specs.declared.men.Kind.TheVariants.{King};
 ghost use Rattle.study_board.specs.Men.{same_kind};
 ghost use Rattle.study_values.specs.Number.{cells_of};
-ghost use Rattle.study_retro.specs.Predecessors.{AreTold};
+ghost use Rattle.study_retro.specs.Predecessors.{AreEncoded};
 ghost use Rattle.study_retro.specs.Still.{on_square};
 
 use arrayvec::ArrayVec;
@@ -22,7 +22,8 @@ pub struct Row {
     ghost plain: { number < 262144 },
     ghost cell: { 64 * number < cells_of class },
     ghost piece: { same_kind last.kind King ≡ false },
-    ghost encoded: { (y : ℕ) → y < 64 → AreTold class (64 * number + y) (others.items ++ on_square last y ∷ []) to_move },
+    ghost encoded: { (y : ℕ) → y < 64
+        → AreEncoded class (64 * number + y) (others.items ++ on_square last y ∷ []) to_move },
 }
 
 impl Row {

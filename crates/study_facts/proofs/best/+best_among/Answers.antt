@@ -4,32 +4,32 @@ use Rattle.study_moves.specs.declared.moves.Move.{Move}
 use Rattle.study_moves.specs.Rules.{after}
 use Rattle.study_values.specs.Game.{IsValueOf}
 use Rattle.study_marks.specs.Evaluated.{IsProbeFaultOf, ProbeCount}
-use Rattle.study_marks.proofs.ValuesAsked.{untold-here, untold-later, held-told, asked-more}
+use Rattle.study_marks.proofs.ValuesAsked.{no_value-here, no_value-later, held-evaluated, asked-more}
 use Rattle.study_facts.proofs.BestSteps.{best-more}
 use Rattle.study_facts.proofs.best.+best_among.Goals as goal
 
-pub returns-in-Err-clause-untold : goal.returns-in-Err-clause-untold
-returns-in-Err-clause-untold g t c =
+pub returns-in-Err-clause-no_value : goal.returns-in-Err-clause-no_value
+returns-in-Err-clause-no_value g t c =
     let held = g.V.Values.source.held c.args.values.now in
     let p = c.args.p.now in
     let rest = map (after p) c.in-Some.rest.now in
     subst (λ (ms : List Move). IsProbeFaultOf held (map (after p) ms) c.in-Err.fault)
     (sym c.in-Some.ensures.cases.0)
     (subst (λ (q : Position). IsProbeFaultOf held (q ∷ rest) c.in-Err.fault) c.played-next.ensures.value
-    (untold-here held c.played-next.result rest c.value.result c.in-Err.fault c.in-Err.is c.value.ensures.no_table
+    (no_value-here held c.played-next.result rest c.value.result c.in-Err.fault c.in-Err.is c.value.ensures.no_table
     c.value.ensures.damaged))
 
-pub returns-in-Err-best_among-clause-untold : goal.returns-in-Err-best_among-clause-untold
-returns-in-Err-best_among-clause-untold g t c =
+pub returns-in-Err-best_among-clause-no_value : goal.returns-in-Err-best_among-clause-no_value
+returns-in-Err-best_among-clause-no_value g t c =
     let held = g.V.Values.source.held c.args.values.now in
     let p = c.args.p.now in
     let rest = map (after p) c.in-Some.rest.now in
     subst (λ (ms : List Move). IsProbeFaultOf held (map (after p) ms) c.in-Err-best_among.fault)
     (sym c.in-Some.ensures.cases.0)
     (subst (λ (q : Position). IsProbeFaultOf held (q ∷ rest) c.in-Err-best_among.fault) c.played-next.ensures.value
-    (untold-later held (g.V.Values.source.held c.value.new.self) c.played-next.result rest c.in-Err-best_among.fault
-    (held-told held c.played-next.result c.value.result c.in-Ok.value c.in-Ok.is c.value.ensures.no_table) c.value.ensures.same_tables
-    c.in-Err-best_among.ensures.untold))
+    (no_value-later held (g.V.Values.source.held c.value.new.self) c.played-next.result rest c.in-Err-best_among.fault
+    (held-evaluated held c.played-next.result c.value.result c.in-Ok.value c.in-Ok.is c.value.ensures.no_table) c.value.ensures.same_tables
+    c.in-Err-best_among.ensures.no_value))
 
 pub returns-in-Err-best_among-clause-asked : goal.returns-in-Err-best_among-clause-asked
 returns-in-Err-best_among-clause-asked g t c =

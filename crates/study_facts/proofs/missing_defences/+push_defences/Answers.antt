@@ -5,28 +5,30 @@ use Rattle.study_board.specs.Position.{Position}
 use Rattle.study_moves.specs.Rules.{is_legal, after}
 use Rattle.study_facts.specs.declared.continuation.EvaluatedMove.{EvaluatedMove}
 use Rattle.study_facts.specs.Asked.{within}
-use Rattle.study_facts.proofs.Within.{leads-to, each-legal, some-told, told-wider, fault-wider, some-fault}
+use Rattle.study_facts.proofs.Within.{leads-to, each-legal, some-evaluated, evaluated-wider, fault-wider, some-fault}
 use Rattle.study_facts.proofs.Chosen.{all-first, all-rest}
 use Rattle.study_moves.specs.LegalList.{legal_list}
-use Rattle.study_facts.proofs.NotHeld.{untold-not-held}
+use Rattle.study_facts.proofs.NotHeld.{no_value-not-held}
 use Rattle.study_facts.proofs.AskedSteps.{asked-then}
 use Rattle.study_facts.proofs.missing_defences.+push_defences.Goals as goal
 
-pub returns-in-Err-clause-untold : goal.returns-in-Err-clause-untold
-returns-in-Err-clause-untold g t c k e =
-    untold-not-held (g.V.Values.source.held c.args.values.now) (map (after c.played-next.result) (legal_list c.played-next.result)) c.in-Err.fault k
-    c.in-Err.ensures.untold e
+pub returns-in-Err-clause-no_value : goal.returns-in-Err-clause-no_value
+returns-in-Err-clause-no_value g t c k e =
+    no_value-not-held (g.V.Values.source.held c.args.values.now) (map (after c.played-next.result) (legal_list c.played-next.result)) c.in-Err.fault k
+    c.in-Err.ensures.no_value e
 
-pub returns-in-Ok-clause-told : goal.returns-in-Ok-clause-told
-returns-in-Ok-clause-told g t c =
+pub returns-in-Ok-clause-evaluated : goal.returns-in-Ok-clause-evaluated
+returns-in-Ok-clause-evaluated g t c =
     asked-then (within c.args.node.now.position.now g.V.Values.source) c.args.values.now c.holding_moves.new.values c.push_defences.new.values
     c.push_defences.result
-    (told-wider g.V.Values.source c.args.node.now.position.now c.played-next.result
+    (evaluated-wider g.V.Values.source c.args.node.now.position.now c.played-next.result
     (leads-to c.args.node.now.position.now c.played-next.result c.in-Some.x.now.played
-    (all-first (λ x. is_legal c.args.node.now.position.now x.played ≡ true) c.in-Some.x.now c.args.moves.now c.in-Some.rest.now c.in-Some.ensures.cases.0 c.requires.legal) c.played-next.ensures.value)
+    (all-first (λ x. is_legal c.args.node.now.position.now x.played ≡ true) c.in-Some.x.now c.args.moves.now c.in-Some.rest.now c.in-Some.ensures.cases.0
+    c.requires.legal) c.played-next.ensures.value)
     c.args.values.now c.holding_moves.new.values
-    (some-told g.V.Values.source c.played-next.result c.args.values.now c.holding_moves.new.values
-    (map (after c.played-next.result) (legal_list c.played-next.result)) (each-legal c.played-next.result) c.in-Ok.ensures.told)) c.push_defences.ensures.told
+    (some-evaluated g.V.Values.source c.played-next.result c.args.values.now c.holding_moves.new.values
+    (map (after c.played-next.result) (legal_list c.played-next.result)) (each-legal c.played-next.result) c.in-Ok.ensures.evaluated))
+    c.push_defences.ensures.evaluated
 
 pub push_defences-requires : goal.push_defences-requires
 push_defences-requires g t c κs within =
@@ -56,11 +58,13 @@ push_defences-requires g t c κs within =
       ),
     )
 
-pub returns-in-Err-clause-told : goal.returns-in-Err-clause-told
-returns-in-Err-clause-told g t c =
+pub returns-in-Err-clause-evaluated : goal.returns-in-Err-clause-evaluated
+returns-in-Err-clause-evaluated g t c =
     fault-wider g.V.Values.source c.args.node.now.position.now c.played-next.result
     (leads-to c.args.node.now.position.now c.played-next.result c.in-Some.x.now.played
-    (all-first (λ x. is_legal c.args.node.now.position.now x.played ≡ true) c.in-Some.x.now c.args.moves.now c.in-Some.rest.now c.in-Some.ensures.cases.0 c.requires.legal) c.played-next.ensures.value)
+    (all-first (λ x. is_legal c.args.node.now.position.now x.played ≡ true) c.in-Some.x.now c.args.moves.now c.in-Some.rest.now c.in-Some.ensures.cases.0
+    c.requires.legal) c.played-next.ensures.value)
     c.args.values.now c.holding_moves.new.values c.in-Err.fault
     (some-fault g.V.Values.source c.played-next.result (g.V.Values.source.held c.args.values.now) c.args.values.now c.holding_moves.new.values
-    (map (after c.played-next.result) (legal_list c.played-next.result)) c.in-Err.fault (each-legal c.played-next.result) c.in-Err.ensures.untold c.in-Err.ensures.first)
+    (map (after c.played-next.result) (legal_list c.played-next.result)) c.in-Err.fault (each-legal c.played-next.result) c.in-Err.ensures.no_value
+    c.in-Err.ensures.first)

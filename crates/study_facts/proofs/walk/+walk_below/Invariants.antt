@@ -2,7 +2,7 @@ use Rattle.std.proofs.Common.{◌≡◌}
 use Rattle.study_tree.specs.Forest.{nodes_in}
 use Rattle.study_marks.specs.BenchState.{marked}
 use Rattle.study_marks.specs.FaultSums.{below_at}
-use Rattle.study_facts.specs.Asked.{AllTold, within}
+use Rattle.study_facts.specs.Asked.{AllEvaluated, within}
 use Rattle.study_facts.proofs.EachAdded.{AddsOn}
 use Rattle.study_facts.proofs.walk.+walk_below.Given as goal
 
@@ -18,6 +18,6 @@ invariant-loop-place g l = record {
   steps : l.trail.steps.items ≡ l.fn.trail.steps.items;
   line : l.trail.line.items ≡ l.fn.trail.line.items;
   states : l.trail.states.items ≡ l.fn.trail.states.items;
-  told : AllTold (within (marked l.bench).start.position g.V.Values.source)
+  evaluated : AllEvaluated (within (marked l.bench).start.position g.V.Values.source)
       l.fn.values l.values;
 }

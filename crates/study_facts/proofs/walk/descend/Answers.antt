@@ -2,7 +2,7 @@ use Rattle.std.proofs.Common.{ℕ, List, [], ◌∷◌, ◌++◌, ap, subst, ◌
 use Rattle.study_board.specs.Position.{Position}
 use Rattle.study_marks.specs.BenchState.{marked}
 use Rattle.study_facts.specs.Line.{line_to}
-use Rattle.study_facts.specs.WalkState.{IsStand}
+use Rattle.study_facts.specs.WalkState.{IsStateAt}
 use Rattle.study_facts.proofs.NodesShown.{front-is}
 use Rattle.study_facts.proofs.Stands.{line-after}
 use Rattle.study_facts.proofs.walk.descend.Goals as goal
@@ -27,7 +27,8 @@ add_reached-requires-clause-states g c = record {
 
 pub add_reached-requires-clause-line : goal.add_reached-requires-clause-line
 add_reached-requires-clause-line g c =
-    c.requires.line ∙ ap (line_to (marked c.args.bench.now)) (front-is c.push.new.self.items c.args.trail.now.steps.items c.args.place c.in_ok-push.ensures.items)
+    c.requires.line ∙ ap (line_to (marked c.args.bench.now)) (front-is c.push.new.self.items c.args.trail.now.steps.items c.args.place
+    c.in_ok-push.ensures.items)
 
 pub returns-clause-line : goal.returns-clause-line
 returns-clause-line g c = (_, c.in_ok-push-2.ensures.items)
@@ -40,7 +41,7 @@ returns-clause-line_to g c =
     let before = c.requires.states.1.0 in
     line-after s c.push.new.self.items c.reached_by-reached.result.by c.reached_by-reached.ensures.by c.args.trail.now.steps.items c.args.place
     c.in_ok-push.ensures.items c.start-first.ensures.study.playable before c.reached_by-reached.result.here mid c.push-2.new.self.items
-    (subst (λ (u : List ℕ). IsStand s u before) front c.requires.states.1.1) c.reached_by-reached.ensures.here
+    (subst (λ (u : List ℕ). IsStateAt s u before) front c.requires.states.1.1) c.reached_by-reached.ensures.here
     (c.requires.line ∙ ap (line_to s) front)
     (c.in_ok-push-2.ensures.items ∙ ap (λ (q : Position). mid ++ q ∷ []) c.copied.ensures)
 

@@ -26,4 +26,5 @@ returns-clause-asked g c =
 pub returns-clause-adds : goal.returns-clause-adds
 returns-clause-adds g c h =
     all-added (g.F.Findings.adds (marked c.args.bench.now)) (marked c.args.bench.now) c.in_ok-trail.trail.steps.items c.args.findings.now c.add_root.new.self
-    c.walk_below.new.findings c.in_ok-trail.ensures.steps (c.in_ok-add_root.ensures.adds h) (c.in_ok-walk_below.ensures.adds (c.in_ok-add_root.ensures.asked.honest h))
+    c.walk_below.new.findings c.in_ok-trail.ensures.steps (c.in_ok-add_root.ensures.adds h)
+    (c.in_ok-walk_below.ensures.adds (c.in_ok-add_root.ensures.asked.honest h))

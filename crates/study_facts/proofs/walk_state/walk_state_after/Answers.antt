@@ -14,5 +14,6 @@ pub returns : goal.returns
 returns g c =
     stand-after (marked c.args.bench.now) c.args.steps.now c.args.by.now c.requires.by c.in-Some.front.now _ c.in-Some.ensures.cases.0
     c.start-first.ensures.study.playable c.args.before.now _ c.requires.before c.played.ensures.value refl
-    (c.is_solution.ensures ∙ ap (λ (x : Aim). c.args.before.now.solution && (not (hero_moves x (length c.in-Some.front.now)) || (c.in-Some.place.now == 0))) c.requires.aim)
+    (c.is_solution.ensures ∙ ap (λ (x : Aim). c.args.before.now.solution && (not (hero_moves x (length c.in-Some.front.now)) || (c.in-Some.place.now == 0)))
+    c.requires.aim)
     c.is_quiet.ensures

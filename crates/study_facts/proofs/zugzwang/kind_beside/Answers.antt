@@ -2,8 +2,8 @@ use Rattle.std.proofs.Common.{rules, Option, sym, subst}
 use Rattle.study_board.specs.Position.{IsValid}
 use Rattle.study_facts.specs.declared.zugzwang.Zugzwang.{Zugzwang}
 use Rattle.study_facts.specs.Zugzwang.{IsZugzwangOf}
-use Rattle.study_facts.proofs.Within.{told-wider, fault-wider}
-use Rattle.study_facts.proofs.ZugzwangTold.{leads-across, kind-by}
+use Rattle.study_facts.proofs.Within.{evaluated-wider, fault-wider}
+use Rattle.study_facts.proofs.ZugzwangReported.{leads-across, kind-by}
 use Rattle.study_facts.proofs.zugzwang.kind_beside.Goals as goal
 
 pub returns-in-Ok-clause-game : goal.returns-in-Ok-clause-game
@@ -13,14 +13,14 @@ returns-in-Ok-clause-game g c scores h =
     (kind-by c.values_are_unique.ensures c.args.p.now c.args.q.now c.to_move.result c.args.here c.in-Ok.there c.requires.passed c.requires.other valid
     c.to_move.ensures scores (c.in-Ok.ensures.game h))
 
-pub returns-in-Err-clause-told : goal.returns-in-Err-clause-told
-returns-in-Err-clause-told g c =
+pub returns-in-Err-clause-evaluated : goal.returns-in-Err-clause-evaluated
+returns-in-Err-clause-evaluated g c =
     let valid : IsValid c.args.q.now = search rules in
     fault-wider g.V.Values.source c.args.p.now c.args.q.now (leads-across c.args.p.now c.args.q.now c.requires.other valid)
-    c.args.values.now c.score.new.values c.in-Err.fault c.in-Err.ensures.told
+    c.args.values.now c.score.new.values c.in-Err.fault c.in-Err.ensures.evaluated
 
-pub returns-in-Ok-clause-told : goal.returns-in-Ok-clause-told
-returns-in-Ok-clause-told g c =
+pub returns-in-Ok-clause-evaluated : goal.returns-in-Ok-clause-evaluated
+returns-in-Ok-clause-evaluated g c =
     let valid : IsValid c.args.q.now = search rules in
-    told-wider g.V.Values.source c.args.p.now c.args.q.now (leads-across c.args.p.now c.args.q.now c.requires.other valid)
-    c.args.values.now c.score.new.values c.in-Ok.ensures.told
+    evaluated-wider g.V.Values.source c.args.p.now c.args.q.now (leads-across c.args.p.now c.args.q.now c.requires.other valid)
+    c.args.values.now c.score.new.values c.in-Ok.ensures.evaluated

@@ -9,20 +9,22 @@ use Rattle.study_facts.proofs.zugzwang.score.Goals as goal
 pub returns-in-Ok-clause-game : goal.returns-in-Ok-clause-game
 returns-in-Ok-clause-game g c h = (c.in-Ok.value, c.in-Ok.ensures.game h, sym c.half_points.ensures.value)
 
-pub returns-in-Err-clause-told : goal.returns-in-Err-clause-told
-returns-in-Err-clause-told g c =
+pub returns-in-Err-clause-evaluated : goal.returns-in-Err-clause-evaluated
+returns-in-Err-clause-evaluated g c =
     let valid : IsValid c.args.q.now = search rules in
     subst (λ (r : ProbeAnswer). HasProbed (within c.args.q.now g.V.Values.source) c.args.values.now r c.value.new.self) c.in-Err.is
     (asked-one (within c.args.q.now g.V.Values.source) c.args.values.now
     c.value.new.self c.args.q.now c.value.result valid
-    (own-answer g.V.Values.source c.args.values.now c.args.q.now c.value.result c.value.ensures.given (λ k e. ((c.value.ensures.no_table k).0 e).0)) c.value.ensures.asked
+    (own-answer g.V.Values.source c.args.values.now c.args.q.now c.value.result c.value.ensures.given (λ k e. ((c.value.ensures.no_table k).0 e).0))
+    c.value.ensures.asked
     c.value.ensures.failed_so c.value.ensures.fails_as_before)
 
-pub returns-in-Ok-clause-told : goal.returns-in-Ok-clause-told
-returns-in-Ok-clause-told g c =
+pub returns-in-Ok-clause-evaluated : goal.returns-in-Ok-clause-evaluated
+returns-in-Ok-clause-evaluated g c =
     let valid : IsValid c.args.q.now = search rules in
     subst (λ (r : ProbeAnswer). HasProbed (within c.args.q.now g.V.Values.source) c.args.values.now r c.value.new.self) c.in-Ok.is
     (asked-one (within c.args.q.now g.V.Values.source) c.args.values.now
     c.value.new.self c.args.q.now c.value.result valid
-    (own-answer g.V.Values.source c.args.values.now c.args.q.now c.value.result c.value.ensures.given (λ k e. ((c.value.ensures.no_table k).0 e).0)) c.value.ensures.asked
+    (own-answer g.V.Values.source c.args.values.now c.args.q.now c.value.result c.value.ensures.given (λ k e. ((c.value.ensures.no_table k).0 e).0))
+    c.value.ensures.asked
     c.value.ensures.failed_so c.value.ensures.fails_as_before)

@@ -1,5 +1,5 @@
 use Rattle.std.proofs.Common.{sym, ◌∙◌}
-use Rattle.study_facts.proofs.ZugzwangTold.{none-passing, none-other}
+use Rattle.study_facts.proofs.ZugzwangReported.{none-passing, none-other}
 use Rattle.study_facts.proofs.zugzwang.zugzwang_at.Goals as goal
 
 pub returns-then-passing-clause-game : goal.returns-then-passing-clause-game

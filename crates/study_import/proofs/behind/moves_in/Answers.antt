@@ -1,4 +1,4 @@
-use Rattle.std.proofs.Common.{◌≡◌, ◌-◌, Bool, Some, false, sym, ap, ◌∙◌, arith}
+use Rattle.std.proofs.Common.{◌-◌, Bool, Some, false, sym, ap, ◌∙◌, arith}
 use Rattle.std.specs.Option.{option_map}
 use Rattle.study_games.specs.Tokens.{token_seen, lexed_seen}
 use Rattle.study_import.specs.Behind.{moves_left}
@@ -14,7 +14,8 @@ loop-fuel-preserved c =
       | in-Err w ↦ fault_on l.fuel (l.fuel - 1) l.fresh l.rest.now w.in-Err.fault c.match-found.behind.now (omega (arith, c.loop-fuel-test.true))
           (sym c.read_token.ensures ∙ ap (option_map lexed_seen) (c.in-Some.is ∙ ap Some w.in-Err.is))
           (rw w.behind-is w.behind_fault-behind.ensures)
-      | in-Ok+else-is_of_moves w ↦ token_on l.fuel (l.fuel - 1) l.fresh l.rest.now (token_seen w.in-Ok.cut.token) c.match-found.behind.now (omega (arith, c.loop-fuel-test.true))
+      | in-Ok+else-is_of_moves w ↦ token_on l.fuel (l.fuel - 1) l.fresh l.rest.now (token_seen w.in-Ok.cut.token) c.match-found.behind.now
+          (omega (arith, c.loop-fuel-test.true))
           (rw w.behind-is (sym c.read_token.ensures ∙ ap (option_map lexed_seen) (c.in-Some.is ∙ ap Some w.in-Ok.is)))
           (sym w.is_of_moves.ensures ∙ w.if-is_of_moves.false)
     ]

@@ -11,7 +11,8 @@ pub returns-in-Stop : goal.returns-in-Stop
 returns-in-Stop g c =
     let s = sought_seen c.loop-fuel.search c.loop-fuel.out c.loop-fuel.position.now in
     let t = token_seen c.in-Ok.cut.token in
-    sym (act_on c.loop-fuel.fuel (c.loop-fuel.fuel - 1) c.loop-fuel.fresh s c.loop-fuel.rest.now t c.in-Ok.cut.rest.now act.Stop (omega (arith, c.loop-fuel-test.true))
+    sym (act_on c.loop-fuel.fuel (c.loop-fuel.fuel - 1) c.loop-fuel.fresh s c.loop-fuel.rest.now t c.in-Ok.cut.rest.now act.Stop
+    (omega (arith, c.loop-fuel-test.true))
     (sym c.read_token.ensures ∙ ap (option_map lexed_seen) (c.in-Some.is ∙ ap Some c.in-Ok.is))
     (sym (c.act_of-act.ensures ∙ ap (act_of c.loop-fuel.search) c.in_ok-part_of.ensures) ∙ c.in-Stop.is))
     ∙ c.loop-fuel.invariant
@@ -26,10 +27,12 @@ loop-fuel-preserved g c =
     let kept : c.add_bytes.new.out ≡ s.kept ++ bytes_then a (take (length rest - length behind) rest) =
     c.in_ok-add_bytes.ensures ∙ ap (λ (x : List ℕ). s.kept ++ bytes_then a x) c.before-in-loop-fuel.ensures in
     let next = tail_from (c.loop-fuel.fuel - 1) (begins_feed rest) behind in
-    ap (λ (b : Bool). tail_from (c.loop-fuel.fuel - 1) b behind (sought_seen c.then-search.result c.add_bytes.new.out c.position_then-position.result.now)) c.begins_feed-fresh.ensures
+    ap (λ (b : Bool). tail_from (c.loop-fuel.fuel - 1) b behind (sought_seen c.then-search.result c.add_bytes.new.out c.position_then-position.result.now))
+    c.begins_feed-fresh.ensures
     ∙ ap (λ (x : Search). next (sought_seen x c.add_bytes.new.out c.position_then-position.result.now)) c.then-search.ensures
     ∙ ap (λ (x : List ℕ). next (sought_seen (search_then c.loop-fuel.search a) x c.position_then-position.result.now)) kept
-    ∙ ap (λ (x : List ℕ). next (sought_seen (search_then c.loop-fuel.search a) (s.kept ++ bytes_then a (take (length rest - length behind) rest)) x)) c.position_then-position.ensures
+    ∙ ap (λ (x : List ℕ). next (sought_seen (search_then c.loop-fuel.search a) (s.kept ++ bytes_then a (take (length rest - length behind) rest)) x))
+    c.position_then-position.ensures
     ∙ sym (next_on c.loop-fuel.fuel (c.loop-fuel.fuel - 1) c.loop-fuel.fresh s rest t behind a (omega (arith, c.loop-fuel-test.true))
     (sym c.read_token.ensures ∙ ap (option_map lexed_seen) (c.in-Some.is ∙ ap Some c.in-Ok.is))
     (sym (c.act_of-act.ensures ∙ ap (act_of c.loop-fuel.search) c.in_ok-part_of.ensures)) c.in_default-act.not-Begin c.in_default-act.not-Stop)

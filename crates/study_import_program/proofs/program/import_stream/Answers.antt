@@ -1,5 +1,5 @@
 use Rattle.std.proofs.Common.{inl, inr}
-use Rattle.study_import_program.proofs.Streamed.{has_run, told_behind}
+use Rattle.study_import_program.proofs.Streamed.{has_run, reported_behind}
 use Rattle.study_import_program.proofs.program.import_stream.Goals.{then-is_err, else-is_err}
 use Rattle.study_import_program.proofs.program.import_stream.Goals as goal
 
@@ -8,9 +8,10 @@ returns g c = (
   c.import_games-answer.result,
   c.if-is_err.answer,
   has_run c.args.options.now.choice (g.R.Read.remaining c.args.games.now) (g.W.Write.contents c.args.out.now) (g.W.Write.contents c.import_games-answer.new.out)
-      (g.W.Write.contents c.flush.new.self) c.import_games-answer.result c.flush.ensures.bytes c.import_games-answer.ensures.ok c.import_games-answer.ensures.err,
+      (g.W.Write.contents c.flush.new.self) c.import_games-answer.result c.flush.ensures.bytes c.import_games-answer.ensures.ok
+      c.import_games-answer.ensures.err,
   elim c.if-is_err.branch [ then-is_err w ↦ inr w.answer-is | else-is_err w ↦ inl w.answer-is ],
   c.ended.ensures.status,
-  λ none. told_behind (g.E.Write.contents c.args.errors.now) (g.E.Write.contents c.import_games-answer.new.errors) (g.E.Write.contents c.ended.new.errors)
-      c.if-is_err.answer (c.import_games-answer.ensures.quiet none) c.ended.ensures.told,
+  λ none. reported_behind (g.E.Write.contents c.args.errors.now) (g.E.Write.contents c.import_games-answer.new.errors) (g.E.Write.contents c.ended.new.errors)
+      c.if-is_err.answer (c.import_games-answer.ensures.quiet none) c.ended.ensures.reported,
 )

@@ -12,7 +12,8 @@ use Rattle.study_import_program.proofs.streaming.import_games.Goals.{then-progre
 pub loop-init : goal.loop-init
 loop-init g c = record {
   reached = λ text is.
-      reached_first (g.R.Read.remaining c.args.games.now) (g.W.Write.contents c.args.out.now) c.args.choice c.new-importer.result text c.new-importer.ensures is;
+      reached_first (g.R.Read.remaining c.args.games.now) (g.W.Write.contents c.args.out.now) c.args.choice c.new-importer.result text c.new-importer.ensures
+      is;
   quiet = λ none. Keeps-refl (g.E.Write.contents c.args.errors.now);
 }
 
@@ -33,7 +34,8 @@ returns-in-Ok-None-clause-ok g c =
     (λ imported. IsWhole c.args.choice (g.R.Read.remaining c.args.games.now) (g.W.Write.contents c.args.out.now) (g.W.Write.contents c.finish.new.out) imported)
     (λ imported put text is.
     reached_end (g.R.Read.remaining c.loop.games) (g.R.Read.remaining c.read_byte.new.script) (g.W.Write.contents c.args.out.now)
-    (g.W.Write.contents c.loop.out) (g.W.Write.contents c.finish.new.out) c.args.choice c.loop.importer text imported (c.loop.invariant.reached text is) end.0 end.1 put)
+    (g.W.Write.contents c.loop.out) (g.W.Write.contents c.finish.new.out) c.args.choice c.loop.importer text imported (c.loop.invariant.reached text is) end.0
+    end.1 put)
     c.finish.ensures.ok
 
 pub returns-in-Ok-None-clause-err : goal.returns-in-Ok-None-clause-err
@@ -41,7 +43,8 @@ returns-in-Ok-None-clause-err g c =
     let end = rw c.in-Ok-None.field-0-is at c.in-Ok-None.ensures.end in
     on_err_weaker c.finish.result (λ front text is.
     stops_at_end (g.R.Read.remaining c.loop.games) (g.R.Read.remaining c.read_byte.new.script) (g.W.Write.contents c.args.out.now)
-    (g.W.Write.contents c.loop.out) (g.W.Write.contents c.finish.new.out) c.args.choice c.loop.importer text (c.loop.invariant.reached text is) end.0 end.1 front)
+    (g.W.Write.contents c.loop.out) (g.W.Write.contents c.finish.new.out) c.args.choice c.loop.importer text (c.loop.invariant.reached text is) end.0 end.1
+    front)
     c.finish.ensures.err
 
 pub returns-in_err-take-in-Ok-Some-clause-err : goal.returns-in_err-take-in-Ok-Some-clause-err
@@ -51,7 +54,8 @@ returns-in_err-take-in-Ok-Some-clause-err g c =
     OnErr-known c.from_residual.result
     (IsFront c.args.choice (g.R.Read.remaining c.args.games.now) (g.W.Write.contents c.args.out.now) (g.W.Write.contents c.take.new.out)) (λ text is.
     stops_at_byte (g.R.Read.remaining c.loop.games) (g.R.Read.remaining c.read_byte.new.script) (g.W.Write.contents c.args.out.now)
-    (g.W.Write.contents c.loop.out) (g.W.Write.contents c.take.new.out) c.args.choice c.loop.importer text c.in-Ok-Some.byte (c.loop.invariant.reached text is) eaten
+    (g.W.Write.contents c.loop.out) (g.W.Write.contents c.take.new.out) c.args.choice c.loop.importer text c.in-Ok-Some.byte
+    (c.loop.invariant.reached text is) eaten
     c.in_err-take-in-Ok-Some.ensures.err)
 
 pub loop-preserved : goal.loop-preserved

@@ -11,5 +11,6 @@ returns-in-Ok-clause-err g c =
     let new = g.W.Write.contents c.put_block.new.out in
     on_err_weaker c.put_block.result
     (λ h. stopped_put c.args.byte c.args.importer.now c.take.new.self old new c.take.new.out
-    (λ bytes. ap (λ (t : List ℕ). t ++ still_written c.args.importer.now (c.args.byte ∷ bytes)) (sym c.new-text.ensures) ∙ c.in-Ok.ensures.written bytes) (subst (λ (t : List ℕ). AppendsFront old new t) c.as_slice.ensures h))
+    (λ bytes. ap (λ (t : List ℕ). t ++ still_written c.args.importer.now (c.args.byte ∷ bytes)) (sym c.new-text.ensures) ∙ c.in-Ok.ensures.written bytes)
+    (subst (λ (t : List ℕ). AppendsFront old new t) c.as_slice.ensures h))
     c.put_block.ensures.err

@@ -5,7 +5,7 @@ use Rattle.study_moves.specs.EnPassant.{without_idle_passed_square}
 use Rattle.study_moves.proofs.AlikePositions.{AreAlike-mated}
 use Rattle.study_material.proofs.MovesOn.{moves_lead_on}
 use Rattle.study_index.proofs.ClassLaws.{below, entry, same_class, same_index, alike_back, alike_move, numbered}
-use Rattle.study_index.proofs.ComputedIndex.{decoded_told}
+use Rattle.study_index.proofs.ComputedIndex.{numbered_of_decoded}
 use Rattle.study_index.proofs.laws.classes_are_numbered.Goals as goal
 
 pub returns : goal.returns
@@ -16,8 +16,9 @@ returns c = λ k. record {
   index_below = λ p n v o i. (let r = numbered k p n v o i in below k n r.0 r.1);
   image = λ p q n v o i d. (
       let r = numbered k p n v o i in
-      let same : r.0 ≡ q = ap (λ x. unwrap_or x q) (sym (decoded_told k n r.0 r.1) ∙ decoded_told k n q d) in
-      subst (λ (x : Position). IsImage (without_idle_passed_square p) x) (ap (λ x. without_idle_passed_square x) same ∙ (entry k n q d).is_bare) (alike_back k r.0 p r.2).alike.images);
+      let same : r.0 ≡ q = ap (λ x. unwrap_or x q) (sym (numbered_of_decoded k n r.0 r.1) ∙ numbered_of_decoded k n q d) in
+      subst (λ (x : Position). IsImage (without_idle_passed_square p) x) (ap (λ x. without_idle_passed_square x) same ∙ (entry k n q d).is_bare)
+      (alike_back k r.0 p r.2).alike.images);
   back = λ p q h. alike_back k p q h;
   move = λ p q r h l. alike_move k p q r h l;
   mated = λ p q h mate. AreAlike-mated p q h.alike mate;

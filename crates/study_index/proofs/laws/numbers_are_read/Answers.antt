@@ -1,5 +1,5 @@
-use Rattle.study_index.proofs.ComputedIndex.{decoded_told, told_decoded}
+use Rattle.study_index.proofs.ComputedIndex.{numbered_of_decoded, decoded_of_numbered}
 use Rattle.study_index.proofs.laws.numbers_are_read.Goals as goal
 
 pub returns : goal.returns
-returns c = λ k n q. (told_decoded k n q, decoded_told k n q)
+returns c = λ k n q. (decoded_of_numbered k n q, numbered_of_decoded k n q)

@@ -10,6 +10,7 @@ loop-at-preserved c =
       within = omega (arith, e);
       below = λ i b. elim (below_or i c.loop-at.at) [
         | inl l ↦ inv.below i l
-        | inr g ↦ in_part c.args.cells.now (λ x. x ≤ c.args.level) c.loop-at.at c.min-end.result i g b (omega (arith, e)) (c.has_above.ensures c.if-has_above.false)
+        | inr g ↦ in_part c.args.cells.now (λ x. x ≤ c.args.level) c.loop-at.at c.min-end.result i g b (omega (arith, e))
+            (c.has_above.ensures c.if-has_above.false)
       ];
     }

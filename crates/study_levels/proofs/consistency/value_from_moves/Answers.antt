@@ -13,7 +13,8 @@ loop-by-preserved g c =
     let value_after : Move → Value = λ m. labels ((g.G.Game.numbered c.args.game.now).after c.args.at.now m) in
     IsTally-take value_after c.as_slice-by-items.result.now c.loop-by.by-index c.by-item.result c.label_after-value.result
     _ _ _ _ _ _
-    c.loop-by-test.true (ap value_after (sym c.by-item.is) ∙ sym c.label_after-value.ensures.value) c.loop-by.invariant c.with-replies.ensures.lost c.with-replies.ensures.won
+    c.loop-by-test.true (ap value_after (sym c.by-item.is) ∙ sym c.label_after-value.ensures.value) c.loop-by.invariant c.with-replies.ensures.lost
+    c.with-replies.ensures.won
     c.with-replies.ensures.drawn
 
 pub returns : goal.returns

@@ -25,7 +25,11 @@ with_conversion-replies-requires g c =
     let m : Move = slice_index_or ms c.loop-by.by-index d in
     let there = subst (λ (xs : List Move). Contains xs m) c.as_slice-by-items.ensures.value (Contains-get_or ms c.loop-by.by-index d c.loop-by-test.true) in
     let here = subst (λ (x : Move). Contains c.conversions-moves.result.items x) (sym c.by-item.is) there in
-    c.requires.laws.closed c.args.at.now c.played-to.result c.requires.known c.requires.home (d, c.conversions-moves.ensures.only d here, sym c.played-to.ensures)
+    c.requires.laws.closed c.args.at.now c.played-to.result c.requires.known c.requires.home (
+      d,
+      c.conversions-moves.ensures.only d here,
+      sym c.played-to.ensures,
+    )
 
 pub loop-by-preserved : goal.loop-by-preserved
 loop-by-preserved g c =
@@ -44,11 +48,13 @@ loop-by-preserved g c =
           elim (true_or_false ((g.G.Game.numbered c.args.game.now).home w.played-to.result)) [
             | inl h ↦ IsTallyOf-out Ok f ms c.loop-by.by-index d _ _ _ _ _ _ c.loop-by-test.true
                 (λ o. let no : true ≡ false = sym h ∙ (ap (g.G.Game.numbered c.args.game.now).home (to ∙ sym item) ∙ o) in cc) c.loop-by.invariant
-                (ap (λ (t : BestReplies). t.lost) is ∙ e.in_lost h) (ap (λ (t : BestReplies). t.won) is ∙ e.in_won h) (ap (λ (t : BestReplies). t.drawn) is ∙ e.in_drawn h)
+                (ap (λ (t : BestReplies). t.lost) is ∙ e.in_lost h) (ap (λ (t : BestReplies). t.won) is ∙ e.in_won h) (ap (λ (t : BestReplies). t.drawn) is
+                ∙ e.in_drawn h)
             | inr h ↦ IsTallyOf-in Ok f ms c.loop-by.by-index d ((g.G.Game.numbered c.args.game.now).outside w.played-to.result) _ _ _ _ _ _ c.loop-by-test.true
                 (ap (g.G.Game.numbered c.args.game.now).home (item ∙ sym to) ∙ h)
                 (ap (g.G.Game.numbered c.args.game.now).outside (item ∙ sym to)) c.loop-by.invariant
-                (ap (λ (t : BestReplies). t.lost) is ∙ e.out_lost h) (ap (λ (t : BestReplies). t.won) is ∙ e.out_won h) (ap (λ (t : BestReplies). t.drawn) is ∙ e.out_drawn h)
+                (ap (λ (t : BestReplies). t.lost) is ∙ e.out_lost h) (ap (λ (t : BestReplies). t.won) is ∙ e.out_won h) (ap (λ (t : BestReplies). t.drawn) is
+                ∙ e.out_drawn h)
           ])
       | else-may_convert w ↦ (
           let is = w.replies-is in

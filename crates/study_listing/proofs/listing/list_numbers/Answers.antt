@@ -4,7 +4,8 @@ use Rattle.study_text.specs.Taken.{TakesPrefix}
 use Rattle.study_search.specs.Finding.{IsFound}
 use Rattle.study_search.proofs.Faults.{same_on}
 use Rattle.study_listing.specs.Lists.{IsListedAt, IsTextAt}
-use Rattle.study_listing.proofs.Written.{not-listed, none-listed, written-on, written-more, written-stopped, written-end, next-none, next-some, if-some, if-none}
+use Rattle.study_listing.proofs.Written.{not-listed, none-listed, written-on, written-more, written-stopped, written-end, next-none, next-some}
+use Rattle.study_listing.proofs.Written.{if-some, if-none}
 use Rattle.study_listing.proofs.listing.list_numbers.Goals as goal
 
 pub loop-at-preserved-in-Ok-None : goal.loop-at-preserved-in-Ok-None

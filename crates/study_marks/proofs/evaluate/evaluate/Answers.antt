@@ -3,12 +3,12 @@ use Rattle.study_moves.specs.declared.moves.Move.{Move}
 use Rattle.study_moves.specs.Rules.{after}
 use Rattle.study_moves.specs.LegalList.{legal_list}
 use Rattle.study_marks.specs.Evaluated.{IsProbeFaultOf, ProbeCount}
-use Rattle.study_marks.proofs.ValuesAsked.{held-told, untold-here, untold-later, asked-more, length-map}
+use Rattle.study_marks.proofs.ValuesAsked.{held-evaluated, no_value-here, no_value-later, asked-more, length-map}
 use Rattle.study_marks.proofs.evaluate.evaluate.Goals as goal
 
-pub returns-in-Err-clause-untold : goal.returns-in-Err-clause-untold
-returns-in-Err-clause-untold g c =
-    untold-here (g.V.Values.source.held c.args.values.now) c.args.p.now (map (after c.args.p.now) (legal_list c.args.p.now))
+pub returns-in-Err-clause-no_value : goal.returns-in-Err-clause-no_value
+returns-in-Err-clause-no_value g c =
+    no_value-here (g.V.Values.source.held c.args.values.now) c.args.p.now (map (after c.args.p.now) (legal_list c.args.p.now))
     c.value.result c.in-Err.fault c.in-Err.is c.value.ensures.no_table c.value.ensures.damaged
 
 pub returns-in-Err-clause-asked : goal.returns-in-Err-clause-asked
@@ -16,14 +16,15 @@ returns-in-Err-clause-asked g c =
     let many = length (map (after c.args.p.now) (legal_list c.args.p.now)) in
     (0, (let z : 0 < suc many = omega arith in z), c.value.ensures.asked)
 
-pub returns-in-Err-tally_moves-clause-untold : goal.returns-in-Err-tally_moves-clause-untold
-returns-in-Err-tally_moves-clause-untold g c =
+pub returns-in-Err-tally_moves-clause-no_value : goal.returns-in-Err-tally_moves-clause-no_value
+returns-in-Err-tally_moves-clause-no_value g c =
     let moves : c.as_slice.result.now ≡ legal_list c.args.p.now = c.as_slice.ensures.value ∙ c.legal_moves-moves.ensures.listed in
-    untold-later (g.V.Values.source.held c.args.values.now) (g.V.Values.source.held c.value.new.self) c.args.p.now
+    no_value-later (g.V.Values.source.held c.args.values.now) (g.V.Values.source.held c.value.new.self) c.args.p.now
     (map (after c.args.p.now) (legal_list c.args.p.now)) c.in-Err-tally_moves.fault
-    (held-told (g.V.Values.source.held c.args.values.now) c.args.p.now c.value.result c.in-Ok.value c.in-Ok.is c.value.ensures.no_table) c.value.ensures.same_tables
+    (held-evaluated (g.V.Values.source.held c.args.values.now) c.args.p.now c.value.result c.in-Ok.value c.in-Ok.is c.value.ensures.no_table)
+    c.value.ensures.same_tables
     (subst (λ (ms : List Move). IsProbeFaultOf (g.V.Values.source.held c.value.new.self) (map (after c.args.p.now) ms)
-    c.in-Err-tally_moves.fault) moves c.in-Err-tally_moves.ensures.untold)
+    c.in-Err-tally_moves.fault) moves c.in-Err-tally_moves.ensures.no_value)
 
 pub returns-in-Err-tally_moves-clause-asked : goal.returns-in-Err-tally_moves-clause-asked
 returns-in-Err-tally_moves-clause-asked g c =

@@ -5,9 +5,9 @@ use Rattle.study_marks.specs.declared.node_label.Evaluation.{Evaluation}
 use Rattle.study_marks.specs.Queries.{asked_at, asked_below, AreTablesHeld, counted_up_by}
 use Rattle.study_marks.specs.Evaluated.{IsProbeFaultOf, ProbeCount}
 use Rattle.study_marks.proofs.InsertedMoves.{outside-answer, asked-answer}
-use Rattle.study_marks.proofs.PositionsListed.{asked-tree, told-everywhere}
+use Rattle.study_marks.proofs.PositionsListed.{asked-tree, evaluated-everywhere}
 use Rattle.study_marks.specs.Answers.{IsFirstFault}
-use Rattle.study_marks.proofs.FaultsTold.{first-answer, undamaged-answer}
+use Rattle.study_marks.proofs.FaultsReported.{first-answer, undamaged-answer}
 use Rattle.study_marks.proofs.evaluate_all.evaluate_all.Goals as goal
 
 pub returns-in_err-evaluate_positions-clause-refusal : goal.returns-in_err-evaluate_positions-clause-refusal
@@ -16,7 +16,7 @@ returns-in_err-evaluate_positions-clause-refusal g c =
     let asked = asked_at c.args.position.now ++ asked_below c.args.position.now (plain_tree c.args.tree.now).below in
     outside-answer (g.V.Values.source.held c.args.values.now) asked c.in_err-evaluate_positions.field-0.0 c.from_residual.result c.from_residual.ensures.1
     (subst (λ (ps : List Position). IsProbeFaultOf (g.V.Values.source.held c.args.values.now) ps c.in_err-evaluate_positions.field-0.0) same
-    c.in_err-evaluate_positions.ensures.untold)
+    c.in_err-evaluate_positions.ensures.no_value)
 
 pub returns-in_err-evaluate_positions-clause-asked : goal.returns-in_err-evaluate_positions-clause-asked
 returns-in_err-evaluate_positions-clause-asked g c =
@@ -29,7 +29,7 @@ returns-in_err-evaluate_positions-clause-asked g c =
 
 pub returns-clause-game : goal.returns-clause-game
 returns-clause-game g c =
-    λ h. told-everywhere c.args.position.now (plain_tree c.args.tree.now) c.as_slice.result.now
+    λ h. evaluated-everywhere c.args.position.now (plain_tree c.args.tree.now) c.as_slice.result.now
     c.evaluate_positions.new.all.items (c.as_slice.ensures.value ∙ c.in-Ok.ensures)
     (let x = c.in_ok-evaluate_positions.ensures.game h in (x.0, x.1, x.2 ∙ ap (λ (ts : List Evaluation). ts ++ x.0) c.in-Ok-with_capacity.ensures.items))
 

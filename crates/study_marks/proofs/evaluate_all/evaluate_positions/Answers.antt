@@ -2,18 +2,18 @@ use Rattle.std.proofs.Common.{List, length, sym, subst, arith}
 use Rattle.study_board.specs.Position.{Position}
 use Rattle.study_marks.specs.Evaluated.{IsProbeFaultOf}
 use Rattle.study_marks.specs.Relabelled.{asked_each}
-use Rattle.study_marks.proofs.PositionsListed.{IsAsked, asked-next, take-one, untold-at, asked-at, same-fault, fault-asked}
+use Rattle.study_marks.proofs.PositionsListed.{IsAsked, asked-next, take-one, no_value-at, asked-at, same-fault, fault-asked}
 use Rattle.study_values.specs.Values.{IsNotDamage}
 use Rattle.study_marks.specs.Answers.{IsFirstFault}
-use Rattle.study_marks.proofs.FaultsTold.{told-next, first-at}
+use Rattle.study_marks.proofs.FaultsReported.{evaluated-next, first-at}
 use Rattle.study_marks.proofs.evaluate_all.evaluate_positions.Goals as goal
 
-pub returns-in_err-evaluate_one-clause-untold : goal.returns-in_err-evaluate_one-clause-untold
-returns-in_err-evaluate_one-clause-untold g c =
+pub returns-in_err-evaluate_one-clause-no_value : goal.returns-in_err-evaluate_one-clause-no_value
+returns-in_err-evaluate_one-clause-no_value g c =
     same-fault c.from_residual.result c.in_err-evaluate_one.field-0.0
     (IsProbeFaultOf (g.V.Values.source.held c.args.values.now) (asked_each c.args.positions.now)) c.from_residual.ensures.1
-    (untold-at _ _ _ _ _ _ _ _ c.args.positions.now c.loop-p.p-index c.p-item.result _ _ c.loop-p.invariant.asked
-    c.loop-p-test.true c.p-item.is c.in_err-evaluate_one.field-0.0 c.in_err-evaluate_one.ensures.untold)
+    (no_value-at _ _ _ _ _ _ _ _ c.args.positions.now c.loop-p.p-index c.p-item.result _ _ c.loop-p.invariant.asked
+    c.loop-p-test.true c.p-item.is c.in_err-evaluate_one.field-0.0 c.in_err-evaluate_one.ensures.no_value)
 
 pub returns-in_err-evaluate_one-clause-asked : goal.returns-in_err-evaluate_one-clause-asked
 returns-in_err-evaluate_one-clause-asked g c =
@@ -36,9 +36,9 @@ loop-p-preserved g c = record {
       c.in_ok-evaluate_one.ensures.tables c.in_ok-evaluate_one.ensures.held c.in_ok-evaluate_one.ensures.asked
       c.in_ok-evaluate_one.ensures.failures
       c.in_ok-evaluate_one.ensures.honest c.in_ok-evaluate_one.ensures.game);
-  told =
-      told-next g.V.Values.source c.args.values.now c.loop-p.values c.evaluate_one.new.values c.args.positions.now
-      c.loop-p.p-index c.p-item.result c.loop-p-test.true c.p-item.is c.loop-p.invariant.told c.in_ok-evaluate_one.ensures.told;
+  evaluated =
+      evaluated-next g.V.Values.source c.args.values.now c.loop-p.values c.evaluate_one.new.values c.args.positions.now
+      c.loop-p.p-index c.p-item.result c.loop-p-test.true c.p-item.is c.loop-p.invariant.evaluated c.in_ok-evaluate_one.ensures.evaluated;
   fails = λ d f m. c.loop-p.invariant.fails d f (c.in_ok-evaluate_one.ensures.fails_as_before d f m);
   room = omega (arith, c.loop-p.invariant.room, c.in_ok-evaluate_one.ensures.len, c.in_ok-evaluate_one.ensures.capacity);
 }
@@ -50,7 +50,7 @@ returns-in_err-evaluate_one-clause-first g c =
     c.evaluate_one.new.values)
     c.from_residual.ensures.1
     (first-at g.V.Values.source c.args.values.now c.loop-p.values c.evaluate_one.new.values c.args.positions.now
-    c.loop-p.p-index c.p-item.result c.in_err-evaluate_one.field-0.0 c.loop-p-test.true c.p-item.is c.loop-p.invariant.told
+    c.loop-p.p-index c.p-item.result c.in_err-evaluate_one.field-0.0 c.loop-p-test.true c.p-item.is c.loop-p.invariant.evaluated
     c.in_err-evaluate_one.ensures.first)
 
 pub returns-in_err-evaluate_one-clause-no_damage : goal.returns-in_err-evaluate_one-clause-no_damage

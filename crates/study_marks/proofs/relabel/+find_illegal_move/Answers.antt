@@ -59,6 +59,7 @@ loop-place-preserved g t c =
 
 pub returns-clause-whole : goal.returns-clause-whole
 returns-clause-whole g t c _ = (
-  whole-all c.args.position.now c.args.node.now.below c.loop-place.place (omega (arith, c.loop-place-test.false, c.width-count.ensures)) c.loop-place.invariant.0,
+  whole-all c.args.position.now c.args.node.now.below c.loop-place.place (omega (arith, c.loop-place-test.false, c.width-count.ensures))
+      c.loop-place.invariant.0,
   c.loop-place.invariant.1,
 )

@@ -24,5 +24,5 @@ update_faults-requires-clause-off g c =
     (raising-there t c.args.steps.now c.move_up.result c.in_ok-move_up.field-0 c.in_ok-move_up.was c.move_up.ensures.refusal) c.requires
 
 pub returns-in-Some-clause-raised : goal.returns-in-Some-clause-raised
-returns-in-Some-clause-raised g c = c.update_faults.ensures.told ∙ ap evaluation_tree c.in_ok-move_up.ensures.moved
-    ∙ mapped-moved_up (λ (l : NodeLabel). l.told) (plain_tree c.args.tree.now) c.args.steps.now
+returns-in-Some-clause-raised g c = c.update_faults.ensures.evaluated ∙ ap evaluation_tree c.in_ok-move_up.ensures.moved
+    ∙ mapped-moved_up (λ (l : NodeLabel). l.evaluated) (plain_tree c.args.tree.now) c.args.steps.now

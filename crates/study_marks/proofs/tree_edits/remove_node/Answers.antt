@@ -24,5 +24,5 @@ update_faults-requires-clause-off g c =
     (removal-there t c.args.steps.now c.remove.result c.in_ok-remove.field-0 c.in_ok-remove.was c.remove.ensures.refusal) c.requires
 
 pub returns-in-Some-clause-removed : goal.returns-in-Some-clause-removed
-returns-in-Some-clause-removed g c = c.update_faults.ensures.told ∙ ap evaluation_tree c.in_ok-remove.ensures.removed
-    ∙ mapped-without (λ (l : NodeLabel). l.told) (plain_tree c.args.tree.now) c.args.steps.now
+returns-in-Some-clause-removed g c = c.update_faults.ensures.evaluated ∙ ap evaluation_tree c.in_ok-remove.ensures.removed
+    ∙ mapped-without (λ (l : NodeLabel). l.evaluated) (plain_tree c.args.tree.now) c.args.steps.now

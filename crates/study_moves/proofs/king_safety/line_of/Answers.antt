@@ -9,4 +9,5 @@ returns-then-is_slider c x lx =
     rw s (c.between.ensures x lx)
 
 pub returns-else-is_slider : goal.returns-else-is_slider
-returns-else-is_slider c x lx = rw c.empty.ensures (none_unless _ (strictly_between c.args.m.now.at x c.args.k) x (sym c.is_slider.ensures ∙ c.if-is_slider.false))
+returns-else-is_slider c x lx = rw c.empty.ensures (none_unless _ (strictly_between c.args.m.now.at x c.args.k) x (sym c.is_slider.ensures
+    ∙ c.if-is_slider.false))

@@ -20,7 +20,10 @@ loop-man-init c =
     record {
       listed = subst P (sym e) (subst Q (sym c.new-list.ensures) (men_begin c.args.p.now c.men-men.ensures.valid));
       few =
-          let all : most_of c.to_move-side.result (drop 0 c.men-men.result.now) ≡ most_of c.args.p.now.to_move c.args.p.now.men = rw (e, c.to_move-side.ensures) in
+          let all : most_of c.to_move-side.result (drop 0 c.men-men.result.now) ≡ most_of c.args.p.now.to_move c.args.p.now.men = rw (
+            e,
+            c.to_move-side.ensures,
+          ) in
           omega (arith, ap (λ (l : List Move). length l) c.new-list.ensures, all, most_of-valid c.args.p.now c.men-men.ensures.valid);
     }
 
@@ -58,7 +61,8 @@ loop-man-preserved c =
         listed = more (inl (side ∙ w.if-eq.true, rw w.list-is w.add_moves_of.ensures.after))
             c.loop-man.invariant.listed;
         few = rw w.list-is
-            (let mine = most_of-mine c.to_move-side.result c.men-men.result.now i _ c.man-item.result lt c.man-item.is (sym (c.eq.ensures ∙ side_same _ _) ∙ w.if-eq.true) in
+            (let mine = most_of-mine c.to_move-side.result c.men-men.result.now i _ c.man-item.result lt c.man-item.is (sym (c.eq.ensures ∙ side_same _ _)
+            ∙ w.if-eq.true) in
             omega (arith, w.add_moves_of.ensures.few, c.loop-man.invariant.few, mine));
       }
       | else-eq w ↦ record {

@@ -12,7 +12,8 @@ loop-man-init c = men_begin c.args.q.now c.men-men.ensures.valid c.men-men.resul
 pub add_unmoves_of-requires-clause-room : goal.add_unmoves_of-requires-clause-room
 add_unmoves_of-requires-clause-room c =
     let his : same_side c.man-item.result.side (other_side c.args.q.now.to_move) ≡ true =
-    sym (c.eq.ensures ∙ side_same _ _ ∙ ap (λ (s : Side). same_side c.man-item.result.side s) (c.other-side.ensures ∙ ap other_side c.to_move.ensures)) ∙ c.if-eq.true in
+    sym (c.eq.ensures ∙ side_same _ _ ∙ ap (λ (s : Side). same_side c.man-item.result.side s) (c.other-side.ensures ∙ ap other_side c.to_move.ensures))
+    ∙ c.if-eq.true in
     has_room c.args.q.now c.men-men.ensures.valid c.men-men.result.now c.men-men.ensures.value c.loop-man.man-index
     _ c.man-item.result _ c.loop-man-test.true c.man-item.is c.loop-man.invariant his
 

@@ -1,4 +1,4 @@
-use Rattle.std.proofs.Common.{◌≡◌, codes, drop, ap}
+use Rattle.std.proofs.Common.{codes, drop, ap}
 use Rattle.std.proofs.lemmas.Result.{on_ok_weaker}
 use Rattle.study_print.specs.Remarks.{spelled, original_part}
 use Rattle.study_print.proofs.Paragraphs.{three}

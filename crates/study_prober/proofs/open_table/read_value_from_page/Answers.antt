@@ -26,8 +26,8 @@ returns-clause-more g c = λ e h.
     ]
 
 pub returns-in_err-page-clause-whole : goal.returns-in_err-page-clause-whole
-returns-in_err-page-clause-whole g c = λ t honest same complete d n told. c.in_err-page.ensures.whole t honest same
-    complete d n (passed_on c.from_residual.result _ _ c.from_residual.ensures.1 told)
+returns-in_err-page-clause-whole g c = λ t honest same complete d n reported. c.in_err-page.ensures.whole t honest same
+    complete d n (passed_on c.from_residual.result _ _ c.from_residual.ensures.1 reported)
 
 pub returns-clause-read : goal.returns-clause-read
 returns-clause-read g c = (

@@ -2,7 +2,7 @@ use Rattle.std.proofs.Common.{ℕ, List, get_or, inl, inr, sym, ◌∙◌, ap, s
 use Rattle.study_values.specs.Cells.{value_of}
 use Rattle.study_prober.specs.Sources.{IsGivenPage, cells_on_page}
 use Rattle.study_prober.specs.declared.page_cache.PageKey.{PageKey}
-use Rattle.study_prober.proofs.Cells.{page_of_cell, cell_of_page, told_cell}
+use Rattle.study_prober.proofs.Cells.{page_of_cell, cell_of_page, value_of_cell}
 use Rattle.study_prober.proofs.open_table.value_of_number.Goals as goal
 
 pub read_value_from_page-requires-clause-number : goal.read_value_from_page-requires-clause-number
@@ -18,7 +18,7 @@ returns-in-Some-clause-ok g c = λ t honest same kept.
 
 pub returns-in-None-clause-ok : goal.returns-in-None-clause-ok
 returns-in-None-clause-ok g c =
-    λ t honest same kept. told_cell t c.args.number c.read_value_from_page.result
+    λ t honest same kept. value_of_cell t c.args.number c.read_value_from_page.result
     (rw c.page_key-key.ensures at (c.read_value_from_page.ensures.ok t honest same))
 
 pub returns-in-None-clause-more : goal.returns-in-None-clause-more

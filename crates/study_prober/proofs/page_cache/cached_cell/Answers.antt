@@ -43,8 +43,8 @@ returns-clause-used g c =
 pub returns-in_err-page-clause-value : goal.returns-in_err-page-clause-value
 returns-in_err-page-clause-value g c =
     let none : lookup (eq-value.it c.args.key) c.args.pages.now.entries ≡ None = search rules in
-    let told : c.from_residual.result ≡ None = search rules in
-    told ∙ ap (λ o. cell_at (λ v. v.items) c.args.at o) (sym none ∙ ap (λ test. lookup (test c.args.key) c.args.pages.now.entries) keys_compared)
+    let reported : c.from_residual.result ≡ None = search rules in
+    reported ∙ ap (λ o. cell_at (λ v. v.items) c.args.at o) (sym none ∙ ap (λ test. lookup (test c.args.key) c.args.pages.now.entries) keys_compared)
 
 pub returns-clause-value : goal.returns-clause-value
 returns-clause-value g c =

@@ -15,7 +15,7 @@ use Rattle.study_prober.specs.Sources.{IsGivenPage, failed_after}
 use Rattle.study_prober.proofs.GivenPages.{given_after, alike_after, one_held, read_at, unread_at, bad_at}
 use Rattle.study_text.specs.Counts.{counted}
 use Rattle.study_prober.specs.PageCache.{kept_cell}
-use Rattle.study_prober.proofs.ProbedSources.{number_in, told_at, whole_at, count_at, game_at}
+use Rattle.study_prober.proofs.ProbedSources.{number_in, value_at_index, whole_at, count_at, game_at}
 use Rattle.study_values.specs.Number.{cells_of}
 use Rattle.study_index.proofs.ClassLaws.{below, numbered}
 use Rattle.study_prober.proofs.Cells.{page_of_cell}
@@ -52,11 +52,11 @@ returns-in-Some-clause-sources g c = λ d.
     rw c.number-at.ensures.value (same_after g.S.PageSource.honest c.args.sources.now.items c.class_of-class.result.0
     d c.in-Some.held c.value_of_number.new.held is.0 is.1 c.value_of_number.ensures.header c.value_of_number.ensures.same)
 
-pub returns-in-Some-clause-told : goal.returns-in-Some-clause-told
-returns-in-Some-clause-told g c = λ d h t of held honest same.
+pub returns-in-Some-clause-reported : goal.returns-in-Some-clause-reported
+returns-in-Some-clause-reported g c = λ d h t of held honest same.
     let is = held_at c.args.sources.now.items c.class_of-class.result.0 c.number-at.result c.index_mut.result.now
     c.in-Some.held c.number-at.ensures.value (search rules) c.index_mut.ensures.value c.in-Some.is in
-    told_at g.S.PageSource.honest (λ v. v.items) c.args.sources.now.items c.args.pages.now.entries
+    value_at_index g.S.PageSource.honest (λ v. v.items) c.args.sources.now.items c.args.pages.now.entries
     c.class_of-class.result.0 d c.args.p.now c.in-Some.held h t c.index.result c.value_of_number.result c.requires.kept
     is.1 (one_class d c.class_of-class.result.0 c.args.p.now of c.class_of-class.ensures.class) held honest same
     c.index.ensures.value c.value_of_number.ensures.ok
@@ -71,10 +71,10 @@ returns-in-Some-clause-whole g c = λ d h t n of held honest same complete.
     complete c.value_of_number.ensures.whole
 
 pub returns-in-Some-clause-damaged : goal.returns-in-Some-clause-damaged
-returns-in-Some-clause-damaged g c = λ d n told.
+returns-in-Some-clause-damaged g c = λ d n reported.
     let is = held_at c.args.sources.now.items c.class_of-class.result.0 c.number-at.result c.index_mut.result.now
     c.in-Some.held c.number-at.ensures.value (search rules) c.index_mut.ensures.value c.in-Some.is in
-    let at = c.value_of_number.ensures.damaged d n told in
+    let at = c.value_of_number.ensures.damaged d n reported in
     let own : d ≡ c.class_of-class.result.0 = at.0 ∙ (c.requires.kept.header c.class_of-class.result.0 c.in-Some.held is.1).class in
     (subst (λ (x : Class). IsOf x c.args.p.now) (sym own) c.class_of-class.ensures.class, at.1 ∙ ap (λ (m : ℕ). m / 4096) c.index.ensures.value)
 
@@ -184,21 +184,22 @@ returns-in-Some-clause-alike g c = λ d h k was now.
     c.value_of_number.new.held h k is.0 is.1 c.value_of_number.ensures.alike was (rw (← c.number-at.ensures.value) now)
 
 pub returns-in-Some-clause-unread : goal.returns-in-Some-clause-unread
-returns-in-Some-clause-unread g c = λ d h f of was told.
+returns-in-Some-clause-unread g c = λ d h f of was reported.
     let is = held_at c.args.sources.now.items c.class_of-class.result.0 c.number-at.result c.index_mut.result.now
     c.in-Some.held c.number-at.ensures.value (search rules) c.index_mut.ensures.value c.in-Some.is in
     let one = one_held g.S.PageSource.gives c.args.sources.now.items c.class_of-class.result.0 d c.in-Some.held h
     is.1 (one_class d c.class_of-class.result.0 c.args.p.now of c.class_of-class.ensures.class) was in
-    unread_at g.S.PageSource.gives c.in-Some.held h c.index.result (index_of c.args.p.now) f one c.index.ensures.value (c.value_of_number.ensures.unread f told)
+    unread_at g.S.PageSource.gives c.in-Some.held h c.index.result (index_of c.args.p.now) f one c.index.ensures.value
+    (c.value_of_number.ensures.unread f reported)
 
 pub returns-in-Some-clause-not_whole : goal.returns-in-Some-clause-not_whole
-returns-in-Some-clause-not_whole g c = λ d h n was told.
+returns-in-Some-clause-not_whole g c = λ d h n was reported.
     let is = held_at c.args.sources.now.items c.class_of-class.result.0 c.number-at.result c.index_mut.result.now
     c.in-Some.held c.number-at.ensures.value (search rules) c.index_mut.ensures.value c.in-Some.is in
-    let at = c.value_of_number.ensures.damaged d n told in
+    let at = c.value_of_number.ensures.damaged d n reported in
     let own : d ≡ c.class_of-class.result.0 = at.0 ∙ (c.requires.kept.header c.class_of-class.result.0 c.in-Some.held is.1).class in
     let one = one_held g.S.PageSource.gives c.args.sources.now.items c.class_of-class.result.0 d c.in-Some.held h is.1 own was in
-    bad_at g.S.PageSource.gives c.in-Some.held h _ n one (sym at.1) (c.value_of_number.ensures.not_whole d n told)
+    bad_at g.S.PageSource.gives c.in-Some.held h _ n one (sym at.1) (c.value_of_number.ensures.not_whole d n reported)
 
 pub returns-in-Some-clause-once : goal.returns-in-Some-clause-once
 returns-in-Some-clause-once g c = λ d h k of before after unkept.
@@ -212,6 +213,6 @@ returns-in-Some-clause-once g c = λ d h k of before after unkept.
     c.in-Some.held h c.value_of_number.new.held k c.number-at.ensures.value is.0 is.1 here before after (c.value_of_number.ensures.once none)
 
 pub returns-in-Some-clause-inside : goal.returns-in-Some-clause-inside
-returns-in-Some-clause-inside g c = λ d f of told.
+returns-in-Some-clause-inside g c = λ d f of reported.
     let r = numbered d c.args.p.now c.index.result c.men-men.ensures.valid of c.index.ensures.least in
     page_of_cell d (index_of c.args.p.now) (subst (λ n. n < cells_of d) c.index.ensures.value (below d c.index.result r.0 r.1))

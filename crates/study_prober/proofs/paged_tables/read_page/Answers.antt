@@ -37,8 +37,8 @@ returns-in-Some-clause-asked g c =
       give_alike = c.cells.ensures.alike;
     })
 
-pub returns-in-Some-clause-told : goal.returns-in-Some-clause-told
-returns-in-Some-clause-told g c = λ h t was honest of.
+pub returns-in-Some-clause-reported : goal.returns-in-Some-clause-reported
+returns-in-Some-clause-reported g c = λ h t was honest of.
     let is = held_at c.args.sources.now.items c.args.class c.number-at.result c.index_mut.result.now c.in-Some.held c.number-at.ensures.value
     (search rules) c.index_mut.ensures.value c.in-Some.is in
     let one = one_held g.S.PageSource.gives c.args.sources.now.items c.args.class c.args.class c.in-Some.held h is.1 refl was in
@@ -55,8 +55,8 @@ returns-in-Some-clause-whole g c = λ h t was honest of complete.
     (of ∙ sym header.class) complete
 
 pub returns-in-Some-clause-damaged : goal.returns-in-Some-clause-damaged
-returns-in-Some-clause-damaged g c = λ d n told.
+returns-in-Some-clause-damaged g c = λ d n reported.
     let is = held_at c.args.sources.now.items c.args.class c.number-at.result c.index_mut.result.now c.in-Some.held c.number-at.ensures.value
     (search rules) c.index_mut.ensures.value c.in-Some.is in
-    let at = c.cells.ensures.damaged d n told in
+    let at = c.cells.ensures.damaged d n reported in
     (at.0 ∙ (c.requires.headers c.args.class c.in-Some.held is.1).class, at.1)

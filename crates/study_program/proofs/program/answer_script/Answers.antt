@@ -10,5 +10,5 @@ returns g c = (
   HasRun-kept _ _ _ _ _ _ _ _ c.flush.ensures.bytes c.run_over_files-answer.ensures,
   elim c.if-is_err.branch [ then-is_err w ↦ inr w.answer-is | else-is_err w ↦ inl w.answer-is ],
   c.ended.ensures.status,
-  c.ended.ensures.told,
+  c.ended.ensures.reported,
 )

@@ -11,14 +11,16 @@ returns-in_err-write_text-clause-err g c =
 pub returns-in_err-write_text-2-clause-err : goal.returns-in_err-write_text-2-clause-err
 returns-in_err-write_text-2-clause-err g c =
     OnErr-known _ _ (TakesPrefix-second (g.W.Write.contents c.args.out.now) (g.W.Write.contents c.write_text.new.out)
-    (g.W.Write.contents c.write_text-2.new.out) (codes "refused ") (decimal c.args.number ++ (codes " " ++ drop 6 c.args.reply.now)) c.in_ok-write_text.ensures.ok
+    (g.W.Write.contents c.write_text-2.new.out) (codes "refused ") (decimal c.args.number ++ (codes " " ++ drop 6 c.args.reply.now))
+    c.in_ok-write_text.ensures.ok
     (TakesPrefix-first (g.W.Write.contents c.write_text.new.out) (g.W.Write.contents c.write_text-2.new.out) (decimal c.args.number)
     (codes " " ++ drop 6 c.args.reply.now) (rw (c.as_bytes.ensures.value, c.format.ensures.text) at c.in_err-write_text-2.ensures.err)))
 
 pub returns-in_err-write_text-3-clause-err : goal.returns-in_err-write_text-3-clause-err
 returns-in_err-write_text-3-clause-err g c =
     OnErr-known _ _ (TakesPrefix-second (g.W.Write.contents c.args.out.now) (g.W.Write.contents c.write_text.new.out)
-    (g.W.Write.contents c.write_text-3.new.out) (codes "refused ") (decimal c.args.number ++ (codes " " ++ drop 6 c.args.reply.now)) c.in_ok-write_text.ensures.ok
+    (g.W.Write.contents c.write_text-3.new.out) (codes "refused ") (decimal c.args.number ++ (codes " " ++ drop 6 c.args.reply.now))
+    c.in_ok-write_text.ensures.ok
     (TakesPrefix-second (g.W.Write.contents c.write_text.new.out) (g.W.Write.contents c.write_text-2.new.out) (g.W.Write.contents c.write_text-3.new.out)
     (decimal c.args.number) (codes " " ++ drop 6 c.args.reply.now) (rw (c.as_bytes.ensures.value, c.format.ensures.text) at c.in_ok-write_text-2.ensures.ok)
     (TakesPrefix-first (g.W.Write.contents c.write_text-2.new.out) (g.W.Write.contents c.write_text-3.new.out) (codes " ") (drop 6 c.args.reply.now)

@@ -11,7 +11,7 @@ use Rattle.study_script.specs.SessionHolds.{document_seen}
 use Rattle.study_script.specs.Session.{SessionHolds}
 use Rattle.study_script.specs.Stores.{HonestOn}
 use Rattle.study_report.specs.Written.{none_trusted}
-use Rattle.study_report.specs.Told.{line_kind, Entry, entry_at, IsAdded, IsAddedAs, nothing_added, refusal_added, remark_added}
+use Rattle.study_report.specs.Reported.{line_kind, Entry, entry_at, IsAdded, IsAddedAs, nothing_added, refusal_added, remark_added}
 use Rattle.study_report.proofs.LineKinds.{trusted-checked, no-games}
 use Rattle.study_report.proofs.LineAdds.{remark-adds, remark-stops, remark-listed, refusal-adds, refusal-stops}
 use Rattle.study_report.proofs.LineAdds.{adds-weaker, stops-weaker, none-listed, nothing-listed, refusal-listed}
@@ -39,10 +39,10 @@ returns-in-Remark-clause-err g c = λ p held at.
     (remark_added g.T.Report.tells g.T.Report.refusal g.T.Report.remark p c.args.line.now)) kind refl) c.add_remark.ensures.err
 
 pub returns-in-Remark-clause-listed : goal.returns-in-Remark-clause-listed
-returns-in-Remark-clause-listed g c = λ p told held kept.
-    remark-listed (g.T.Report.lists c.add_remark.new.report) c.add_remark.result told c.args.line.now (document_seen c.args.session.now.document)
+returns-in-Remark-clause-listed g c = λ p reported held kept.
+    remark-listed (g.T.Report.lists c.add_remark.new.report) c.add_remark.result reported c.args.line.now (document_seen c.args.session.now.document)
     (entry_at c.args.at) _ (g.W.Write.contents _) (g.W.Write.contents c.add_remark.new.out) c.add_remark.ensures.ok
-    (c.add_remark.ensures.listed told kept)
+    (c.add_remark.ensures.listed reported kept)
 
 pub returns-in-Remark-clause-written : goal.returns-in-Remark-clause-written
 returns-in-Remark-clause-written g c =
@@ -111,9 +111,11 @@ returns-in-Checked-clause-ok g c = λ p held at.
     adds-weaker (IsAddedAs g.T.Report.tells g.T.Report.refusal g.T.Report.remark Checked p c.args.line.now) (IsAdded g.T.Report.tells
     g.T.Report.refusal g.T.Report.remark p c.args.line.now)
     (SessionHolds g.S.Pages.PageSource.honest g.S.Pages.PageSource.gives (HonestOn none_trusted g.S.TableStore.honest) g.S.TableStore.files
-    g.S.TableStore.headers g.S.TableStore.faults c.answer_silently.new.session.document c.answer_silently.new.session.tables c.answer_silently.new.session.store.now)
+    g.S.TableStore.headers g.S.TableStore.faults c.answer_silently.new.session.document c.answer_silently.new.session.tables
+    c.answer_silently.new.session.store.now)
     (SessionHolds g.S.Pages.PageSource.honest g.S.Pages.PageSource.gives (HonestOn none_trusted g.S.TableStore.honest) g.S.TableStore.files
-    g.S.TableStore.headers g.S.TableStore.faults c.answer_silently.new.session.document c.answer_silently.new.session.tables c.answer_silently.new.session.store.now)
+    g.S.TableStore.headers g.S.TableStore.faults c.answer_silently.new.session.document c.answer_silently.new.session.tables
+    c.answer_silently.new.session.store.now)
     c.answer_silently.result (g.W.Write.contents c.args.out.now) (g.W.Write.contents c.answer_silently.new.out)
     (λ a. subst (λ (k : LineKind). IsAddedAs g.T.Report.tells g.T.Report.refusal g.T.Report.remark k p c.args.line.now a) kind) (λ s h. h)
     (c.answer_silently.ensures.ok p (trusted-checked c.args.line.now (sym kind)) held at.0)
@@ -128,28 +130,29 @@ returns-in-Checked-clause-err g c = λ p held at.
     (c.answer_silently.ensures.err p (trusted-checked c.args.line.now (sym kind)) held at.0)
 
 pub returns-in-PassedOver-clause-listed : goal.returns-in-PassedOver-clause-listed
-returns-in-PassedOver-clause-listed g c = λ p told held kept.
+returns-in-PassedOver-clause-listed g c = λ p reported held kept.
     let kind : line_kind c.args.line.now ≡ PassedOver = sym (sym c.in-PassedOver.is ∙ c.kind_of.ensures) in
-    subst (λ (x : List Entry). g.T.Report.lists c.args.report.now (told ++ x)) (sym (no-games c.args.line.now PassedOver (λ e. absurd cc) kind))
-    (nothing-listed (g.T.Report.lists c.args.report.now) told kept)
+    subst (λ (x : List Entry). g.T.Report.lists c.args.report.now (reported ++ x)) (sym (no-games c.args.line.now PassedOver (λ e. absurd cc) kind))
+    (nothing-listed (g.T.Report.lists c.args.report.now) reported kept)
 
 pub returns-in-NoClass-clause-listed : goal.returns-in-NoClass-clause-listed
-returns-in-NoClass-clause-listed g c = λ p told held kept.
-    refusal-listed (g.T.Report.lists c.refuse_line.new.report) c.refuse_line.result told c.args.line.now (document_seen c.args.session.now.document)
+returns-in-NoClass-clause-listed g c = λ p reported held kept.
+    refusal-listed (g.T.Report.lists c.refuse_line.new.report) c.refuse_line.result reported c.args.line.now (document_seen c.args.session.now.document)
     (entry_at c.args.at) _ (g.W.Write.contents _) (g.W.Write.contents c.refuse_line.new.out) c.refuse_line.ensures.ok
-    (c.refuse_line.ensures.listed told kept)
+    (c.refuse_line.ensures.listed reported kept)
 
 pub returns-in-Study-clause-listed : goal.returns-in-Study-clause-listed
-returns-in-Study-clause-listed g c = λ p told held kept.
+returns-in-Study-clause-listed g c = λ p reported held kept.
     let kind : Study ≡ line_kind c.args.line.now = sym c.in-Study.is ∙ c.kind_of.ensures in
-    c.add_pgn.ensures.listed p told (sym kind) held kept
+    c.add_pgn.ensures.listed p reported (sym kind) held kept
 
 pub returns-in-Checked-clause-listed : goal.returns-in-Checked-clause-listed
-returns-in-Checked-clause-listed g c = λ p told held kept.
+returns-in-Checked-clause-listed g c = λ p reported held kept.
     let kind : line_kind c.args.line.now ≡ Checked = sym (sym c.in-Checked.is ∙ c.kind_of.ensures) in
-    none-listed (g.T.Report.lists c.answer_silently.new.report) c.answer_silently.result told c.args.line.now (document_seen c.answer_silently.new.session.document)
+    none-listed (g.T.Report.lists c.answer_silently.new.report) c.answer_silently.result reported c.args.line.now
+    (document_seen c.answer_silently.new.session.document)
     (entry_at c.args.at) (no-games c.args.line.now Checked (λ e. absurd cc) kind)
-    c.answer_silently.ensures.told_none (c.answer_silently.ensures.listed told kept)
+    c.answer_silently.ensures.none_reported (c.answer_silently.ensures.listed reported kept)
 
 pub returns-in-PassedOver-clause-written : goal.returns-in-PassedOver-clause-written
 returns-in-PassedOver-clause-written g c =
@@ -175,7 +178,7 @@ returns-in-Checked-clause-written g c =
     (c.answer_silently.ensures.written (c.args.at.studies + 1))
 
 pub returns-in-NoClass-clause-unlisted : goal.returns-in-NoClass-clause-unlisted
-returns-in-NoClass-clause-unlisted g c = λ told kept. on-err c.refuse_line.result _ (c.refuse_line.ensures.listed told kept)
+returns-in-NoClass-clause-unlisted g c = λ reported kept. on-err c.refuse_line.result _ (c.refuse_line.ensures.listed reported kept)
 
 pub returns-in-Checked-clause-unlisted : goal.returns-in-Checked-clause-unlisted
-returns-in-Checked-clause-unlisted g c = λ told kept. on-err c.answer_silently.result _ (c.answer_silently.ensures.listed told kept)
+returns-in-Checked-clause-unlisted g c = λ reported kept. on-err c.answer_silently.result _ (c.answer_silently.ensures.listed reported kept)

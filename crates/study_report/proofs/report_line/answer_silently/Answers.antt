@@ -2,7 +2,7 @@ use Rattle.study_script.specs.Session.{SessionHolds}
 use Rattle.study_script.specs.Stores.{HonestOn}
 use Rattle.study_report.specs.Written.{none_trusted}
 use Rattle.study_report.specs.declared.line_kind.LineKind.TheVariants.{Checked}
-use Rattle.study_report.specs.Told.{IsAddedAs}
+use Rattle.study_report.specs.Reported.{IsAddedAs}
 use Rattle.study_report.proofs.LineAdds.{checked-refused, replied-adds, replied-stops, checked-nothing, refusal-none}
 use Rattle.study_report.proofs.PartsWritten.{checked-refusal, checked-silent}
 use Rattle.study_report.proofs.report_line.answer_silently.Goals as goal
@@ -11,7 +11,8 @@ pub returns-then-reply-clause-ok : goal.returns-then-reply-clause-ok
 returns-then-reply-clause-ok g c = λ p trust held at. replied-adds g.T.Report.tells g.T.Report.refusal g.T.Report.remark
     (IsAddedAs g.T.Report.tells g.T.Report.refusal g.T.Report.remark Checked p c.args.line.now)
     (SessionHolds g.S.Pages.PageSource.honest g.S.Pages.PageSource.gives (HonestOn none_trusted g.S.TableStore.honest) g.S.TableStore.files
-    g.S.TableStore.headers g.S.TableStore.faults c.reply_in_memory.new.session.document c.reply_in_memory.new.session.tables c.reply_in_memory.new.session.store.now)
+    g.S.TableStore.headers g.S.TableStore.faults c.reply_in_memory.new.session.document c.reply_in_memory.new.session.tables
+    c.reply_in_memory.new.session.store.now)
     p c.args.line.now c.args.number
     c.as_slice-bytes.result.now c.in_ok-reply.reply.refused c.add_refusal.result (g.W.Write.contents c.args.out.now) (g.W.Write.contents c.add_refusal.new.out)
     (checked-refused g.T.Report.tells g.T.Report.refusal g.T.Report.remark p c.args.line.now) at c.if-reply.true
@@ -21,7 +22,8 @@ pub returns-then-reply-clause-err : goal.returns-then-reply-clause-err
 returns-then-reply-clause-err g c = λ p trust held at. replied-stops g.T.Report.tells g.T.Report.refusal g.T.Report.remark
     (IsAddedAs g.T.Report.tells g.T.Report.refusal g.T.Report.remark Checked p c.args.line.now)
     (SessionHolds g.S.Pages.PageSource.honest g.S.Pages.PageSource.gives (HonestOn none_trusted g.S.TableStore.honest) g.S.TableStore.files
-    g.S.TableStore.headers g.S.TableStore.faults c.reply_in_memory.new.session.document c.reply_in_memory.new.session.tables c.reply_in_memory.new.session.store.now)
+    g.S.TableStore.headers g.S.TableStore.faults c.reply_in_memory.new.session.document c.reply_in_memory.new.session.tables
+    c.reply_in_memory.new.session.store.now)
     p c.args.line.now c.args.number
     c.as_slice-bytes.result.now c.in_ok-reply.reply.refused c.add_refusal.result (g.W.Write.contents c.args.out.now) (g.W.Write.contents c.add_refusal.new.out)
     (checked-refused g.T.Report.tells g.T.Report.refusal g.T.Report.remark p c.args.line.now) at c.if-reply.true
@@ -30,13 +32,14 @@ returns-then-reply-clause-err g c = λ p trust held at. replied-stops g.T.Report
 pub returns-clause-ok : goal.returns-clause-ok
 returns-clause-ok g c = λ p trust held at. checked-nothing g.T.Report.tells g.T.Report.refusal g.T.Report.remark
     (SessionHolds g.S.Pages.PageSource.honest g.S.Pages.PageSource.gives (HonestOn none_trusted g.S.TableStore.honest) g.S.TableStore.files
-    g.S.TableStore.headers g.S.TableStore.faults c.reply_in_memory.new.session.document c.reply_in_memory.new.session.tables c.reply_in_memory.new.session.store.now)
+    g.S.TableStore.headers g.S.TableStore.faults c.reply_in_memory.new.session.document c.reply_in_memory.new.session.tables
+    c.reply_in_memory.new.session.store.now)
     p c.args.line.now
     c.in_ok-reply.reply.text.taken.items c.in_ok-reply.reply.refused (g.W.Write.contents c.args.out.now) c.if-reply.false
     (c.in_ok-reply.ensures.ok p.state trust held)
 
-pub returns-then-reply-clause-told_none : goal.returns-then-reply-clause-told_none
-returns-then-reply-clause-told_none g c =
+pub returns-then-reply-clause-none_reported : goal.returns-then-reply-clause-none_reported
+returns-then-reply-clause-none_reported g c =
     refusal-none c.add_refusal.result _ (g.W.Write.contents _) (g.W.Write.contents c.add_refusal.new.out) c.add_refusal.ensures.ok
 
 pub returns-then-reply-clause-written : goal.returns-then-reply-clause-written

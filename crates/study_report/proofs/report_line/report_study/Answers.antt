@@ -1,11 +1,11 @@
-use Rattle.std.proofs.Common.{◌≡◌, ◌+◌, refl, sym, ap, subst, ◌∙◌, inl, inr, arith}
+use Rattle.std.proofs.Common.{◌≡◌, ◌+◌, refl, sym, ap, subst, ◌∙◌, inl, inr}
 use Rattle.std.specs.Prelude.{IfOk, IfErr, codes}
 use Rattle.study_reply.specs.Names.{words_of}
 use Rattle.study_reply.specs.Words.{reply_line}
 use Rattle.study_reply.specs.declared.refusal.Refusal.TheVariants.{OutOfMemory}
 use Rattle.study_script.specs.SessionHolds.{Holds}
 use Rattle.study_script.specs.Replies.{refused}
-use Rattle.study_report.specs.Told.{IsStudyTold, entry_at}
+use Rattle.study_report.specs.Reported.{IsStudyReported, entry_at}
 use Rattle.study_report.specs.Written.{StopsIn}
 use Rattle.study_report.proofs.LineAdds.{RefusalWritten, refusal-adds, refusal-stops, section-adds, section-stops, left-out, refusal-listed, at-next}
 use Rattle.study_report.proofs.PartsWritten.{on-err, no-study, refusal-part, study-in, left-out-part}
@@ -18,7 +18,7 @@ returns-in-Ok-clause-ok g c = λ p s plain held b at. section-adds g.T.Report.te
     (λ t. (t ≡ s) × Holds g.P.PageSource.honest g.P.PageSource.gives c.args.document.now c.add_section.new.tables t)
     p s c.args.line.now
     (entry_at c.args.at) plain (g.W.Write.contents c.args.out.now) (g.W.Write.contents c.add_section.new.out) b (at-next p c.args.at at)
-    (refl, c.add_section.ensures.holds s held) (c.in-Ok.ensures.told s held)
+    (refl, c.add_section.ensures.holds s held) (c.in-Ok.ensures.reported s held)
 
 pub returns-in-Err-Device-clause-err : goal.returns-in-Err-Device-clause-err
 returns-in-Err-Device-clause-err g c = λ p s plain held b at. section-stops g.T.Report.tells g.T.Report.refusal g.T.Report.remark p s c.args.line.now
@@ -28,7 +28,8 @@ returns-in-Err-Device-clause-err g c = λ p s plain held b at. section-stops g.T
 pub returns-in-Err-OutOfMemory-clause-ok : goal.returns-in-Err-OutOfMemory-clause-ok
 returns-in-Err-OutOfMemory-clause-ok g c = λ p s plain held b at.
     let bytes = reply_line (codes "error ") (words_of OutOfMemory) in
-    refusal-adds g.T.Report.tells g.T.Report.refusal g.T.Report.remark (IsStudyTold g.T.Report.tells g.T.Report.refusal g.T.Report.remark p s c.args.line.now)
+    refusal-adds g.T.Report.tells g.T.Report.refusal g.T.Report.remark (IsStudyReported g.T.Report.tells g.T.Report.refusal g.T.Report.remark p s
+    c.args.line.now)
     (λ t. (t ≡ s) × Holds g.P.PageSource.honest g.P.PageSource.gives c.args.document.now c.add_section.new.tables t)
     p c.args.line.now (refused s OutOfMemory) c.args.at.line bytes c.refuse_line-in-Err-OutOfMemory.result
     (g.W.Write.contents c.args.out.now) (g.W.Write.contents c.refuse_line-in-Err-OutOfMemory.new.out) at.0 refl
@@ -42,7 +43,8 @@ returns-in-Err-OutOfMemory-clause-ok g c = λ p s plain held b at.
 pub returns-in-Err-OutOfMemory-clause-err : goal.returns-in-Err-OutOfMemory-clause-err
 returns-in-Err-OutOfMemory-clause-err g c = λ p s plain held b at.
     let bytes = reply_line (codes "error ") (words_of OutOfMemory) in
-    refusal-stops g.T.Report.tells g.T.Report.refusal g.T.Report.remark (IsStudyTold g.T.Report.tells g.T.Report.refusal g.T.Report.remark p s c.args.line.now)
+    refusal-stops g.T.Report.tells g.T.Report.refusal g.T.Report.remark (IsStudyReported g.T.Report.tells g.T.Report.refusal g.T.Report.remark p s
+    c.args.line.now)
     p c.args.line.now (refused s OutOfMemory) c.args.at.line bytes c.refuse_line-in-Err-OutOfMemory.result
     (g.W.Write.contents c.args.out.now) (g.W.Write.contents c.refuse_line-in-Err-OutOfMemory.new.out) at.0 refl
     (left-out g.T.Report.tells g.T.Report.refusal g.T.Report.remark p s c.args.line.now plain OutOfMemory b (inl refl))
@@ -53,7 +55,8 @@ pub returns-in-Err-Values-clause-ok : goal.returns-in-Err-Values-clause-ok
 returns-in-Err-Values-clause-ok g c = λ p s plain held b at.
     let why = c.of_probe.result in
     let bytes = reply_line (codes "error ") (words_of why) in
-    refusal-adds g.T.Report.tells g.T.Report.refusal g.T.Report.remark (IsStudyTold g.T.Report.tells g.T.Report.refusal g.T.Report.remark p s c.args.line.now)
+    refusal-adds g.T.Report.tells g.T.Report.refusal g.T.Report.remark (IsStudyReported g.T.Report.tells g.T.Report.refusal g.T.Report.remark p s
+    c.args.line.now)
     (λ t. (t ≡ s) × Holds g.P.PageSource.honest g.P.PageSource.gives c.args.document.now c.add_section.new.tables t)
     p c.args.line.now (refused s why) c.args.at.line bytes c.refuse_line-in-Err-Values.result
     (g.W.Write.contents c.args.out.now) (g.W.Write.contents c.refuse_line-in-Err-Values.new.out) at.0 refl
@@ -61,33 +64,36 @@ returns-in-Err-Values-clause-ok g c = λ p s plain held b at.
     (inr (c.in-Err-Values.fault, c.in-Err-Values.ensures.why s plain c.in-Err-Values.fault held b cc, c.of_probe.ensures)))
     (refl, c.add_section.ensures.holds s held)
     (subst (λ w. IfOk c.refuse_line-in-Err-Values.result (RefusalWritten (g.T.Report.refusal c.args.at.line c.args.line.now bytes) (g.W.Write.contents w)
-    (g.W.Write.contents c.refuse_line-in-Err-Values.new.out))) (c.in-Err-Values.ensures.untold c.in-Err-Values.fault cc)
+    (g.W.Write.contents c.refuse_line-in-Err-Values.new.out))) (c.in-Err-Values.ensures.no_value c.in-Err-Values.fault cc)
     c.refuse_line-in-Err-Values.ensures.ok)
 
 pub returns-in-Err-Values-clause-err : goal.returns-in-Err-Values-clause-err
 returns-in-Err-Values-clause-err g c = λ p s plain held b at.
     let why = c.of_probe.result in
     let bytes = reply_line (codes "error ") (words_of why) in
-    refusal-stops g.T.Report.tells g.T.Report.refusal g.T.Report.remark (IsStudyTold g.T.Report.tells g.T.Report.refusal g.T.Report.remark p s c.args.line.now)
+    refusal-stops g.T.Report.tells g.T.Report.refusal g.T.Report.remark (IsStudyReported g.T.Report.tells g.T.Report.refusal g.T.Report.remark p s
+    c.args.line.now)
     p c.args.line.now (refused s why) c.args.at.line bytes c.refuse_line-in-Err-Values.result
     (g.W.Write.contents c.args.out.now) (g.W.Write.contents c.refuse_line-in-Err-Values.new.out) at.0 refl
     (left-out g.T.Report.tells g.T.Report.refusal g.T.Report.remark p s c.args.line.now plain why b
     (inr (c.in-Err-Values.fault, c.in-Err-Values.ensures.why s plain c.in-Err-Values.fault held b cc, c.of_probe.ensures)))
     (subst (λ w. IfErr c.refuse_line-in-Err-Values.result (StopsIn (g.T.Report.refusal c.args.at.line c.args.line.now bytes) (g.W.Write.contents w)
-    (g.W.Write.contents c.refuse_line-in-Err-Values.new.out))) (c.in-Err-Values.ensures.untold c.in-Err-Values.fault cc)
+    (g.W.Write.contents c.refuse_line-in-Err-Values.new.out))) (c.in-Err-Values.ensures.no_value c.in-Err-Values.fault cc)
     c.refuse_line-in-Err-Values.ensures.err)
 
 pub returns-in-Err-OutOfMemory-clause-listed : goal.returns-in-Err-OutOfMemory-clause-listed
-returns-in-Err-OutOfMemory-clause-listed g c s told held kept =
-    refusal-listed (g.T.Report.lists c.refuse_line-in-Err-OutOfMemory.new.report) c.refuse_line-in-Err-OutOfMemory.result told c.args.line.now s.document (entry_at c.args.at) _
+returns-in-Err-OutOfMemory-clause-listed g c s reported held kept =
+    refusal-listed (g.T.Report.lists c.refuse_line-in-Err-OutOfMemory.new.report) c.refuse_line-in-Err-OutOfMemory.result reported c.args.line.now s.document
+    (entry_at c.args.at) _
     (g.W.Write.contents _) (g.W.Write.contents c.refuse_line-in-Err-OutOfMemory.new.out) c.refuse_line-in-Err-OutOfMemory.ensures.ok
-    (c.refuse_line-in-Err-OutOfMemory.ensures.listed told (c.in-Err-OutOfMemory.ensures.unlisted told kept))
+    (c.refuse_line-in-Err-OutOfMemory.ensures.listed reported (c.in-Err-OutOfMemory.ensures.unlisted reported kept))
 
 pub returns-in-Err-Values-clause-listed : goal.returns-in-Err-Values-clause-listed
-returns-in-Err-Values-clause-listed g c s told held kept =
-    refusal-listed (g.T.Report.lists c.refuse_line-in-Err-Values.new.report) c.refuse_line-in-Err-Values.result told c.args.line.now s.document (entry_at c.args.at) _
+returns-in-Err-Values-clause-listed g c s reported held kept =
+    refusal-listed (g.T.Report.lists c.refuse_line-in-Err-Values.new.report) c.refuse_line-in-Err-Values.result reported c.args.line.now s.document
+    (entry_at c.args.at) _
     (g.W.Write.contents _) (g.W.Write.contents c.refuse_line-in-Err-Values.new.out) c.refuse_line-in-Err-Values.ensures.ok
-    (c.refuse_line-in-Err-Values.ensures.listed told (c.in-Err-Values.ensures.unlisted told kept))
+    (c.refuse_line-in-Err-Values.ensures.listed reported (c.in-Err-Values.ensures.unlisted reported kept))
 
 pub returns-then-lacks_study-clause-ok : goal.returns-then-lacks_study-clause-ok
 returns-then-lacks_study-clause-ok g c = λ p s plain held b at.
@@ -98,10 +104,10 @@ returns-then-lacks_study-clause-err g c = λ p s plain held b at.
     absurd (no-study (document_seen c.args.document.now) plain (held.document ∙ b) (sym c.lacks_study.ensures ∙ c.if-lacks_study.true))
 
 pub returns-then-lacks_study-clause-listed : goal.returns-then-lacks_study-clause-listed
-returns-then-lacks_study-clause-listed g c s told held kept =
-    refusal-listed (g.T.Report.lists c.refuse_line.new.report) c.refuse_line.result told c.args.line.now s.document (entry_at c.args.at) _
+returns-then-lacks_study-clause-listed g c s reported held kept =
+    refusal-listed (g.T.Report.lists c.refuse_line.new.report) c.refuse_line.result reported c.args.line.now s.document (entry_at c.args.at) _
     (g.W.Write.contents _) (g.W.Write.contents c.refuse_line.new.out) c.refuse_line.ensures.ok
-    (c.refuse_line.ensures.listed told kept)
+    (c.refuse_line.ensures.listed reported kept)
 
 pub returns-then-lacks_study-clause-written : goal.returns-then-lacks_study-clause-written
 returns-then-lacks_study-clause-written g c =
@@ -127,17 +133,17 @@ returns-in-Err-Values-clause-written g c =
     left-out-part g.T.Report.form g.T.Report.refusal g.T.Report.remark c.args.line.now c.args.at.line (c.args.at.studies + 1) c.of_probe.result
     c.refuse_line-in-Err-Values.result
     (g.W.Write.contents c.args.out.now) (g.W.Write.contents c.add_section.new.out) (g.W.Write.contents c.refuse_line-in-Err-Values.new.out)
-    (ap (λ w. g.W.Write.contents w) (c.in-Err-Values.ensures.untold c.in-Err-Values.fault cc)) c.refuse_line-in-Err-Values.ensures.ok
+    (ap (λ w. g.W.Write.contents w) (c.in-Err-Values.ensures.no_value c.in-Err-Values.fault cc)) c.refuse_line-in-Err-Values.ensures.ok
 
 pub returns-then-lacks_study-clause-unlisted : goal.returns-then-lacks_study-clause-unlisted
-returns-then-lacks_study-clause-unlisted g c = λ told kept. on-err c.refuse_line.result _ (c.refuse_line.ensures.listed told kept)
+returns-then-lacks_study-clause-unlisted g c = λ reported kept. on-err c.refuse_line.result _ (c.refuse_line.ensures.listed reported kept)
 
 pub returns-in-Err-OutOfMemory-clause-unlisted : goal.returns-in-Err-OutOfMemory-clause-unlisted
-returns-in-Err-OutOfMemory-clause-unlisted g c = λ told kept.
+returns-in-Err-OutOfMemory-clause-unlisted g c = λ reported kept.
     on-err c.refuse_line-in-Err-OutOfMemory.result _
-    (c.refuse_line-in-Err-OutOfMemory.ensures.listed told (c.in-Err-OutOfMemory.ensures.unlisted told kept))
+    (c.refuse_line-in-Err-OutOfMemory.ensures.listed reported (c.in-Err-OutOfMemory.ensures.unlisted reported kept))
 
 pub returns-in-Err-Values-clause-unlisted : goal.returns-in-Err-Values-clause-unlisted
-returns-in-Err-Values-clause-unlisted g c = λ told kept.
+returns-in-Err-Values-clause-unlisted g c = λ reported kept.
     on-err c.refuse_line-in-Err-Values.result _
-    (c.refuse_line-in-Err-Values.ensures.listed told (c.in-Err-Values.ensures.unlisted told kept))
+    (c.refuse_line-in-Err-Values.ensures.listed reported (c.in-Err-Values.ensures.unlisted reported kept))

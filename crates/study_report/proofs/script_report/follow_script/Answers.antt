@@ -21,7 +21,7 @@ returns-clause-outcome g c = λ classes right held. c.follow_over.ensures.outcom
 })
 
 pub returns-clause-listed : goal.returns-clause-listed
-returns-clause-listed g c = λ classes told right held kept. c.follow_over.ensures.listed (over_tables classes (are_paged c.args.tables)) told (record {
+returns-clause-listed g c = λ classes reported right held kept. c.follow_over.ensures.listed (over_tables classes (are_paged c.args.tables)) reported (record {
   held =
       record {
         document = refl;
@@ -38,18 +38,19 @@ returns-clause-listed g c = λ classes told right held kept. c.follow_over.ensur
 }) kept
 
 pub returns-clause-listed_before : goal.returns-clause-listed_before
-returns-clause-listed_before g c = λ classes told right held kept. c.follow_over.ensures.listed_before (over_tables classes (are_paged c.args.tables)) told (record {
-  held =
-      record {
-        document = refl;
-        marks = tt;
-        values = right;
-        classes = held;
-        paged = refl;
-        faults = λ d f m. refl;
+returns-clause-listed_before g c = λ classes reported right held kept. c.follow_over.ensures.listed_before (over_tables classes (are_paged c.args.tables))
+    reported (record {
+      held =
+          record {
+            document = refl;
+            marks = tt;
+            values = right;
+            classes = held;
+            paged = refl;
+            faults = λ d f m. refl;
+          };
+      seen = record {
+        is_honest = λ d is. absurd cc;
+        known = record { files_known = λ d. refl; headers_known = λ d. refl; faults_known = λ d f. refl };
       };
-  seen = record {
-    is_honest = λ d is. absurd cc;
-    known = record { files_known = λ d. refl; headers_known = λ d. refl; faults_known = λ d f. refl };
-  };
-}) kept
+    }) kept

@@ -12,7 +12,8 @@ pub returns-in_err-write_text-2-clause-err : goal.returns-in_err-write_text-2-cl
 returns-in_err-write_text-2-clause-err g c =
     OnErr-known _ _ (TakesPrefix-second (g.W.Write.contents c.args.out.now) (g.W.Write.contents c.write_text.new.out)
     (g.W.Write.contents c.write_text-2.new.out) c.args.front.now (c.args.back.now ++ 10 ∷ []) c.in_ok-write_text.ensures.ok
-    (TakesPrefix-first (g.W.Write.contents c.write_text.new.out) (g.W.Write.contents c.write_text-2.new.out) c.args.back.now (10 ∷ []) c.in_err-write_text-2.ensures.err))
+    (TakesPrefix-first (g.W.Write.contents c.write_text.new.out) (g.W.Write.contents c.write_text-2.new.out) c.args.back.now (10 ∷ [])
+    c.in_err-write_text-2.ensures.err))
 
 pub returns-clause-err : goal.returns-clause-err
 returns-clause-err g c =

@@ -42,7 +42,8 @@ returns-clause-right g c = λ needs.
     let outer = outside_right held c.args.class c.table-held.ensures.closed ready needs in
     let right = c.solve_cells-filled.ensures.right outer (fits_where c.solve_cells-filled.result.fits c.if-not-filled.false) in
     table_right c.from_cells.result c.args.class c.solve_cells-filled.new.cells (sym (ap (λ (t : Table). t.class) c.from_cells.ensures))
-    (sym (ap (λ (t : Table). t.cells) c.from_cells.ensures ∙ written _ c.solve_cells-filled.new.cells _ (c.solve_cells-filled.auto.cells ∙ c.as_mut_slice.ensures.len))) right
+    (sym (ap (λ (t : Table). t.cells) c.from_cells.ensures ∙ written _ c.solve_cells-filled.new.cells _ (c.solve_cells-filled.auto.cells
+    ∙ c.as_mut_slice.ensures.len))) right
 
 pub returns-clause-deepest_win : goal.returns-clause-deepest_win
 returns-clause-deepest_win g c =

@@ -18,7 +18,7 @@ returns g c = λ needs.
     let held = c.args.tables.now in
     let ready = subst (λ (d : Class). IsReady held d) (sym same) c.requires in
     let right = subst (λ (d : Class). NeedsAreRight held d) (sym same) needs in
-    let told = c.are_right.ensures (outside_right held class c.table-held.ensures.closed ready right) in (
-      λ e. table_right t class c.cells.result.now same c.cells.ensures.value (told.0 e),
-      λ h. told.1 (right_cells t class c.cells.result.now same c.cells.ensures.value h),
+    let encodes = c.are_right.ensures (outside_right held class c.table-held.ensures.closed ready right) in (
+      λ e. table_right t class c.cells.result.now same c.cells.ensures.value (encodes.0 e),
+      λ h. encodes.1 (right_cells t class c.cells.result.now same c.cells.ensures.value h),
     )

@@ -21,7 +21,8 @@ returns-then-not-has_man_in-clause-all c = λ o among g.
     let there : Contains men o = subst (λ (zs : List Man). Contains zs o) (sym c.men-men.ensures.value) among in
     let safe : is_safe_target men c.to_move-side.result c.args.man.now o.at ≡ true = rw (c.men-men.ensures.value, c.to_move-side.ensures) g.0 in
     let none : list_any (λ m. same_side m.side (other_side c.to_move-side.result) && has c.attacks.result m.at) men ≡ false =
-    ap (λ (s : Side). list_any (λ m. same_side m.side s && has c.attacks.result m.at) men) (sym c.other.ensures) ∙ sym c.has_man_in.ensures ∙ c.if-not-has_man_in.true in
+    ap (λ (s : Side). list_any (λ m. same_side m.side s && has c.attacks.result m.at) men) (sym c.other.ensures) ∙ sym c.has_man_in.ensures
+    ∙ c.if-not-has_man_in.true in
     absurd (takes_none men c.to_move-side.result c.args.man.now c.attacks.result c.attacks.ensures none o there
     (All-contains (λ (k : Man). k.at < 64) c.args.at.now.men o c.men-men.ensures.valid.on_board among) safe)
 
@@ -40,7 +41,8 @@ loop-other-preserved c =
           let more : w.push.new.self.items ≡ xs ++ move_to man o.at ∷ [] =
           w.push.ensures.items ∙ ap (λ (m : Move). xs ++ m ∷ []) w.move_to.ensures in
           let legal = goes_legally q c.men-men.ensures.valid men c.men-men.ensures.value c.loop-other.other-index _ o c.loop-other-test.true c.other-item.is
-          c.requires.tells man c.requires.man c.requires.side c.safe_targets-safe.result word c.goes_without_promotion.result c.goes_without_promotion.ensures w.if-goes_without_promotion.true in
+          c.requires.tells man c.requires.man c.requires.side c.safe_targets-safe.result word c.goes_without_promotion.result c.goes_without_promotion.ensures
+          w.if-goes_without_promotion.true in
           record {
             few = (let f = inv.few in omega (arith, f, ap length more));
             only = more_only xs w.push.new.self.items (move_to man o.at) more (λ m. is_legal q m ≡ true) inv.only legal;
@@ -52,7 +54,8 @@ loop-other-preserved c =
           })
       | else-goes_without_promotion w ↦ rw w.list-is (
           let none = goes_not q c.men-men.ensures.valid men c.men-men.ensures.value c.loop-other.other-index _ o c.loop-other-test.true c.other-item.is
-          c.requires.tells man c.requires.man c.requires.side c.safe_targets-safe.result word c.goes_without_promotion.result c.goes_without_promotion.ensures w.if-goes_without_promotion.false in
+          c.requires.tells man c.requires.man c.requires.side c.safe_targets-safe.result word c.goes_without_promotion.result c.goes_without_promotion.ensures
+          w.if-goes_without_promotion.false in
           record {
             few = (let f = inv.few in omega (arith, f));
             only = inv.only;

@@ -6,7 +6,7 @@ use Rattle.study_facts.specs.Continuations.{AreChosen}
 use Rattle.study_facts.specs.Asked.{within}
 use Rattle.study_review.specs.NodeFacts.{besides}
 use Rattle.study_facts.proofs.Asking.{all-then, asks-then, same-asks, no-memory}
-use Rattle.study_review.proofs.NodesTold.{also-told, dual-told, dual-timed}
+use Rattle.study_review.proofs.NodesReported.{also-evaluated, dual-evaluated, dual-timed}
 use Rattle.study_review.proofs.fault_lines.add_dual_lines.Goals as goal
 
 pub add_alternatives-requires-clause-few : goal.add_alternatives-requires-clause-few
@@ -18,7 +18,8 @@ returns-in_err-time-clause-asked g c =
     c.args.values.now c.evaluate_legal_moves.new.values c.add_alternatives.new.values c.from_residual-in_err-time.result
     c.in_ok-evaluate_legal_moves.ensures.asked
     (same-asks (within c.args.step.now.before.position.now g.V.Values.source)
-    c.evaluate_legal_moves.new.values c.add_alternatives.new.values c.from_residual-in_err-time.result c.in_err-time.field-0.0 c.from_residual-in_err-time.ensures.1
+    c.evaluate_legal_moves.new.values c.add_alternatives.new.values c.from_residual-in_err-time.result c.in_err-time.field-0.0
+    c.from_residual-in_err-time.ensures.1
     c.in_err-time.ensures.asked)
 
 pub returns-in_err-add_listed_dual-clause-asked : goal.returns-in_err-add_listed_dual-clause-asked
@@ -30,18 +31,23 @@ returns-in_err-add_listed_dual-clause-asked g c =
 
 pub returns-clause-also : goal.returns-clause-also
 returns-clause-also g c h =
-    also-told (marked c.args.bench.now) c.args.step.now.steps.now c.args.step.now.before.aim.now c.args.step.now.before.depth c.args.step.now.line.now c.args.step.now.before.position.now c.args.step.now.played c.requires.step
-    c.as_slice.result.now c.in_ok-time.time c.args.others c.args.draft.now.nodes c.add_alternatives.new.text c.requires.mark
-    (subst (λ (l : List EvaluatedMove). AreChosen (λ v. true) c.args.step.now.before.position.now (legal_list c.args.step.now.before.position.now) l) (sym c.as_slice.ensures.value) (c.in_ok-evaluate_legal_moves.ensures.game h))
+    also-evaluated (marked c.args.bench.now) c.args.step.now.steps.now c.args.step.now.before.aim.now c.args.step.now.before.depth c.args.step.now.line.now
+    c.args.step.now.before.position.now c.args.step.now.played c.requires.made.step
+    c.as_slice.result.now c.in_ok-time.time c.args.others c.args.draft.now.nodes c.add_alternatives.new.text (sym c.requires.made.mark ∙ c.requires.mark)
+    (subst (λ (l : List EvaluatedMove). AreChosen (λ v. true) c.args.step.now.before.position.now (legal_list c.args.step.now.before.position.now) l)
+    (sym c.as_slice.ensures.value) (c.in_ok-evaluate_legal_moves.ensures.game h))
     (c.in_ok-time.ensures.text (c.in_ok-evaluate_legal_moves.ensures.asked.honest h))
 
 pub returns-clause-fault : goal.returns-clause-fault
 returns-clause-fault g c h =
     let grew = c.in_ok-time.ensures.text (c.in_ok-evaluate_legal_moves.ensures.asked.honest h) in
-    dual-told (marked c.args.bench.now) c.args.step.now.steps.now c.args.step.now.before.aim.now c.args.step.now.before.depth c.args.step.now.line.now c.args.step.now.before.position.now c.args.step.now.played c.requires.step
-    c.as_slice.result.now c.in_ok-time.time c.args.others c.args.value c.args.listed grew.0 c.args.draft.now.faults c.add_listed_dual.new.text
-    c.requires.mark c.requires.value c.requires.listed
-    (subst (λ (l : List EvaluatedMove). AreChosen (λ v. true) c.args.step.now.before.position.now (legal_list c.args.step.now.before.position.now) l) (sym c.as_slice.ensures.value) (c.in_ok-evaluate_legal_moves.ensures.game h))
+    dual-evaluated (marked c.args.bench.now) c.args.step.now.steps.now c.args.step.now.before.aim.now c.args.step.now.before.depth c.args.step.now.line.now
+    c.args.step.now.before.position.now c.args.step.now.played c.requires.made.step
+    c.as_slice.result.now c.in_ok-time.time c.args.others c.args.step.now.mark.value c.args.step.now.solution grew.0 c.args.draft.now.faults
+    c.add_listed_dual.new.text
+    (sym c.requires.made.mark ∙ c.requires.mark) c.requires.made.value c.requires.made.solution
+    (subst (λ (l : List EvaluatedMove). AreChosen (λ v. true) c.args.step.now.before.position.now (legal_list c.args.step.now.before.position.now) l)
+    (sym c.as_slice.ensures.value) (c.in_ok-evaluate_legal_moves.ensures.game h))
     grew.1 c.in_ok-add_listed_dual.ensures
 
 pub returns-clause-asked : goal.returns-clause-asked
@@ -55,12 +61,15 @@ count_alternatives-requires-clause-few g c = omega (arith, c.in_ok-evaluate_lega
 pub returns-clause-time : goal.returns-clause-time
 returns-clause-time g c h =
     let grew = c.in_ok-time.ensures.text (c.in_ok-evaluate_legal_moves.ensures.asked.honest h) in
-    let told = c.as_slice.result.now in
-    let same : c.as_slice-2.result.now ≡ told = c.as_slice-2.ensures.value ∙ sym c.as_slice.ensures.value in
+    let evaluated = c.as_slice.result.now in
+    let same : c.as_slice-2.result.now ≡ evaluated = c.as_slice-2.ensures.value ∙ sym c.as_slice.ensures.value in
     let before = c.args.step.now.before in
-    dual-timed (marked c.args.bench.now) c.args.step.now.steps.now before.aim.now before.depth c.args.step.now.line.now before.position.now c.args.step.now.played c.requires.step
-    told c.in_ok-time.time c.count_alternatives.result c.args.others c.args.listed c.loses_time_alone-alone.result grew.0 c.args.draft.now.time_faults c.count_where-draft.result
-    c.requires.mark c.requires.listed
+    dual-timed (marked c.args.bench.now) c.args.step.now.steps.now before.aim.now before.depth c.args.step.now.line.now before.position.now
+    c.args.step.now.played c.requires.made.step
+    evaluated c.in_ok-time.time c.count_alternatives.result c.args.others c.args.step.now.solution c.loses_time_alone-alone.result grew.0
+    c.args.draft.now.time_faults c.count_where-draft.result
+    (sym c.requires.made.mark ∙ c.requires.mark) c.requires.made.solution
     (c.count_alternatives.ensures.count ∙ ap (λ (l : List EvaluatedMove). length (besides before.aim.now before.depth (c.args.step.now.played ∷ []) l)) same)
-    (subst (λ (l : List EvaluatedMove). AreChosen (λ v. true) before.position.now (legal_list before.position.now) l) (sym c.as_slice.ensures.value) (c.in_ok-evaluate_legal_moves.ensures.game h))
+    (subst (λ (l : List EvaluatedMove). AreChosen (λ v. true) before.position.now (legal_list before.position.now) l) (sym c.as_slice.ensures.value)
+    (c.in_ok-evaluate_legal_moves.ensures.game h))
     grew.1 c.loses_time_alone-alone.ensures c.count_where-draft.ensures

@@ -1,5 +1,5 @@
 use Rattle.study_facts.specs.Asked.{within}
-use Rattle.study_facts.proofs.Asking.{of-told, no-memory}
+use Rattle.study_facts.proofs.Asking.{of-evaluated, no-memory}
 use Rattle.study_review.proofs.node_lines.add_zugzwang.Goals as goal
 
 pub returns-in_ok-add_zugzwang_line-in-Ok-clause-text : goal.returns-in_ok-add_zugzwang_line-in-Ok-clause-text
@@ -10,10 +10,10 @@ pub returns-in_err-add_zugzwang_line-in-Ok-clause-asked : goal.returns-in_err-ad
 returns-in_err-add_zugzwang_line-in-Ok-clause-asked g c =
     no-memory (within c.args.here.now.node.position.now g.V.Values.source)
     c.args.values.now c.zugzwang_at.new.values c.from_residual.result c.from_residual.ensures.1
-    (of-told (within c.args.here.now.node.position.now g.V.Values.source)
-    c.args.values.now c.zugzwang_at.new.values c.in-Ok.ensures.told c.in-Ok.ensures.failures c.zugzwang_at.ensures.honest c.zugzwang_at.ensures.tables)
+    (of-evaluated (within c.args.here.now.node.position.now g.V.Values.source)
+    c.args.values.now c.zugzwang_at.new.values c.in-Ok.ensures.evaluated c.in-Ok.ensures.failures c.zugzwang_at.ensures.honest c.zugzwang_at.ensures.tables)
 
 pub returns-in_ok-add_zugzwang_line-in-Ok-clause-asked : goal.returns-in_ok-add_zugzwang_line-in-Ok-clause-asked
 returns-in_ok-add_zugzwang_line-in-Ok-clause-asked g c =
-    of-told (within c.args.here.now.node.position.now g.V.Values.source)
-    c.args.values.now c.zugzwang_at.new.values c.in-Ok.ensures.told c.in-Ok.ensures.failures c.zugzwang_at.ensures.honest c.zugzwang_at.ensures.tables
+    of-evaluated (within c.args.here.now.node.position.now g.V.Values.source)
+    c.args.values.now c.zugzwang_at.new.values c.in-Ok.ensures.evaluated c.in-Ok.ensures.failures c.zugzwang_at.ensures.honest c.zugzwang_at.ensures.tables

@@ -3,7 +3,7 @@ use Rattle.study_moves.specs.Rules.{is_legal}
 use Rattle.study_facts.specs.Asked.{within}
 use Rattle.study_facts.proofs.Asking.{asks-then}
 use Rattle.study_facts.proofs.Chosen.{all-rest}
-use Rattle.study_review.proofs.ToldMoves.{told-one}
+use Rattle.study_review.proofs.ReportedMoves.{evaluated-one}
 use Rattle.study_review.proofs.probe.+evaluate_moves.Goals as goal
 
 pub evaluate_moves-requires : goal.evaluate_moves-requires
@@ -25,11 +25,13 @@ evaluate_moves-requires g t c κs within =
 
 pub returns-in_ok-push_evaluated-in-Some-clause-game : goal.returns-in_ok-push_evaluated-in-Some-clause-game
 returns-in_ok-push_evaluated-in-Some-clause-game g t c h =
-    told-one c.args.p.now c.in-Some.m.now c.args.moves.now c.in-Some.rest.now c.args.told.now.items c.push_evaluated.new.told.items c.evaluate_moves.new.told.items
+    evaluated-one c.args.p.now c.in-Some.m.now c.args.moves.now c.in-Some.rest.now c.args.evaluated.now.items c.push_evaluated.new.evaluated.items
+    c.evaluate_moves.new.evaluated.items
     c.evaluate_moves.result c.in-Some.ensures.cases.0 (c.in_ok-push_evaluated-in-Some.ensures.game h)
     (c.evaluate_moves.ensures.game (c.in_ok-push_evaluated-in-Some.ensures.asked.honest h))
 
 pub returns-in_ok-push_evaluated-in-Some-clause-asked : goal.returns-in_ok-push_evaluated-in-Some-clause-asked
 returns-in_ok-push_evaluated-in-Some-clause-asked g t c =
     asks-then (within c.args.p.now g.V.Values.source)
-    c.args.values.now c.push_evaluated.new.values c.evaluate_moves.new.values c.evaluate_moves.result c.in_ok-push_evaluated-in-Some.ensures.asked c.evaluate_moves.ensures.asked
+    c.args.values.now c.push_evaluated.new.values c.evaluate_moves.new.values c.evaluate_moves.result c.in_ok-push_evaluated-in-Some.ensures.asked
+    c.evaluate_moves.ensures.asked

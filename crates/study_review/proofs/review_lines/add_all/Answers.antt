@@ -12,7 +12,8 @@ returns-clause-faults g c h =
     let s = marked c.args.bench.now in
     on_ok_weaker c.walk_study.result
     (grew-each _ (FaultLines s) (λ t. t.faults)
-    (λ path a b (k : Grew (FaultLines s path) a.faults b.faults × Rose (IsTimeFault s path) a.time_faults b.time_faults × Grew (NodeLines s path) a.nodes b.nodes). k.0)
+    (λ path a b (k : Grew (FaultLines s path) a.faults b.faults × Rose (IsTimeFault s path) a.time_faults b.time_faults
+    × Grew (NodeLines s path) a.nodes b.nodes). k.0)
     (written_order s) c.args.draft.now c.walk_study.new.findings)
     (c.walk_study.ensures.adds h)
 
@@ -21,7 +22,8 @@ returns-clause-time g c h =
     let s = marked c.args.bench.now in
     on_ok_weaker c.walk_study.result
     (rose-each _ (IsTimeFault s) (λ t. t.time_faults)
-    (λ path a b (k : Grew (FaultLines s path) a.faults b.faults × Rose (IsTimeFault s path) a.time_faults b.time_faults × Grew (NodeLines s path) a.nodes b.nodes). k.1)
+    (λ path a b (k : Grew (FaultLines s path) a.faults b.faults × Rose (IsTimeFault s path) a.time_faults b.time_faults
+    × Grew (NodeLines s path) a.nodes b.nodes). k.1)
     (written_order s) c.args.draft.now c.walk_study.new.findings)
     (c.walk_study.ensures.adds h)
 
@@ -30,6 +32,7 @@ returns-clause-nodes g c h =
     let s = marked c.args.bench.now in
     on_ok_weaker c.walk_study.result
     (grew-each _ (NodeLines s) (λ t. t.nodes)
-    (λ path a b (k : Grew (FaultLines s path) a.faults b.faults × Rose (IsTimeFault s path) a.time_faults b.time_faults × Grew (NodeLines s path) a.nodes b.nodes). k.2)
+    (λ path a b (k : Grew (FaultLines s path) a.faults b.faults × Rose (IsTimeFault s path) a.time_faults b.time_faults
+    × Grew (NodeLines s path) a.nodes b.nodes). k.2)
     (written_order s) c.args.draft.now c.walk_study.new.findings)
     (c.walk_study.ensures.adds h)

@@ -11,10 +11,13 @@ returns-clause-text g c h =
     if-ok (λ (t : List ℕ). t ≡ (c.add_head.new.text ++ c.add_waste.new.text) ++ c.add_all.new.draft.nodes)
     (IsReview (marked c.args.bench.now) c.args.number) c.join.result
     (λ t e.
-    whole (marked c.args.bench.now) c.args.number c.add_all.new.draft.time_faults c.new-head.result c.add_head.new.text c.new-draft.result.faults c.add_all.new.draft.faults
-    c.add_waste.new.text (c.add_head.new.text ++ c.add_waste.new.text) c.new-draft.result.nodes c.add_all.new.draft.nodes t c.new-head.ensures c.new-draft.ensures.faults c.new-draft.ensures.nodes
+    whole (marked c.args.bench.now) c.args.number c.add_all.new.draft.time_faults c.new-head.result c.add_head.new.text c.new-draft.result.faults
+    c.add_all.new.draft.faults
+    c.add_waste.new.text (c.add_head.new.text ++ c.add_waste.new.text) c.new-draft.result.nodes c.add_all.new.draft.nodes t c.new-head.ensures
+    c.new-draft.ensures.faults c.new-draft.ensures.nodes
     c.in_ok-add_head.ensures (c.in_ok-add_all.ensures.faults h)
-    (time-counted (marked c.args.bench.now) c.size-size.result c.new-draft.result.time_faults c.add_all.new.draft.time_faults c.new-draft.ensures.time c.size-size.ensures.size c.size-size.ensures.few
+    (time-counted (marked c.args.bench.now) c.size-size.result c.new-draft.result.time_faults c.add_all.new.draft.time_faults c.new-draft.ensures.time
+    c.size-size.ensures.size c.size-size.ensures.few
     (c.in_ok-add_all.ensures.time h))
     c.in_ok-add_waste.ensures refl (c.in_ok-add_all.ensures.nodes h) e)
     c.join.ensures.text

@@ -19,7 +19,8 @@ returns-in-Study g c = λ s h. executed_weaker
     {K = Holds g.P.PageSource.honest g.P.PageSource.gives (held.Study c.insert_in_study.new.bench) c.insert_in_study.new.tables} c.insert_in_study.result
     (λ o r i. subst (λ (x : Document). IsInsertReply s o x (steps_of c.args.path.now) c.args.san.now r)
     (seen_of g.P.PageSource.honest g.P.PageSource.gives c.args.document.now (held.Study c.in-Study.bench) c.args.tables.now s c.in-Study.is h) i) (λ t m. m)
-    (c.insert_in_study.ensures s (holds_of g.P.PageSource.honest g.P.PageSource.gives c.args.document.now (held.Study c.in-Study.bench) c.args.tables.now s c.in-Study.is h))
+    (c.insert_in_study.ensures s (holds_of g.P.PageSource.honest g.P.PageSource.gives c.args.document.now (held.Study c.in-Study.bench) c.args.tables.now s
+    c.in-Study.is h))
 
 pub returns-in-Empty : goal.returns-in-Empty
 returns-in-Empty g c = λ s h. (

@@ -8,13 +8,13 @@ use Rattle.study_command.specs.Paths.{steps_of}
 use Rattle.study_script.specs.State.{Environment, no_path, study}
 use Rattle.study_script.specs.SessionHolds.{Holds}
 use Rattle.study_script.specs.Replies.{IsMoveReplyAt, IsInsertReply}
-use Rattle.study_script.proofs.Executions.{executed_told}
+use Rattle.study_script.proofs.Executions.{executed_reported}
 use Rattle.study_script.proofs.PlainNodes.{no_path_insert}
 use Rattle.study_script.proofs.InsertReplies.{with_path}
 use Rattle.study_script.proofs.changes.insert_in_study.Goals as goal
 
 pub returns-in-Ok : goal.returns-in-Ok
-returns-in-Ok g c = λ s h. let old = plain_study (marked c.args.bench.now) in executed_told
+returns-in-Ok g c = λ s h. let old = plain_study (marked c.args.bench.now) in executed_reported
     {I = λ (o : Environment). IsMoveReplyAt s o old c.in-Ok.path c.args.san.now (has_spot old.tree c.in-Ok.path)}
     {J = λ (o : Environment). IsInsertReply s o (study old) (steps_of c.args.path.now) c.args.san.now}
     {H = Holds g.P.PageSource.honest g.P.PageSource.gives (held.Study c.insert_at.new.bench) c.insert_at.new.tables}

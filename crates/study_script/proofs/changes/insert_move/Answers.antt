@@ -49,7 +49,7 @@ returns g c = λ s h.
     let m = c.args.by.now in
     let tables = c.args.tables.now in
     let others = c.insert_move.new.tables in
-    let told = insert_refused s (tables_held tables) (are_paged tables) old steps m c.insert_move.result
+    let reported = insert_refused s (tables_held tables) (are_paged tables) old steps m c.insert_move.result
     c.in-Err.refusal h.classes h.paged
     (subst (λ (p : Position). MatchOption (insert_refusal {A = g.row.A.Denot} old steps m)
     (IfErr c.insert_move.result (IsOutside (tables_held tables) (asked_at (after p m))))
@@ -59,9 +59,9 @@ returns g c = λ s h.
     (λ d f. s.shelf.faults d f ≡ true) tables others (asked_at (after (position_at old steps) m)) c.in-Err.refusal h.faults
     (subst (λ (p : Position). TellsFirstFault (tables_source g.P.PageSource.honest g.P.PageSource.gives)
     tables (asked_at (after p m)) others c.in-Err.refusal) (sym (position_at-plain shown steps)) c.in-Err.ensures.first)) in (
-      told.0,
+      reported.0,
       s,
-      told.1,
+      reported.1,
       study_same g.P.PageSource.honest g.P.PageSource.gives c.args.bench.now c.insert_move.new.bench tables others s h
           c.in-Err.ensures.same (c.insert_move.ensures.honest h.values) c.insert_move.ensures.tables
           c.insert_move.ensures.mode c.insert_move.ensures.fails_as_before,

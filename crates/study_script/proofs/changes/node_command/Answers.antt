@@ -25,7 +25,8 @@ pub returns-in-Empty : goal.returns-in-Empty
 returns-in-Empty g c = λ s h. (
   quiet,
   s,
-  subst (λ (x : Document). IsStudyReplyAt s quiet c.args.word x (steps_of c.args.path.now) (refused s NoStudy)) (empty_seen c.args.document.now s c.in-Empty.is h) refl,
+  subst (λ (x : Document). IsStudyReplyAt s quiet c.args.word x (steps_of c.args.path.now) (refused s NoStudy))
+      (empty_seen c.args.document.now s c.in-Empty.is h) refl,
   document_kept c.args.document.now s h,
 )
 
@@ -33,6 +34,7 @@ pub returns-in-Start : goal.returns-in-Start
 returns-in-Start g c = λ s h. (
   quiet,
   s,
-  subst (λ (x : Document). IsStudyReplyAt s quiet c.args.word x (steps_of c.args.path.now) (refused s NoStudy)) (start_seen c.args.document.now c.in-Start.field-0 s c.in-Start.is h) refl,
+  subst (λ (x : Document). IsStudyReplyAt s quiet c.args.word x (steps_of c.args.path.now) (refused s NoStudy))
+      (start_seen c.args.document.now c.in-Start.field-0 s c.in-Start.is h) refl,
   document_kept c.args.document.now s h,
 )

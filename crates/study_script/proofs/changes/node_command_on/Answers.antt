@@ -6,14 +6,14 @@ use Rattle.study_command.specs.Paths.{steps_of}
 use Rattle.study_script.specs.State.{Environment, no_path, study}
 use Rattle.study_script.specs.SessionHolds.{HoldsBenchFrom}
 use Rattle.study_script.specs.Replies.{IsStudyReply, IsStudyReplyAt}
-use Rattle.study_script.proofs.Executions.{executed_told}
+use Rattle.study_script.proofs.Executions.{executed_reported}
 use Rattle.study_script.proofs.HeldBehindReplies.{bench_kept}
 use Rattle.study_script.proofs.PlainNodes.{no_path_word}
 use Rattle.study_script.proofs.InsertReplies.{node_command_on}
 use Rattle.study_script.proofs.changes.node_command_on.Goals as goal
 
 pub returns-in-Ok : goal.returns-in-Ok
-returns-in-Ok g c = λ s h. let old = plain_study (marked c.args.bench.now) in executed_told
+returns-in-Ok g c = λ s h. let old = plain_study (marked c.args.bench.now) in executed_reported
     {I = λ (o : Environment). IsStudyReply s c.args.word old c.in-Ok.path}
     {J = λ (o : Environment). IsStudyReplyAt s o c.args.word (study old) (steps_of c.args.path.now)}
     {H = HoldsBenchFrom s c.node_command_at.new.bench} {K = HoldsBenchFrom s c.node_command_at.new.bench} c.node_command_at.result

@@ -10,7 +10,7 @@ use Rattle.study_script.specs.Replies.{accepted, refused, IsReplyTo, IsReplyWher
 use Rattle.study_script.proofs.Executions.{executed_answered, executed_broken}
 use Rattle.study_script.specs.Stores.{HonestOn, IsTrustedAsk}
 use Rattle.study_script.specs.Session.{SessionHolds}
-use Rattle.study_script.specs.Written.{IsPieceWhere, IsPiece, IsCutOff, silent, error_of}
+use Rattle.study_script.specs.Written.{IsPieceWhere, IsCutOff, silent, error_of}
 use Rattle.study_script.proofs.DonePieces.{answer-written, answer-cut-off}
 use Rattle.study_reply.specs.Names.{words_of}
 use Rattle.study_script.proofs.dispatch.answer.Goals as goal
@@ -55,10 +55,14 @@ pub returns-in-Ok-Some-clause-ok : goal.returns-in-Ok-Some-clause-ok
 returns-in-Ok-Some-clause-ok g c = λ trusted s may d.
     let seen : command_of c.args.line.now ≡ Ok (Some (command_seen c.in-Ok-Some.command)) =
     sym c.read_command.ensures ∙ ap line_seen (c.in-Ok-Some.is ∙ ap Ok c.in-Ok-Some.field-0-is) in
-    subst (λ (x : Asks). IfOk c.write_reply.result (Answered (λ o. IsReplyWhere s o x) (SessionHolds g.S.Pages.PageSource.honest g.S.Pages.PageSource.gives (HonestOn trusted g.S.TableStore.honest) g.S.TableStore.files g.S.TableStore.headers g.S.TableStore.faults
+    subst (λ (x : Asks). IfOk c.write_reply.result
+    (Answered (λ o. IsReplyWhere s o x) (SessionHolds g.S.Pages.PageSource.honest g.S.Pages.PageSource.gives (HonestOn trusted g.S.TableStore.honest)
+    g.S.TableStore.files g.S.TableStore.headers g.S.TableStore.faults
     c.execute-answer.new.document c.execute-answer.new.tables c.execute-answer.new.store)
     (g.W.Write.contents c.args.out.now) (g.W.Write.contents c.write_reply.new.out))) (sym seen)
-    (executed_answered (λ o. IsReplyTo s o (command_seen c.in-Ok-Some.command)) (SessionHolds g.S.Pages.PageSource.honest g.S.Pages.PageSource.gives (HonestOn trusted g.S.TableStore.honest) g.S.TableStore.files g.S.TableStore.headers g.S.TableStore.faults
+    (executed_answered (λ o. IsReplyTo s o (command_seen c.in-Ok-Some.command))
+    (SessionHolds g.S.Pages.PageSource.honest g.S.Pages.PageSource.gives (HonestOn trusted g.S.TableStore.honest) g.S.TableStore.files
+    g.S.TableStore.headers g.S.TableStore.faults
     c.execute-answer.new.document c.execute-answer.new.tables c.execute-answer.new.store)
     c.execute-answer.result c.write_reply.result (g.W.Write.contents c.args.out.now) (g.W.Write.contents c.write_reply.new.out)
     (c.execute-answer.ensures trusted s (subst (λ (x : Asks). IsTrustedAsk trusted x) seen may) d)
@@ -70,7 +74,9 @@ returns-in-Ok-Some-clause-err g c = λ trusted s may d.
     sym c.read_command.ensures ∙ ap line_seen (c.in-Ok-Some.is ∙ ap Ok c.in-Ok-Some.field-0-is) in
     subst (λ (x : Asks). OnErr c.write_reply.result (BrokenOff (λ o. IsReplyWhere s o x)
     (g.W.Write.contents c.args.out.now) (g.W.Write.contents c.write_reply.new.out))) (sym seen)
-    (executed_broken (λ o. IsReplyTo s o (command_seen c.in-Ok-Some.command)) (SessionHolds g.S.Pages.PageSource.honest g.S.Pages.PageSource.gives (HonestOn trusted g.S.TableStore.honest) g.S.TableStore.files g.S.TableStore.headers g.S.TableStore.faults
+    (executed_broken (λ o. IsReplyTo s o (command_seen c.in-Ok-Some.command))
+    (SessionHolds g.S.Pages.PageSource.honest g.S.Pages.PageSource.gives (HonestOn trusted g.S.TableStore.honest) g.S.TableStore.files
+    g.S.TableStore.headers g.S.TableStore.faults
     c.execute-answer.new.document c.execute-answer.new.tables c.execute-answer.new.store)
     c.execute-answer.result c.write_reply.result (g.W.Write.contents c.args.out.now) (g.W.Write.contents c.write_reply.new.out)
     (c.execute-answer.ensures trusted s (subst (λ (x : Asks). IsTrustedAsk trusted x) seen may) d)

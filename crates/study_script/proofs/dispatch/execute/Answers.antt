@@ -16,21 +16,27 @@ pub returns-in-FromFen : goal.returns-in-FromFen
 returns-in-FromFen g c = λ trusted s may d. executed_kept {I = λ (o : Environment). IsReplyTo s o (fen_command c.in-FromFen.word c.in-FromFen.fen.now)}
     {J = λ (o : Environment). IsReplyTo s o (command_seen c.args.command.now)}
     {H = Holds g.S.Pages.PageSource.honest g.S.Pages.PageSource.gives c.fen_command.new.document c.fen_command.new.tables}
-    {K = SessionHolds g.S.Pages.PageSource.honest g.S.Pages.PageSource.gives (HonestOn trusted g.S.TableStore.honest) g.S.TableStore.files g.S.TableStore.headers g.S.TableStore.faults
+    {K = SessionHolds g.S.Pages.PageSource.honest g.S.Pages.PageSource.gives (HonestOn trusted g.S.TableStore.honest) g.S.TableStore.files
+    g.S.TableStore.headers g.S.TableStore.faults
     c.fen_command.new.document c.fen_command.new.tables c.args.store.now} c.fen_command.result
     (λ o r i. subst (λ (x : Asked). IsReplyTo s o x r) (sym (ap command_seen c.in-FromFen.is)) i)
-    (λ o r i h. session_edited g.S.Pages.PageSource.honest g.S.Pages.PageSource.gives (HonestOn trusted g.S.TableStore.honest) g.S.TableStore.files g.S.TableStore.headers g.S.TableStore.faults
-    c.args.document.now c.fen_command.new.document c.args.tables.now c.fen_command.new.tables c.args.store.now s r.state d (start_beside s c.in-FromFen.word s.document (start_of c.in-FromFen.fen.now) o r i) h)
+    (λ o r i h. session_edited g.S.Pages.PageSource.honest g.S.Pages.PageSource.gives (HonestOn trusted g.S.TableStore.honest) g.S.TableStore.files
+    g.S.TableStore.headers g.S.TableStore.faults
+    c.args.document.now c.fen_command.new.document c.args.tables.now c.fen_command.new.tables c.args.store.now s r.state d
+    (start_beside s c.in-FromFen.word s.document (start_of c.in-FromFen.fen.now) o r i) h)
     (c.fen_command.ensures s d.held)
 
 pub returns-in-Query : goal.returns-in-Query
-returns-in-Query g c = λ trusted s may d. executed_kept {I = λ (o : Environment). IsReplyTo s o (node_query c.in-Query.word (steps_of c.in-Query.path.word.now))}
+returns-in-Query g c = λ trusted s may d. executed_kept
+    {I = λ (o : Environment). IsReplyTo s o (node_query c.in-Query.word (steps_of c.in-Query.path.word.now))}
     {J = λ (o : Environment). IsReplyTo s o (command_seen c.args.command.now)}
     {H = HoldsFrom {A = g.row.A.Denot} s c.args.document.now}
-    {K = SessionHolds g.S.Pages.PageSource.honest g.S.Pages.PageSource.gives (HonestOn trusted g.S.TableStore.honest) g.S.TableStore.files g.S.TableStore.headers g.S.TableStore.faults
+    {K = SessionHolds g.S.Pages.PageSource.honest g.S.Pages.PageSource.gives (HonestOn trusted g.S.TableStore.honest) g.S.TableStore.files
+    g.S.TableStore.headers g.S.TableStore.faults
     c.args.document.now c.args.tables.now c.args.store.now} c.node_query.result
     (λ o r i. subst (λ (x : Asked). IsReplyTo s o x r) (sym (ap command_seen c.in-Query.is)) i)
-    (λ o r i h. session_document g.S.Pages.PageSource.honest g.S.Pages.PageSource.gives (HonestOn trusted g.S.TableStore.honest) g.S.TableStore.files g.S.TableStore.headers g.S.TableStore.faults
+    (λ o r i h. session_document g.S.Pages.PageSource.honest g.S.Pages.PageSource.gives (HonestOn trusted g.S.TableStore.honest) g.S.TableStore.files
+    g.S.TableStore.headers g.S.TableStore.faults
     c.args.document.now c.args.document.now c.args.tables.now c.args.store.now s r.state d h)
     (c.node_query.ensures s (document_held g.S.Pages.PageSource.honest g.S.Pages.PageSource.gives c.args.document.now c.args.tables.now s d.held))
 
@@ -38,10 +44,12 @@ pub returns-in-Node : goal.returns-in-Node
 returns-in-Node g c = λ trusted s may d. executed_kept {I = λ (o : Environment). IsReplyTo s o (node_command c.in-Node.word (steps_of c.in-Node.path.word.now))}
     {J = λ (o : Environment). IsReplyTo s o (command_seen c.args.command.now)}
     {H = HoldsFrom {A = g.row.A.Denot} s c.node_command.new.document}
-    {K = SessionHolds g.S.Pages.PageSource.honest g.S.Pages.PageSource.gives (HonestOn trusted g.S.TableStore.honest) g.S.TableStore.files g.S.TableStore.headers g.S.TableStore.faults
+    {K = SessionHolds g.S.Pages.PageSource.honest g.S.Pages.PageSource.gives (HonestOn trusted g.S.TableStore.honest) g.S.TableStore.files
+    g.S.TableStore.headers g.S.TableStore.faults
     c.node_command.new.document c.args.tables.now c.args.store.now} c.node_command.result
     (λ o r i. subst (λ (x : Asked). IsReplyTo s o x r) (sym (ap command_seen c.in-Node.is)) i)
-    (λ o r i h. session_document g.S.Pages.PageSource.honest g.S.Pages.PageSource.gives (HonestOn trusted g.S.TableStore.honest) g.S.TableStore.files g.S.TableStore.headers g.S.TableStore.faults
+    (λ o r i h. session_document g.S.Pages.PageSource.honest g.S.Pages.PageSource.gives (HonestOn trusted g.S.TableStore.honest) g.S.TableStore.files
+    g.S.TableStore.headers g.S.TableStore.faults
     c.args.document.now c.node_command.new.document c.args.tables.now c.args.store.now s r.state d h)
     (c.node_command.ensures s (document_held g.S.Pages.PageSource.honest g.S.Pages.PageSource.gives c.args.document.now c.args.tables.now s d.held))
 
@@ -50,10 +58,12 @@ returns-in-Table g c = λ trusted s may d. executed_kept {I = λ (o : Environmen
     {J = λ (o : Environment). IsReplyTo s o (command_seen c.args.command.now)}
     {H = λ (t : State). TablesFrom g.S.Pages.PageSource.honest g.S.Pages.PageSource.gives s c.table_command.new.tables t
     × StoreSeen (HonestOn trusted g.S.TableStore.honest) g.S.TableStore.files g.S.TableStore.headers g.S.TableStore.faults c.table_command.new.store t}
-    {K = SessionHolds g.S.Pages.PageSource.honest g.S.Pages.PageSource.gives (HonestOn trusted g.S.TableStore.honest) g.S.TableStore.files g.S.TableStore.headers g.S.TableStore.faults
+    {K = SessionHolds g.S.Pages.PageSource.honest g.S.Pages.PageSource.gives (HonestOn trusted g.S.TableStore.honest) g.S.TableStore.files
+    g.S.TableStore.headers g.S.TableStore.faults
     c.args.document.now c.table_command.new.tables c.table_command.new.store} c.table_command.result
     (λ o r i. subst (λ (x : Asked). IsReplyTo s o x r) (sym (ap command_seen c.in-Table.is)) i)
-    (λ o r i h. session_class g.S.Pages.PageSource.honest g.S.Pages.PageSource.gives (HonestOn trusted g.S.TableStore.honest) g.S.TableStore.files g.S.TableStore.headers g.S.TableStore.faults
+    (λ o r i h. session_class g.S.Pages.PageSource.honest g.S.Pages.PageSource.gives (HonestOn trusted g.S.TableStore.honest) g.S.TableStore.files
+    g.S.TableStore.headers g.S.TableStore.faults
     c.args.document.now c.args.tables.now c.table_command.new.tables c.args.store.now c.table_command.new.store s r.state d h)
     (c.table_command.ensures trusted s (subst (λ (x : Asked). IsTrustedAsked trusted x) (ap command_seen c.in-Table.is) may)
     (tables_there g.S.Pages.PageSource.honest g.S.Pages.PageSource.gives c.args.document.now c.args.tables.now s d.held) d.seen)
@@ -62,43 +72,55 @@ pub returns-in-Stipulate : goal.returns-in-Stipulate
 returns-in-Stipulate g c = λ trusted s may d. executed_kept {I = λ (o : Environment). IsReplyTo s o (stipulate c.in-Stipulate.stipulation)}
     {J = λ (o : Environment). IsReplyTo s o (command_seen c.args.command.now)}
     {H = Holds g.S.Pages.PageSource.honest g.S.Pages.PageSource.gives c.stipulate.new.document c.stipulate.new.tables}
-    {K = SessionHolds g.S.Pages.PageSource.honest g.S.Pages.PageSource.gives (HonestOn trusted g.S.TableStore.honest) g.S.TableStore.files g.S.TableStore.headers g.S.TableStore.faults
+    {K = SessionHolds g.S.Pages.PageSource.honest g.S.Pages.PageSource.gives (HonestOn trusted g.S.TableStore.honest) g.S.TableStore.files
+    g.S.TableStore.headers g.S.TableStore.faults
     c.stipulate.new.document c.stipulate.new.tables c.args.store.now} c.stipulate.result
     (λ o r i. subst (λ (x : Asked). IsReplyTo s o x r) (sym (ap command_seen c.in-Stipulate.is)) i)
-    (λ o r i h. session_edited g.S.Pages.PageSource.honest g.S.Pages.PageSource.gives (HonestOn trusted g.S.TableStore.honest) g.S.TableStore.files g.S.TableStore.headers g.S.TableStore.faults
-    c.args.document.now c.stipulate.new.document c.args.tables.now c.stipulate.new.tables c.args.store.now s r.state d (stipulate_beside s s.document c.in-Stipulate.stipulation o r i) h)
+    (λ o r i h. session_edited g.S.Pages.PageSource.honest g.S.Pages.PageSource.gives (HonestOn trusted g.S.TableStore.honest) g.S.TableStore.files
+    g.S.TableStore.headers g.S.TableStore.faults
+    c.args.document.now c.stipulate.new.document c.args.tables.now c.stipulate.new.tables c.args.store.now s r.state d
+    (stipulate_beside s s.document c.in-Stipulate.stipulation o r i) h)
     (c.stipulate.ensures s d.held)
 
 pub returns-in-Insert : goal.returns-in-Insert
-returns-in-Insert g c = λ trusted s may d. executed_kept {I = λ (o : Environment). IsReplyTo s o (insert (steps_of c.in-Insert.path.word.now) c.in-Insert.san.now)}
+returns-in-Insert g c = λ trusted s may d. executed_kept
+    {I = λ (o : Environment). IsReplyTo s o (insert (steps_of c.in-Insert.path.word.now) c.in-Insert.san.now)}
     {J = λ (o : Environment). IsReplyTo s o (command_seen c.args.command.now)}
     {H = Holds g.S.Pages.PageSource.honest g.S.Pages.PageSource.gives c.insert.new.document c.insert.new.tables}
-    {K = SessionHolds g.S.Pages.PageSource.honest g.S.Pages.PageSource.gives (HonestOn trusted g.S.TableStore.honest) g.S.TableStore.files g.S.TableStore.headers g.S.TableStore.faults
+    {K = SessionHolds g.S.Pages.PageSource.honest g.S.Pages.PageSource.gives (HonestOn trusted g.S.TableStore.honest) g.S.TableStore.files
+    g.S.TableStore.headers g.S.TableStore.faults
     c.insert.new.document c.insert.new.tables c.args.store.now} c.insert.result
     (λ o r i. subst (λ (x : Asked). IsReplyTo s o x r) (sym (ap command_seen c.in-Insert.is)) i)
-    (λ o r i h. session_edited g.S.Pages.PageSource.honest g.S.Pages.PageSource.gives (HonestOn trusted g.S.TableStore.honest) g.S.TableStore.files g.S.TableStore.headers g.S.TableStore.faults
-    c.args.document.now c.insert.new.document c.args.tables.now c.insert.new.tables c.args.store.now s r.state d (insert_beside s s.document (steps_of c.in-Insert.path.word.now) c.in-Insert.san.now o r i) h)
+    (λ o r i h. session_edited g.S.Pages.PageSource.honest g.S.Pages.PageSource.gives (HonestOn trusted g.S.TableStore.honest) g.S.TableStore.files
+    g.S.TableStore.headers g.S.TableStore.faults
+    c.args.document.now c.insert.new.document c.args.tables.now c.insert.new.tables c.args.store.now s r.state d
+    (insert_beside s s.document (steps_of c.in-Insert.path.word.now) c.in-Insert.san.now o r i) h)
     (c.insert.ensures s d.held)
 
 pub returns-in-Tag : goal.returns-in-Tag
 returns-in-Tag g c = λ trusted s may d. executed_kept {I = λ (o : Environment). IsReplyTo s o (tag c.in-Tag.name c.in-Tag.text.now)}
     {J = λ (o : Environment). IsReplyTo s o (command_seen c.args.command.now)}
     {H = HoldsFrom {A = g.row.A.Denot} s c.set_tag.new.document}
-    {K = SessionHolds g.S.Pages.PageSource.honest g.S.Pages.PageSource.gives (HonestOn trusted g.S.TableStore.honest) g.S.TableStore.files g.S.TableStore.headers g.S.TableStore.faults
+    {K = SessionHolds g.S.Pages.PageSource.honest g.S.Pages.PageSource.gives (HonestOn trusted g.S.TableStore.honest) g.S.TableStore.files
+    g.S.TableStore.headers g.S.TableStore.faults
     c.set_tag.new.document c.args.tables.now c.args.store.now} c.set_tag.result
     (λ o r i. subst (λ (x : Asked). IsReplyTo s o x r) (sym (ap command_seen c.in-Tag.is)) i)
-    (λ o r i h. session_document g.S.Pages.PageSource.honest g.S.Pages.PageSource.gives (HonestOn trusted g.S.TableStore.honest) g.S.TableStore.files g.S.TableStore.headers g.S.TableStore.faults
+    (λ o r i h. session_document g.S.Pages.PageSource.honest g.S.Pages.PageSource.gives (HonestOn trusted g.S.TableStore.honest) g.S.TableStore.files
+    g.S.TableStore.headers g.S.TableStore.faults
     c.args.document.now c.set_tag.new.document c.args.tables.now c.args.store.now s r.state d h)
     (c.set_tag.ensures s (document_held g.S.Pages.PageSource.honest g.S.Pages.PageSource.gives c.args.document.now c.args.tables.now s d.held))
 
 pub returns-in-Solve : goal.returns-in-Solve
-returns-in-Solve g c = λ trusted s may d. executed_kept {I = λ (o : Environment). IsReplyTo s o (solve c.in-Solve.count.number (steps_of c.in-Solve.path.word.now))}
+returns-in-Solve g c = λ trusted s may d. executed_kept
+    {I = λ (o : Environment). IsReplyTo s o (solve c.in-Solve.count.number (steps_of c.in-Solve.path.word.now))}
     {J = λ (o : Environment). IsReplyTo s o (command_seen c.args.command.now)}
     {H = HoldsFrom {A = g.row.A.Denot} s c.args.document.now}
-    {K = SessionHolds g.S.Pages.PageSource.honest g.S.Pages.PageSource.gives (HonestOn trusted g.S.TableStore.honest) g.S.TableStore.files g.S.TableStore.headers g.S.TableStore.faults
+    {K = SessionHolds g.S.Pages.PageSource.honest g.S.Pages.PageSource.gives (HonestOn trusted g.S.TableStore.honest) g.S.TableStore.files
+    g.S.TableStore.headers g.S.TableStore.faults
     c.args.document.now c.args.tables.now c.args.store.now} c.solve_at.result
     (λ o r i. subst (λ (x : Asked). IsReplyTo s o x r) (sym (ap command_seen c.in-Solve.is)) i)
-    (λ o r i h. session_document g.S.Pages.PageSource.honest g.S.Pages.PageSource.gives (HonestOn trusted g.S.TableStore.honest) g.S.TableStore.files g.S.TableStore.headers g.S.TableStore.faults
+    (λ o r i h. session_document g.S.Pages.PageSource.honest g.S.Pages.PageSource.gives (HonestOn trusted g.S.TableStore.honest) g.S.TableStore.files
+    g.S.TableStore.headers g.S.TableStore.faults
     c.args.document.now c.args.document.now c.args.tables.now c.args.store.now s r.state d h)
     (c.solve_at.ensures s (document_held g.S.Pages.PageSource.honest g.S.Pages.PageSource.gives c.args.document.now c.args.tables.now s d.held))
 
@@ -106,9 +128,11 @@ pub returns-in-Pgn : goal.returns-in-Pgn
 returns-in-Pgn g c = λ trusted s may d. executed_kept {I = λ (o : Environment). IsReplyTo s o (pgn)}
     {J = λ (o : Environment). IsReplyTo s o (command_seen c.args.command.now)}
     {H = HoldsFrom {A = g.row.A.Denot} s c.args.document.now}
-    {K = SessionHolds g.S.Pages.PageSource.honest g.S.Pages.PageSource.gives (HonestOn trusted g.S.TableStore.honest) g.S.TableStore.files g.S.TableStore.headers g.S.TableStore.faults
+    {K = SessionHolds g.S.Pages.PageSource.honest g.S.Pages.PageSource.gives (HonestOn trusted g.S.TableStore.honest) g.S.TableStore.files
+    g.S.TableStore.headers g.S.TableStore.faults
     c.args.document.now c.args.tables.now c.args.store.now} c.pgn.result
     (λ o r i. subst (λ (x : Asked). IsReplyTo s o x r) (sym (ap command_seen c.in-Pgn.is)) i)
-    (λ o r i h. session_document g.S.Pages.PageSource.honest g.S.Pages.PageSource.gives (HonestOn trusted g.S.TableStore.honest) g.S.TableStore.files g.S.TableStore.headers g.S.TableStore.faults
+    (λ o r i h. session_document g.S.Pages.PageSource.honest g.S.Pages.PageSource.gives (HonestOn trusted g.S.TableStore.honest) g.S.TableStore.files
+    g.S.TableStore.headers g.S.TableStore.faults
     c.args.document.now c.args.document.now c.args.tables.now c.args.store.now s r.state d h)
     (c.pgn.ensures s (document_held g.S.Pages.PageSource.honest g.S.Pages.PageSource.gives c.args.document.now c.args.tables.now s d.held))

@@ -27,14 +27,14 @@ returns-in-Err g c = λ s h.
     let asked = asked_at c.args.start.position in
     let new = new_study c.args.start c.args.stipulation.now in
     let tables = c.args.tables.now in
-    let told = refused_asking g.row.A.Denot s (tables_held tables) (are_paged tables) asked new (stipulation_words c.args.stipulation.now)
+    let reported = refused_asking g.row.A.Denot s (tables_held tables) (are_paged tables) asked new (stipulation_words c.args.stipulation.now)
     c.in-Err.refusal h.classes h.paged c.in-Err.ensures.refusal c.in-Err.ensures.device
     (c.in-Err.ensures.no_damage h.values) c.in-Err.ensures.takes_no_memory
     (failing_known (tables_source g.P.PageSource.honest g.P.PageSource.gives)
     (λ d f. s.shelf.faults d f ≡ true) tables c.new_bench.new.tables asked c.in-Err.refusal h.faults c.in-Err.ensures.first) in (
-      told.0,
+      reported.0,
       s,
-      told.1,
+      reported.1,
       document_same g.P.PageSource.honest g.P.PageSource.gives c.args.document.now tables c.new_bench.new.tables s h (c.new_bench.ensures.honest h.values)
           c.new_bench.ensures.tables c.new_bench.ensures.mode c.new_bench.ensures.fails_as_before,
     )

@@ -20,13 +20,15 @@ returns-in-Study g c = λ s h. executed_weaker
     {K = Holds g.P.PageSource.honest g.P.PageSource.gives (held.Study c.reposition.new.bench) c.reposition.new.tables} c.reposition.result
     (λ o r i. subst (λ (x : Document). IsPositionReply s o x c.args.start r)
     (seen_of g.P.PageSource.honest g.P.PageSource.gives c.args.document.now (held.Study c.in-Study.bench) c.args.tables.now s c.in-Study.is h) i) (λ t m. m)
-    (c.reposition.ensures s (holds_of g.P.PageSource.honest g.P.PageSource.gives c.args.document.now (held.Study c.in-Study.bench) c.args.tables.now s c.in-Study.is h))
+    (c.reposition.ensures s (holds_of g.P.PageSource.honest g.P.PageSource.gives c.args.document.now (held.Study c.in-Study.bench) c.args.tables.now s
+    c.in-Study.is h))
 
 pub returns-in-Empty : goal.returns-in-Empty
 returns-in-Empty g c = λ s h. rw c.set_bare_start.ensures.reply (
   quiet,
   record s { document = start c.args.start },
-  subst (λ (x : Document). IsPositionReply s quiet x c.args.start (accepted (record s { document = start c.args.start }) (reply_line (codes "position ") (fen_text c.args.start))))
+  subst (λ (x : Document). IsPositionReply s quiet x c.args.start
+      (accepted (record s { document = start c.args.start }) (reply_line (codes "position ") (fen_text c.args.start))))
       (seen_of g.P.PageSource.honest g.P.PageSource.gives c.args.document.now held.Empty c.args.tables.now s c.in-Empty.is h) refl,
   start_held g.P.PageSource.honest g.P.PageSource.gives c.args.document.now c.set_bare_start.new.document c.args.tables.now s c.args.start
       c.set_bare_start.ensures.held h,
@@ -36,7 +38,9 @@ pub returns-in-Start : goal.returns-in-Start
 returns-in-Start g c = λ s h. rw c.set_bare_start-in-Start.ensures.reply (
   quiet,
   record s { document = start c.args.start },
-  subst (λ (x : Document). IsPositionReply s quiet x c.args.start (accepted (record s { document = start c.args.start }) (reply_line (codes "position ") (fen_text c.args.start))))
+  subst (λ (x : Document). IsPositionReply s quiet x c.args.start
+      (accepted (record s { document = start c.args.start }) (reply_line (codes "position ") (fen_text c.args.start))))
       (seen_of g.P.PageSource.honest g.P.PageSource.gives c.args.document.now (held.Start c.in-Start.field-0) c.args.tables.now s c.in-Start.is h) refl,
-  start_held g.P.PageSource.honest g.P.PageSource.gives c.args.document.now c.set_bare_start-in-Start.new.document c.args.tables.now s c.args.start c.set_bare_start-in-Start.ensures.held h,
+  start_held g.P.PageSource.honest g.P.PageSource.gives c.args.document.now c.set_bare_start-in-Start.new.document c.args.tables.now s c.args.start
+      c.set_bare_start-in-Start.ensures.held h,
 )

@@ -20,7 +20,8 @@ returns-in-Study g c = λ s h. executed_weaker
     {K = Holds g.P.PageSource.honest g.P.PageSource.gives (held.Study c.shift_study.new.bench) c.shift_study.new.tables} c.shift_study.result
     (λ o r i. subst (λ (x : Document). IsStartReply s o Shift x (start_of c.args.fen.now) r)
     (seen_of g.P.PageSource.honest g.P.PageSource.gives c.args.document.now (held.Study c.in-Study.bench) c.args.tables.now s c.in-Study.is h) i) (λ t m. m)
-    (c.shift_study.ensures s (holds_of g.P.PageSource.honest g.P.PageSource.gives c.args.document.now (held.Study c.in-Study.bench) c.args.tables.now s c.in-Study.is h))
+    (c.shift_study.ensures s (holds_of g.P.PageSource.honest g.P.PageSource.gives c.args.document.now (held.Study c.in-Study.bench) c.args.tables.now s
+    c.in-Study.is h))
 
 pub returns-in-Empty : goal.returns-in-Empty
 returns-in-Empty g c = λ s h. (

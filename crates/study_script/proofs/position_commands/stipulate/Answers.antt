@@ -41,5 +41,7 @@ returns-in-Start g c = λ s h. executed_weaker
     {H = Holds g.P.PageSource.honest g.P.PageSource.gives c.make_study.new.document c.make_study.new.tables}
     {K = Holds g.P.PageSource.honest g.P.PageSource.gives c.make_study.new.document c.make_study.new.tables} c.make_study.result
     (λ o r i. subst (λ (x : Document). IsStipulateReply s o x c.args.stipulation.now r)
-    (ap start c.copied-start.ensures ∙ (seen_of g.P.PageSource.honest g.P.PageSource.gives c.args.document.now (held.Start c.in-Start.start) c.args.tables.now s c.in-Start.is h)) i) (λ t m. m)
-    (c.make_study.ensures s (holds_of g.P.PageSource.honest g.P.PageSource.gives c.args.document.now (held.Start c.in-Start.start) c.args.tables.now s c.in-Start.is h))
+    (ap start c.copied-start.ensures ∙ (seen_of g.P.PageSource.honest g.P.PageSource.gives c.args.document.now (held.Start c.in-Start.start) c.args.tables.now
+    s c.in-Start.is h)) i) (λ t m. m)
+    (c.make_study.ensures s (holds_of g.P.PageSource.honest g.P.PageSource.gives c.args.document.now (held.Start c.in-Start.start) c.args.tables.now s
+    c.in-Start.is h))

@@ -2,7 +2,7 @@ use Rattle.std.proofs.Common.{refl, sym, ◌∙◌}
 use Rattle.study_tree.specs.Tree.{spot_at}
 use Rattle.study_marks.specs.BenchState.{marked}
 use Rattle.study_script.specs.State.{quiet}
-use Rattle.study_script.proofs.HeldBehindReplies.{bench_kept, mark_told, mark_missing}
+use Rattle.study_script.proofs.HeldBehindReplies.{bench_kept, mark_reported, mark_missing}
 use Rattle.study_script.proofs.queries.mark_at.Goals as goal
 
 pub returns-in-Some : goal.returns-in-Some
@@ -11,7 +11,7 @@ returns-in-Some g c = λ s h.
     let steps = c.args.path in (
       quiet,
       s,
-      (m, h.marks.marks, refl, mark_told s steps (spot_at m.tree steps) c.in-Some.mark (sym c.in-Some.is ∙ c.mark.ensures)),
+      (m, h.marks.marks, refl, mark_reported s steps (spot_at m.tree steps) c.in-Some.mark (sym c.in-Some.is ∙ c.mark.ensures)),
       bench_kept c.args.bench.now s h,
     )
 

@@ -1,4 +1,4 @@
-use Rattle.std.proofs.Common.{◌≡◌, ℕ, List, refl, subst}
+use Rattle.std.proofs.Common.{◌≡◌, ℕ, List, subst}
 use Rattle.study_marks.specs.BenchState.{marked}
 use Rattle.study_marks.specs.Study.{plain_study}
 use Rattle.study_command.specs.Paths.{steps_of}

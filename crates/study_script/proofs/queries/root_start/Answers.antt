@@ -1,4 +1,4 @@
-use Rattle.std.proofs.Common.{◌≡◌, ℕ, List, length, rules, refl, subst}
+use Rattle.std.proofs.Common.{◌≡◌, ℕ, List, length, rules, subst}
 use Rattle.study_command.specs.Paths.{steps_of}
 use Rattle.study_script.specs.State.{quiet, no_path}
 use Rattle.std.proofs.lemmas.Bool.{false≢true}

@@ -7,7 +7,7 @@ use Rattle.study_script.specs.SessionHolds.{Answered, BrokenOff}
 use Rattle.study_command.proofs.LineTaken.{has_more, has_none, gave-more, gave-same}
 use Rattle.study_script.proofs.FirstLines.{with_trust, next_trusted, Ran, RanOn-more, ran_ends, ran_long, ran_many, ran_read, ran_write}
 use Rattle.study_script.proofs.FirstLines.{Gone, gone_ends, gone_long, gone_many, gone_more, gone_read, gone_write}
-use Rattle.study_script.specs.Written.{IsWritten, IsCutOff}
+use Rattle.study_script.specs.Written.{IsCutOff}
 use Rattle.study_script.proofs.PiecesWritten.{Wrote, wrote_more, wrote_ends, wrote_long, wrote_many, wrote_read, wrote_cut_off}
 use Rattle.study_script.proofs.running.run_session.Goals as goal
 use Rattle.study_script.proofs.running.run_session.Goals.{then-was_refused, else-was_refused}

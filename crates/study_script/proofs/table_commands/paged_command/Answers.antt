@@ -26,7 +26,7 @@ returns-in-Build g c = λ trusted s may h seen. (quiet, s, refused_paged s c.arg
 pub returns-in_ok-class-in-Load : goal.returns-in_ok-class-in-Load
 returns-in_ok-class-in-Load g c = λ trusted s may h seen.
     let class = c.in_ok-class-in-Load.class in
-    let told = c.in_ok-class-in-Load.ensures.ok in
+    let reported = c.in_ok-class-in-Load.ensures.ok in
     decided_weaker (λ o. IsOpenReply s o class (is_among s.classes class)) (λ o. IsClassReply s o c.args.word c.args.name.now)
     (λ t. HoldsPaged g.S.Pages.PageSource.honest g.S.Pages.PageSource.gives c.open_class.new.tables t × (t.document ≡ s.document)
     × StoreSeen (HonestOn trusted g.S.TableStore.honest) g.S.TableStore.files g.S.TableStore.headers g.S.TableStore.faults c.open_class.new.store t)
@@ -34,6 +34,6 @@ returns-in_ok-class-in-Load g c = λ trusted s may h seen.
     × StoreSeen (HonestOn trusted g.S.TableStore.honest) g.S.TableStore.files g.S.TableStore.headers g.S.TableStore.faults c.open_class.new.store t)
     c.open_class.result
     (λ o r i. subst (λ (w : TableCommand). IsClassReply s o w c.args.name.now r) (sym c.in-Load.is)
-    (open_as s o c.args.name.now class r told h.by_pages i))
+    (open_as s o c.args.name.now class r reported h.by_pages i))
     (λ t k. k)
-    (c.open_class.ensures trusted s (trust_of trusted c.args.word c.args.name.now class c.in-Load.is told may) h seen)
+    (c.open_class.ensures trusted s (trust_of trusted c.args.word c.args.name.now class c.in-Load.is reported may) h seen)

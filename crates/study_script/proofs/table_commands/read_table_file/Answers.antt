@@ -7,8 +7,8 @@ use Rattle.study_script.proofs.table_commands.read_table_file.Goals as goal
 pub returns-in-Ok-read_table-clause-read : goal.returns-in-Ok-read_table-clause-read
 returns-in-Ok-read_table-clause-read g c = λ honest.
     let known = g.S.TableStore.files c.args.store.now c.args.class in
-    let told = g.S.Reader.Read.remaining c.in-Ok.reader in
-    let tells = reader_tells told (c.in-Ok.ensures.right honest) in
+    let reported = g.S.Reader.Read.remaining c.in-Ok.reader in
+    let tells = reader_tells reported (c.in-Ok.ensures.right honest) in
     let bytes = tells.0 in
     let read = c.in-Ok-read_table.ensures.ok bytes tells.1 in (
       bytes,

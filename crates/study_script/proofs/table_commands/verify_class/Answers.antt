@@ -1,6 +1,6 @@
 use Rattle.std.proofs.Common.{sym}
-use Rattle.study_script.proofs.HeldTables.{needs_right, right_told}
-use Rattle.study_script.proofs.ClassReplies.{verify_none, verify_told}
+use Rattle.study_script.proofs.HeldTables.{needs_right, right_reported}
+use Rattle.study_script.proofs.ClassReplies.{verify_none, verify_reported}
 use Rattle.study_script.proofs.table_commands.verify_class.Goals as goal
 
 pub returns-in-None : goal.returns-in-None
@@ -8,6 +8,6 @@ returns-in-None g c = λ s h. verify_none c.args.tables.now s h c.args.class (sy
 
 pub returns-in-Some : goal.returns-in-Some
 returns-in-Some g c = λ s h.
-    verify_told c.args.tables.now s h c.args.class c.in-Some.right (sym c.in-Some.ensures.held)
-    (right_told c.args.tables.now.tables c.args.class c.in-Some.right h.values (sym c.in-Some.ensures.held)
+    verify_reported c.args.tables.now s h c.args.class c.in-Some.right (sym c.in-Some.ensures.held)
+    (right_reported c.args.tables.now.tables c.args.class c.in-Some.right h.values (sym c.in-Some.ensures.held)
     (c.in-Some.ensures.right (needs_right c.args.tables.now.tables c.args.class h.values)))

@@ -1,7 +1,7 @@
 use Rattle.std.proofs.Common.{rules, ◌≡◌, Err, refl, sym, subst, ◌∙◌}
 use Rattle.study_script.specs.Stores.{HonestOn, StoreSeen}
 use Rattle.study_script.specs.State.{quiet, is_among, first_lacking}
-use Rattle.study_script.specs.Replies.{class_told, IsNamedReply, IsBuildReply, IsTableReply, IsLoadReply, verify_reply, save_reply}
+use Rattle.study_script.specs.Replies.{class_parsed, IsNamedReply, IsBuildReply, IsTableReply, IsLoadReply, verify_reply, save_reply}
 use Rattle.study_reply.specs.declared.refusal.Refusal.TheVariants.{NotAClass}
 use Rattle.study_command.specs.declared.command.TableCommand.{TableCommand}
 use Rattle.study_script.specs.Decided.{WholeFrom, HoldsWhole}
@@ -18,7 +18,7 @@ pub returns-in-Build : goal.returns-in-Build
 returns-in-Build g c = λ trusted s may h seen.
     decided_weaker (λ o. IsBuildReply s o c.in_ok-class.class (is_among s.classes c.in_ok-class.class)
     (first_lacking s.classes c.in_ok-class.class))
-    (λ o. IsNamedReply s o c.args.word (class_told c.args.name.now)) (WholeFrom s c.build_class.new.tables)
+    (λ o. IsNamedReply s o c.args.word (class_parsed c.args.name.now)) (WholeFrom s c.build_class.new.tables)
     (λ t. HoldsWhole c.build_class.new.tables t × (t.document ≡ s.document)
     × StoreSeen (HonestOn trusted g.S.TableStore.honest) g.S.TableStore.files g.S.TableStore.headers g.S.TableStore.faults c.args.store.now t)
     c.build_class.result
@@ -34,7 +34,7 @@ returns-in-Build g c = λ trusted s may h seen.
 pub returns-in-Verify : goal.returns-in-Verify
 returns-in-Verify g c = λ trusted s may h seen.
     decided_weaker (λ o reply. reply ≡ verify_reply s c.in_ok-class.class (is_among s.classes c.in_ok-class.class))
-    (λ o. IsNamedReply s o c.args.word (class_told c.args.name.now)) (WholeFrom s c.args.tables.now)
+    (λ o. IsNamedReply s o c.args.word (class_parsed c.args.name.now)) (WholeFrom s c.args.tables.now)
     (λ t. HoldsWhole c.args.tables.now t × (t.document ≡ s.document)
     × StoreSeen (HonestOn trusted g.S.TableStore.honest) g.S.TableStore.files g.S.TableStore.headers g.S.TableStore.faults c.args.store.now t)
     c.verify_class.result
@@ -51,7 +51,7 @@ pub returns-in-Load : goal.returns-in-Load
 returns-in-Load g c = λ trusted s may h seen.
     let class = c.in_ok-class.class in
     decided_weaker (λ o. IsLoadReply s o class (is_among s.classes class) (first_lacking s.classes class))
-    (λ o. IsNamedReply s o c.args.word (class_told c.args.name.now))
+    (λ o. IsNamedReply s o c.args.word (class_parsed c.args.name.now))
     (λ t. WholeFrom s c.load_class.new.tables t
     × StoreSeen (HonestOn trusted g.S.TableStore.honest) g.S.TableStore.files g.S.TableStore.headers g.S.TableStore.faults c.load_class.new.store t)
     (λ t. HoldsWhole c.load_class.new.tables t × (t.document ≡ s.document)
@@ -66,7 +66,7 @@ pub returns-in-Save : goal.returns-in-Save
 returns-in-Save g c = λ trusted s may h seen.
     let class = c.in_ok-class.class in
     decided_weaker (λ o reply. reply ≡ save_reply s o class (is_among s.classes class))
-    (λ o. IsNamedReply s o c.args.word (class_told c.args.name.now))
+    (λ o. IsNamedReply s o c.args.word (class_parsed c.args.name.now))
     (λ t. HoldsWhole c.args.tables.now t × (t.document ≡ s.document)
     × StoreSeen (HonestOn trusted g.S.TableStore.honest) g.S.TableStore.files g.S.TableStore.headers g.S.TableStore.faults c.save_class.new.store t)
     (λ t. HoldsWhole c.args.tables.now t × (t.document ≡ s.document)

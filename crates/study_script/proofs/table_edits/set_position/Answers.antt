@@ -1,7 +1,7 @@
 use Rattle.std.proofs.Common.{sym, subst, OnOk}
 use Rattle.study_marks.specs.Queries.{asked_at, AllHeld}
 use Rattle.study_script.specs.SessionHolds.{tables_held, tables_may_fail}
-use Rattle.study_script.proofs.TablesFaults.{whole_told, paged_told}
+use Rattle.study_script.proofs.TablesFaults.{whole_reported, paged_reported}
 use Rattle.study_script.proofs.table_edits.set_position.Goals as goal
 
 pub returns-in-Whole-clause-refusal : goal.returns-in-Whole-clause-refusal
@@ -21,11 +21,12 @@ returns-in-Paged-clause-found g c =
     (sym c.in-Paged.is) c.set_position-in-Paged.ensures.found
 
 pub returns-in-Whole-clause-first : goal.returns-in-Whole-clause-first
-returns-in-Whole-clause-first g c = whole_told g.P.PageSource.honest g.P.PageSource.gives c.args.tables.now c.in-Whole.tables c.set_position.new.values
+returns-in-Whole-clause-first g c = whole_reported g.P.PageSource.honest g.P.PageSource.gives c.args.tables.now c.in-Whole.tables c.set_position.new.values
     (asked_at c.args.start.position) c.set_position.result c.in-Whole.is c.set_position.ensures.first
 
 pub returns-in-Paged-clause-first : goal.returns-in-Paged-clause-first
-returns-in-Paged-clause-first g c = paged_told g.P.PageSource.honest g.P.PageSource.gives c.args.tables.now c.in-Paged.tables c.set_position-in-Paged.new.values
+returns-in-Paged-clause-first g c = paged_reported g.P.PageSource.honest g.P.PageSource.gives c.args.tables.now c.in-Paged.tables
+    c.set_position-in-Paged.new.values
     (asked_at c.args.start.position) c.set_position-in-Paged.result c.in-Paged.is c.set_position-in-Paged.ensures.first
 
 pub returns-in-Whole-clause-fails_as_before : goal.returns-in-Whole-clause-fails_as_before

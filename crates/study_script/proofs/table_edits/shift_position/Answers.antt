@@ -4,7 +4,7 @@ use Rattle.study_marks.specs.BenchState.{marked}
 use Rattle.study_marks.specs.Queries.{positions_asked, AllHeld}
 use Rattle.study_marks.specs.Edits.{with_start}
 use Rattle.study_script.specs.SessionHolds.{tables_held, tables_may_fail}
-use Rattle.study_script.proofs.TablesFaults.{whole_told, paged_told}
+use Rattle.study_script.proofs.TablesFaults.{whole_reported, paged_reported}
 use Rattle.study_script.proofs.table_edits.shift_position.Goals as goal
 
 pub returns-in-Whole-clause-refusal : goal.returns-in-Whole-clause-refusal
@@ -28,11 +28,12 @@ returns-in-Paged-clause-found g c =
     (sym c.in-Paged.is) c.shift_position-in-Paged.ensures.found
 
 pub returns-in-Whole-clause-first : goal.returns-in-Whole-clause-first
-returns-in-Whole-clause-first g c = whole_told g.P.PageSource.honest g.P.PageSource.gives c.args.tables.now c.in-Whole.tables c.shift_position.new.values
+returns-in-Whole-clause-first g c = whole_reported g.P.PageSource.honest g.P.PageSource.gives c.args.tables.now c.in-Whole.tables c.shift_position.new.values
     (positions_asked (with_start (plain_study (marked c.args.bench.now)) c.args.start)) c.shift_position.result c.in-Whole.is c.shift_position.ensures.first
 
 pub returns-in-Paged-clause-first : goal.returns-in-Paged-clause-first
-returns-in-Paged-clause-first g c = paged_told g.P.PageSource.honest g.P.PageSource.gives c.args.tables.now c.in-Paged.tables c.shift_position-in-Paged.new.values
+returns-in-Paged-clause-first g c = paged_reported g.P.PageSource.honest g.P.PageSource.gives c.args.tables.now c.in-Paged.tables
+    c.shift_position-in-Paged.new.values
     (positions_asked (with_start (plain_study (marked c.args.bench.now)) c.args.start)) c.shift_position-in-Paged.result c.in-Paged.is
     c.shift_position-in-Paged.ensures.first
 

@@ -1,4 +1,4 @@
-use Rattle.std.proofs.Common.{◌<◌, ◌≤◌, arith}
+use Rattle.std.proofs.Common.{arith}
 use Rattle.study_search.proofs.by_cells.end_page.Goals as goal
 
 pub returns-clause-within : goal.returns-clause-within

@@ -1,4 +1,4 @@
-use Rattle.std.proofs.Common.{◌<◌, arith, sym, ◌∙◌}
+use Rattle.std.proofs.Common.{arith, sym, ◌∙◌}
 use Rattle.study_search.specs.Finding.{IsNext}
 use Rattle.study_search.specs.ByCells.{IsZugzwangAt, IsFoundOn}
 use Rattle.study_search.proofs.ZugzwangCells.{none-wanted, next-wanted, within-more, if-ok}
@@ -25,7 +25,8 @@ returns-then-not-wanted-clause-game g c h =
 
 pub returns-clause-game : goal.returns-clause-game
 returns-clause-game g c h =
-    if-ok (IsNext (IsZugzwangAt c.args.search.now.class) c.first_on-first.result c.end_on-end.result) (IsNext (IsFoundOn c.args.search.now c.args.page) c.args.from c.args.to)
+    if-ok (IsNext (IsZugzwangAt c.args.search.now.class) c.first_on-first.result c.end_on-end.result)
+    (IsNext (IsFoundOn c.args.search.now c.args.page) c.args.from c.args.to)
     c.next_on_page.result
     (λ next found. next-wanted c.args.search.now c.requires.theme c.args.page c.side_on.result c.requires.whole c.requires.page c.side_on.ensures.white
     c.side_on.ensures.black c.args.from c.args.to c.first_on-first.result c.end_on-end.result next (sym c.is_for-wanted.ensures ∙ c.if-not-wanted.false)

@@ -1,6 +1,5 @@
-use Rattle.std.proofs.Common.{rules, arith, ◌≤◌, ◌<◌, refl}
+use Rattle.std.proofs.Common.{arith, refl}
 use Rattle.study_search.specs.ByCells.{IsFoundOn}
-use Rattle.study_search.specs.Finding.{IsFound}
 use Rattle.study_search.proofs.Faults.{same_on}
 use Rattle.study_search.proofs.ZugzwangCells.{first-of, none-of, none-on, first-found, none-left}
 use Rattle.study_search.proofs.by_cells.next_zugzwang.Goals as goal

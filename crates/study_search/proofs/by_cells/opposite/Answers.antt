@@ -1,5 +1,4 @@
-use Rattle.std.proofs.Common.{ℕ, ◌+◌, ◌-◌, ◌/◌, ◌<◌, ◌≤◌, ◌≡◌, ap, arith}
-use Rattle.study_search.specs.ByCells.{side_step}
+use Rattle.std.proofs.Common.{ℕ, ◌+◌, ◌/◌, ap, arith}
 use Rattle.study_search.proofs.by_cells.opposite.Goals as goal
 
 pub returns-then-white-clause-page : goal.returns-then-white-clause-page

@@ -1,6 +1,6 @@
 use Rattle.std.proofs.Common.{sym, ap, ◌∙◌}
 use Rattle.study_search.specs.Finding.{is_for}
-use Rattle.study_search.proofs.SideTold.{not-found}
+use Rattle.study_search.proofs.SideDecoded.{not-found}
 use Rattle.study_search.proofs.finding.is_found.Goals as goal
 
 pub returns-then-not-wanted-clause-game : goal.returns-then-not-wanted-clause-game

@@ -1,6 +1,6 @@
 use Rattle.std.proofs.Common.{Some, sym, ap, ◌∙◌}
 use Rattle.study_search.specs.Finding.{is_for}
-use Rattle.study_search.proofs.SideTold.{no-mate}
+use Rattle.study_search.proofs.SideDecoded.{no-mate}
 use Rattle.study_search.proofs.LongestFound.{for-number, no-number}
 use Rattle.study_search.proofs.longest.mate_at.Goals as goal
 

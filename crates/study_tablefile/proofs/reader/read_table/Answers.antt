@@ -2,7 +2,7 @@ use Rattle.std.proofs.Common.{rules, arith, [], take, refl, sym, ap, subst, inl,
 use Rattle.std.proofs.lemmas.Result.{IfOk-weaker, IfErr-weaker}
 use Rattle.study_material.specs.declared.class.Class.{Class}
 use Rattle.study_values.specs.declared.fault.FileFault.{FileFault}
-use Rattle.study_tablefile.specs.Reading.{version_of, class_read, pages_read, table_behind, pages_after, IsToldAt}
+use Rattle.study_tablefile.specs.Reading.{version_of, class_read, pages_read, table_behind, pages_after, IsReportedAt}
 use Rattle.study_values.proofs.ClassBounds.{pages_hold, pages_full}
 use Rattle.study_values.specs.Size.{pages_of}
 use Rattle.study_tablefile.proofs.TablesRead.{text_of_read}
@@ -81,14 +81,19 @@ returns-in_err-class-clause-stops g c bytes e =
     (64, c.in_err-class.ensures.whole bytes (pages_after (class_read (take 64 bytes))), rest)
 
 pub returns-in-Err-clause-stops : goal.returns-in-Err-clause-stops
-returns-in-Err-clause-stops g c bytes e = (64, refl, left_after _ _ c.read_exactly.new.buf bytes 0 64 c.read_exactly.ensures.len c.in_ok-read_exactly.ensures.ok e)
+returns-in-Err-clause-stops g c bytes e = (
+  64,
+  refl,
+  left_after _ _ c.read_exactly.new.buf bytes 0 64 c.read_exactly.ensures.len
+      c.in_ok-read_exactly.ensures.ok e,
+)
 
 pub returns-in_err-read_pages-clause-stops : goal.returns-in_err-read_pages-clause-stops
 returns-in_err-read_pages-clause-stops g c bytes e =
     let rest = left_after _ _ c.read_exactly.new.buf bytes 0 64 c.read_exactly.ensures.len c.in_ok-read_exactly.ensures.ok e in
     let (last, now, read, front) = header_known _ _ c.read_exactly.new.buf bytes c.read_exactly.ensures.len c.in_ok-read_exactly.ensures.ok e in
     IfErr-given c.from_residual-in_err-read_pages.result c.in_err-read_pages.field-0.0 _ (search rules)
-    (subst (λ (r : Result Class FileFault). IsToldAt bytes (pages_after r) (g.R.Read.remaining c.read_pages.new.input) c.in_err-read_pages.field-0.0)
+    (subst (λ (r : Result Class FileFault). IsReportedAt bytes (pages_after r) (g.R.Read.remaining c.read_pages.new.input) c.in_err-read_pages.field-0.0)
     (c.in_ok-class.ensures.read ∙ ap class_read (sym front)) (c.in_err-read_pages.ensures.stops bytes rest))
 
 pub returns-clause-stops : goal.returns-clause-stops
@@ -96,5 +101,5 @@ returns-clause-stops g c bytes e =
     let rest = left_after _ _ c.read_exactly.new.buf bytes 0 64 c.read_exactly.ensures.len c.in_ok-read_exactly.ensures.ok e in
     let (last, now, read, front) = header_known _ _ c.read_exactly.new.buf bytes c.read_exactly.ensures.len c.in_ok-read_exactly.ensures.ok e in
     IfErr-weaker c.finish.result _ _
-    (λ f h. subst (λ (r : Result Class FileFault). IsToldAt bytes (pages_after r) (g.R.Read.remaining c.finish.new.input) f)
+    (λ f h. subst (λ (r : Result Class FileFault). IsReportedAt bytes (pages_after r) (g.R.Read.remaining c.finish.new.input) f)
     (c.in_ok-class.ensures.read ∙ ap class_read (sym front)) h) (c.finish.ensures.stops bytes (c.in_ok-read_pages.ensures.ends bytes rest))

@@ -1,7 +1,4 @@
-use Rattle.std.proofs.Common.{◌≡◌, ◌∷◌, ◌<◌, ◌+◌, length, get_or, refl, sym, ◌∙◌, ap, arith}
-use Rattle.study_tree.specs.Forest.{forest_of, nodes_in, nodes_from}
-use Rattle.study_tree.specs.Edits.{plain}
-use Rattle.study_tree.proofs.PathSteps.{nodes_from-le}
+use Rattle.std.proofs.Common.{get_or, refl, sym, ◌∙◌, ap, arith}
 use Rattle.study_tree.proofs.LabelChanges.{left-few, left-next, left-more, left-none}
 use Rattle.study_tree.proofs.changes.+rewrite_below.Goals as goal
 
@@ -11,7 +8,19 @@ rewrite_below-next-requires g t c κs within =
     let at = view ∙ c.index_mut-child.ensures.value ∙ ap (get_or c.loop-place.children.items c.loop-place.place) (sym view) in
     let few = left-few c.loop-place.invariant _ (omega (arith, c.loop-place-test.true, c.len.ensures)) at in (
       omega (arith, few, c.loop-place.invariant.done, c.decreases),
-      (within.0, (within.1.0, (within.1.1, (omega (arith, few, c.loop-place.invariant.done, c.requires.deep), omega (arith, few, c.loop-place.invariant.done, c.requires.numbers))))),
+      (
+        within.0,
+        (
+          within.1.0,
+          (
+            within.1.1,
+            (
+              omega (arith, few, c.loop-place.invariant.done, c.requires.deep),
+              omega (arith, few, c.loop-place.invariant.done, c.requires.numbers),
+            ),
+          ),
+        ),
+      ),
     )
 
 pub overflow_cast-place : goal.overflow_cast-place

@@ -18,7 +18,19 @@ update_below-requires g t c κs within =
     let step = step_of c.args.children.now.items (c.args.first ∷ c.args.rest.now) c.args.first c.args.rest.now _
     c.index_mut-child.result.now c.requires.found refl c.child.view_is c.index_mut-child.ensures.value in (
       omega (arith, c.in-Some.ensures.cases.1, c.decreases),
-      (within.0, (within.1.0, (within.1.1, (rw c.in-Some.ensures.cases.0 at (has_node-step step c.requires.found), omega (arith, c.in-Some.ensures.cases.1, c.requires.short))))),
+      (
+        within.0,
+        (
+          within.1.0,
+          (
+            within.1.1,
+            (
+              rw c.in-Some.ensures.cases.0 at (has_node-step step c.requires.found),
+              omega (arith, c.in-Some.ensures.cases.1, c.requires.short),
+            ),
+          ),
+        ),
+      ),
     )
 
 pub returns-in-Some : goal.returns-in-Some

@@ -1,9 +1,8 @@
-use Rattle.std.proofs.Common.{rules, ℕ, refl, sym, ◌∙◌, ap, arith, vec_len, vec_capacity, ◌-◌, ◌+◌}
-use Rattle.study_tree.specs.Forest.{Twig, forest_of}
-use Rattle.study_tree.specs.Edits.{plain, with_last}
+use Rattle.std.proofs.Common.{refl, sym, ◌∙◌, arith}
+use Rattle.study_tree.specs.Edits.{with_last}
 use Rattle.study_tree.proofs.PathSteps.{children_at-here, has_node-within, step_of, has_node-step}
 use Rattle.study_tree.proofs.PathSteps.{children_at-step, spare_at-step, below_edited-step}
-use Rattle.study_tree.proofs.PathSteps.{same_plain-step, plain-push, below_edited-here}
+use Rattle.study_tree.proofs.PathSteps.{same_plain-step}
 use Rattle.study_tree.proofs.Outcomes.{if_ok-then, on_ok-then, on_err-then, if_some-then}
 use Rattle.study_tree.proofs.node.+add_below.Goals as goal
 

@@ -20,7 +20,8 @@ text_some : (ks : List ℕ) (k : ℕ) (rest : List ℕ) → ks ≡ k ∷ rest �
 text_some ks k rest e = ap path_text e ∙ text_cons k rest
 
 pub returns-in-None : goal.returns-in-None
-returns-in-None g c = on_ok_weaker c.add.result (λ h. h ∙ ap (λ (t : List ℕ). c.args.text.now ++ t) (sym (text_none c.args.steps.now c.in-None.ensures.cases))) c.add.ensures
+returns-in-None g c = on_ok_weaker c.add.result (λ h. h
+    ∙ ap (λ (t : List ℕ). c.args.text.now ++ t) (sym (text_none c.args.steps.now c.in-None.ensures.cases))) c.add.ensures
 
 pub returns-in_ok-add_number-in-Some : goal.returns-in_ok-add_number-in-Some
 returns-in_ok-add_number-in-Some g c =

@@ -1,4 +1,4 @@
-use Rattle.std.proofs.Common.{sym, subst, ◌∙◌, List, ℕ}
+use Rattle.std.proofs.Common.{sym, subst, ◌∙◌}
 use Rattle.study_marks.specs.declared.mark.Mark.{Mark}
 use Rattle.study_marks.specs.Study.{Study}
 use Rattle.study_view.specs.View.{IsView}

@@ -21,9 +21,10 @@ loop-place-init g t c =
     let path = c.args.steps.now.items in
     record {
       nodes = none-yet (IsNodeLine (marked c.args.bench.now)) path (below_at (marked c.args.bench.now).tree.below path) c.add_own.new.lines.nodes;
-      zugzwangs = λ h. none-yet (ZugzwangLines (marked c.args.bench.now)) path (below_at (marked c.args.bench.now).tree.below path) c.add_own.new.lines.zugzwangs;
+      zugzwangs = λ h. none-yet (ZugzwangLines (marked c.args.bench.now)) path (below_at (marked c.args.bench.now).tree.below path)
+          c.add_own.new.lines.zugzwangs;
       back = refl;
-      told = c.in_ok-add_own.ensures.asked;
+      evaluated = c.in_ok-add_own.ensures.asked;
     }
 
 pub start_from-next-requires-clause-found : goal.start_from-next-requires-clause-found
@@ -89,11 +90,11 @@ loop-place-preserved g t c =
       zugzwangs = λ h.
           child-written (ZugzwangLines (marked c.args.bench.now)) tree.below steps c.go_down.new.steps.items k c.add_own.new.lines.zugzwangs
           c.loop-place.lines.zugzwangs c.add_nodes.new.lines.zugzwangs path lt
-          (c.in_ok-add_nodes.ensures.zugzwangs (c.loop-place.invariant.told.honest h)) (c.loop-place.invariant.zugzwangs h);
+          (c.in_ok-add_nodes.ensures.zugzwangs (c.loop-place.invariant.evaluated.honest h)) (c.loop-place.invariant.zugzwangs h);
       back = popped steps c.add_nodes.new.steps.items c.pop.new.self.items k (vec_len c.add_nodes.new.steps)
           (c.in_ok-add_nodes.ensures.path ∙ path) (omega (arith, c.add_nodes.new.steps.ok.0)) c.pop.ensures.rest;
-      told = all-then (within (marked c.args.bench.now).start.position g.V.Values.source)
-          c.args.values.now c.loop-place.values c.add_nodes.new.values c.loop-place.invariant.told c.in_ok-add_nodes.ensures.asked;
+      evaluated = all-then (within (marked c.args.bench.now).start.position g.V.Values.source)
+          c.args.values.now c.loop-place.values c.add_nodes.new.values c.loop-place.invariant.evaluated c.in_ok-add_nodes.ensures.asked;
     }
 
 pub returns-clause-nodes : goal.returns-clause-nodes
@@ -102,8 +103,10 @@ returns-clause-nodes g t c =
     let steps = c.args.steps.now.items in
     let few : width (below_at tree.below steps) ≤ c.loop-place.place =
     omega (arith, c.loop-place-test.false, c.child_count-count.ensures, ap (λ (st : List ℕ). width (below_at tree.below st)) c.as_slice-2.ensures.value) in
-    all-written (IsNodeLine (marked c.args.bench.now)) tree.below steps c.loop-place.place c.args.lines.now.nodes c.add_own.new.lines.nodes c.loop-place.lines.nodes few
-    (own-grew (marked c.args.bench.now) c.as_slice.result.now steps c.args.lines.now.nodes c.add_own.new.lines.nodes c.as_slice.ensures.value c.in_ok-add_own.ensures.nodes)
+    all-written (IsNodeLine (marked c.args.bench.now)) tree.below steps c.loop-place.place c.args.lines.now.nodes c.add_own.new.lines.nodes
+    c.loop-place.lines.nodes few
+    (own-grew (marked c.args.bench.now) c.as_slice.result.now steps c.args.lines.now.nodes c.add_own.new.lines.nodes c.as_slice.ensures.value
+    c.in_ok-add_own.ensures.nodes)
     c.loop-place.invariant.nodes
 
 pub returns-clause-zugzwangs : goal.returns-clause-zugzwangs
@@ -112,14 +115,16 @@ returns-clause-zugzwangs g t c h =
     let steps = c.args.steps.now.items in
     let few : width (below_at tree.below steps) ≤ c.loop-place.place =
     omega (arith, c.loop-place-test.false, c.child_count-count.ensures, ap (λ (st : List ℕ). width (below_at tree.below st)) c.as_slice-2.ensures.value) in
-    all-written (ZugzwangLines (marked c.args.bench.now)) tree.below steps c.loop-place.place c.args.lines.now.zugzwangs c.add_own.new.lines.zugzwangs c.loop-place.lines.zugzwangs few
-    (subst (λ (st : List ℕ). Grew (ZugzwangLines (marked c.args.bench.now) st) c.args.lines.now.zugzwangs c.add_own.new.lines.zugzwangs) c.as_slice.ensures.value
+    all-written (ZugzwangLines (marked c.args.bench.now)) tree.below steps c.loop-place.place c.args.lines.now.zugzwangs c.add_own.new.lines.zugzwangs
+    c.loop-place.lines.zugzwangs few
+    (subst (λ (st : List ℕ). Grew (ZugzwangLines (marked c.args.bench.now) st) c.args.lines.now.zugzwangs c.add_own.new.lines.zugzwangs)
+    c.as_slice.ensures.value
     (c.in_ok-add_own.ensures.zugzwangs h)) (c.loop-place.invariant.zugzwangs h)
 
 pub returns-in_err-add_nodes-clause-asked : goal.returns-in_err-add_nodes-clause-asked
 returns-in_err-add_nodes-clause-asked g t c =
     walks-then (within (marked c.args.bench.now).start.position g.V.Values.source)
-    c.args.values.now c.loop-place.values c.add_nodes.new.values c.from_residual-in_err-add_nodes.result c.loop-place.invariant.told
+    c.args.values.now c.loop-place.values c.add_nodes.new.values c.from_residual-in_err-add_nodes.result c.loop-place.invariant.evaluated
     (walks-so (within (marked c.args.bench.now).start.position g.V.Values.source) (Unit {0})
     c.loop-place.values c.add_nodes.new.values c.from_residual-in_err-add_nodes.result c.in_err-add_nodes.field-0.0
     c.from_residual-in_err-add_nodes.ensures.1 c.in_err-add_nodes.ensures.asked)

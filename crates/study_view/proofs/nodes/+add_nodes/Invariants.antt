@@ -3,7 +3,7 @@ use Rattle.study_tree.specs.Forest.{nodes_in}
 use Rattle.study_marks.specs.BenchState.{marked}
 use Rattle.study_marks.specs.FaultSums.{below_at}
 use Rattle.study_facts.proofs.WrittenOrder.{GoesOn}
-use Rattle.study_facts.specs.Asked.{AllTold, within}
+use Rattle.study_facts.specs.Asked.{AllEvaluated, within}
 use Rattle.study_facts.specs.Zugzwang.{ZugzwangLines}
 use Rattle.study_view.specs.Nodes.{IsNodeLine}
 use Rattle.study_view.proofs.nodes.+add_nodes.Given as goal
@@ -20,6 +20,6 @@ invariant-loop-place g l = record {
   zugzwangs : g.V.Values.source.is_honest l.fn.values → GoesOn (ZugzwangLines (marked l.bench)) l.fn.steps.items
       (below_at (marked l.bench).tree.below l.fn.steps.items) l.place l.initial.lines.zugzwangs l.lines.zugzwangs;
   back : l.steps.items ≡ l.fn.steps.items;
-  told : AllTold (within (marked l.bench).start.position g.V.Values.source)
+  evaluated : AllEvaluated (within (marked l.bench).start.position g.V.Values.source)
       l.fn.values l.values;
 }

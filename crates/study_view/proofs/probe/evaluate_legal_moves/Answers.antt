@@ -2,9 +2,9 @@ use Rattle.std.proofs.Common.{List, true, subst, []}
 use Rattle.std.specs.Prelude.{IfOk}
 use Rattle.study_moves.specs.declared.moves.Move.{Move}
 use Rattle.study_facts.specs.Continuations.{AreChosen, positions_after, moves_except}
-use Rattle.study_view.specs.Asked.{HasToldEach}
+use Rattle.study_view.specs.Asked.{HasEvaluatedEach}
 use Rattle.study_facts.proofs.Within.{each-other}
-use Rattle.study_view.proofs.AllAsked.{told-each, others-of-none}
+use Rattle.study_view.proofs.AllAsked.{evaluated-each, others-of-none}
 use Rattle.study_view.proofs.probe.evaluate_legal_moves.Goals as goal
 
 pub returns-clause-game : goal.returns-clause-game
@@ -17,9 +17,10 @@ pub returns-clause-asked : goal.returns-clause-asked
 returns-clause-asked g c =
     let p = c.args.node.now.position.now in
     subst
-    (λ (ms : List Move). HasToldEach g.V.Values.source
+    (λ (ms : List Move). HasEvaluatedEach g.V.Values.source
     p (positions_after p ms) c.args.values.now c.missing_moves.result c.missing_moves.new.values) (others-of-none p)
-    (told-each g.V.Values.source
-    p (positions_after p (moves_except [] p)) (each-other p []) c.args.values.now c.missing_moves.new.values c.missing_moves.result c.missing_moves.ensures.told
-    c.missing_moves.ensures.first c.missing_moves.ensures.untold c.missing_moves.ensures.no_damage c.missing_moves.ensures.failures
+    (evaluated-each g.V.Values.source
+    p (positions_after p (moves_except [] p)) (each-other p []) c.args.values.now c.missing_moves.new.values c.missing_moves.result
+    c.missing_moves.ensures.evaluated
+    c.missing_moves.ensures.first c.missing_moves.ensures.no_value c.missing_moves.ensures.no_damage c.missing_moves.ensures.failures
     c.missing_moves.ensures.honest c.missing_moves.ensures.tables)

@@ -1,4 +1,4 @@
-use Rattle.std.proofs.Common.{◌≡◌, ◌<◌, ◌++◌, ◌∷◌, [], ℕ, arith, sym, ap, subst, ◌∙◌}
+use Rattle.std.proofs.Common.{◌≡◌, ◌<◌, ◌++◌, ◌∷◌, [], arith, sym, ap, subst, ◌∙◌}
 use Rattle.study_view.specs.Survey.{IsStanding}
 use Rattle.study_facts.specs.Asked.{within}
 use Rattle.study_view.proofs.AllAsked.{some-then}

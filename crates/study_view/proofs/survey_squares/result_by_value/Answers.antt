@@ -1,7 +1,4 @@
-use Rattle.std.proofs.Common.{◌≡◌, List, true, sym, subst, ◌∙◌, ap}
-use Rattle.std.specs.List.{All}
-use Rattle.study_moves.specs.Rules.{is_legal}
-use Rattle.study_facts.specs.declared.continuation.EvaluatedMove.{EvaluatedMove}
+use Rattle.std.proofs.Common.{sym, subst, ◌∙◌, ap}
 use Rattle.study_view.specs.declared.survey_squares.SquareResult.{SquareResult}
 use Rattle.study_view.specs.Shown.{IsPlayedIn}
 use Rattle.study_view.specs.Survey.{result_by_moves}

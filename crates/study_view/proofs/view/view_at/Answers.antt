@@ -1,4 +1,4 @@
-use Rattle.std.proofs.Common.{◌≡◌, List, ℕ, refl, sym, subst, IsTrue}
+use Rattle.std.proofs.Common.{List, ℕ, refl, sym, subst, IsTrue}
 use Rattle.study_tree.specs.Tree.{has_spot}
 use Rattle.study_tree.proofs.TreeDepth.{within-length}
 use Rattle.study_marks.specs.BenchState.{marked}
@@ -17,5 +17,7 @@ returns-in-None-clause-no_node g c = (λ e. start-gone (marked c.args.bench.now)
 
 pub returns-in-Some-clause-no_node : goal.returns-in-Some-clause-no_node
 returns-in-Some-clause-no_node g c =
-    let s = marked c.args.bench.now in
-    (λ e. absurd (c.view_from.ensures.found e), λ n. absurd (no-spot s.tree c.args.path.now (start-found s c.args.path.now c.in-Some.start c.in-Some.ensures) n))
+    let s = marked c.args.bench.now in (
+      λ e. absurd (c.view_from.ensures.found e),
+      λ n. absurd (no-spot s.tree c.args.path.now (start-found s c.args.path.now c.in-Some.start c.in-Some.ensures) n),
+    )

@@ -7,7 +7,7 @@ use Rattle.study_marks.specs.Goals.{aim_of}
 use Rattle.study_marks.specs.BenchState.{marked}
 use Rattle.study_facts.specs.declared.continuation.EvaluatedMove.{EvaluatedMove}
 use Rattle.study_facts.specs.Continuations.{AreChosen}
-use Rattle.study_view.specs.Asked.{EachTold, StoppedAt}
+use Rattle.study_view.specs.Asked.{EachEvaluated, StoppedAt}
 use Rattle.study_view.specs.declared.fault.ViewFault.TheVariants.{OutOfMemory, Values}
 use Rattle.study_view.specs.View.{asked_at}
 use Rattle.study_view.proofs.AllAsked.{refused-after, each-wider, stopped-wider, each-more, walked-more}
@@ -21,12 +21,14 @@ returns-in_err-moves-clause-asked g c =
     let s = marked c.args.bench.now in
     let f = c.in_err-moves.field-0.0 in
     refused-after g.V.Values.source
-    s.start.position (asked_at s c.args.steps.now) c.args.values.now c.evaluate_legal_moves.new.values c.from_residual.result (Values f) c.from_residual.ensures.1
+    s.start.position (asked_at s c.args.steps.now) c.args.values.now c.evaluate_legal_moves.new.values c.from_residual.result (Values f)
+    c.from_residual.ensures.1
     (subst
     (λ (asked : List Position). StoppedAt g.V.Values.source
     s.start.position asked c.args.values.now f c.evaluate_legal_moves.new.values) (asked-is s c.args.steps.now c.args.start.now c.requires.start)
     (stopped-wider g.V.Values.source s.start.position c.args.start.now.position
-    (leads-at s c.args.steps.now c.args.start.now.position c.start.ensures.study.playable (position-of s c.args.steps.now c.args.start.now c.requires.start)) _ c.args.values.now f c.evaluate_legal_moves.new.values c.in_err-moves.ensures.asked))
+    (leads-at s c.args.steps.now c.args.start.now.position c.start.ensures.study.playable (position-of s c.args.steps.now c.args.start.now c.requires.start))
+    _ c.args.values.now f c.evaluate_legal_moves.new.values c.in_err-moves.ensures.asked))
 
 pub returns-in_err-lines-clause-asked : goal.returns-in_err-lines-clause-asked
 returns-in_err-lines-clause-asked g c =
@@ -34,13 +36,15 @@ returns-in_err-lines-clause-asked g c =
     refused-after g.V.Values.source
     s.start.position (asked_at s c.args.steps.now) c.args.values.now c.tree_lines.new.values c.from_residual-in_err-lines.result c.in_err-lines.field-0.0
     c.from_residual-in_err-lines.ensures.1
-    (walked-more g.V.Values.source (Unit {0}) (Unit {0}) s.start.position (asked_at s c.args.steps.now) c.args.values.now c.evaluate_legal_moves.new.values c.tree_lines.new.values
+    (walked-more g.V.Values.source (Unit {0}) (Unit {0}) s.start.position (asked_at s c.args.steps.now) c.args.values.now c.evaluate_legal_moves.new.values
+    c.tree_lines.new.values
     c.in_err-lines.field-0.0
     (subst
-    (λ (asked : List Position). EachTold g.V.Values.source
+    (λ (asked : List Position). EachEvaluated g.V.Values.source
     s.start.position asked c.args.values.now c.evaluate_legal_moves.new.values) (asked-is s c.args.steps.now c.args.start.now c.requires.start)
     (each-wider g.V.Values.source s.start.position c.args.start.now.position
-    (leads-at s c.args.steps.now c.args.start.now.position c.start.ensures.study.playable (position-of s c.args.steps.now c.args.start.now c.requires.start)) _ c.args.values.now c.evaluate_legal_moves.new.values c.in_ok-moves.ensures.asked)) c.in_err-lines.ensures.asked)
+    (leads-at s c.args.steps.now c.args.start.now.position c.start.ensures.study.playable (position-of s c.args.steps.now c.args.start.now c.requires.start))
+    _ c.args.values.now c.evaluate_legal_moves.new.values c.in_ok-moves.ensures.asked)) c.in_err-lines.ensures.asked)
 
 pub returns-in_err-text-clause-asked : goal.returns-in_err-text-clause-asked
 returns-in_err-text-clause-asked g c =
@@ -50,20 +54,22 @@ returns-in_err-text-clause-asked g c =
     c.from_residual-in_err-text.ensures.1
     (each-more g.V.Values.source s.start.position (asked_at s c.args.steps.now) c.args.values.now c.evaluate_legal_moves.new.values c.tree_lines.new.values
     (subst
-    (λ (asked : List Position). EachTold g.V.Values.source
+    (λ (asked : List Position). EachEvaluated g.V.Values.source
     s.start.position asked c.args.values.now c.evaluate_legal_moves.new.values) (asked-is s c.args.steps.now c.args.start.now c.requires.start)
     (each-wider g.V.Values.source s.start.position c.args.start.now.position
-    (leads-at s c.args.steps.now c.args.start.now.position c.start.ensures.study.playable (position-of s c.args.steps.now c.args.start.now c.requires.start)) _ c.args.values.now c.evaluate_legal_moves.new.values c.in_ok-moves.ensures.asked)) c.in_ok-lines.ensures.asked)
+    (leads-at s c.args.steps.now c.args.start.now.position c.start.ensures.study.playable (position-of s c.args.steps.now c.args.start.now c.requires.start))
+    _ c.args.values.now c.evaluate_legal_moves.new.values c.in_ok-moves.ensures.asked)) c.in_ok-lines.ensures.asked)
 
 pub returns-clause-asked : goal.returns-clause-asked
 returns-clause-asked g c =
     let s = marked c.args.bench.now in
     each-more g.V.Values.source s.start.position (asked_at s c.args.steps.now) c.args.values.now c.evaluate_legal_moves.new.values c.tree_lines.new.values
     (subst
-    (λ (asked : List Position). EachTold g.V.Values.source
+    (λ (asked : List Position). EachEvaluated g.V.Values.source
     s.start.position asked c.args.values.now c.evaluate_legal_moves.new.values) (asked-is s c.args.steps.now c.args.start.now c.requires.start)
     (each-wider g.V.Values.source s.start.position c.args.start.now.position
-    (leads-at s c.args.steps.now c.args.start.now.position c.start.ensures.study.playable (position-of s c.args.steps.now c.args.start.now c.requires.start)) _ c.args.values.now c.evaluate_legal_moves.new.values c.in_ok-moves.ensures.asked)) c.in_ok-lines.ensures.asked
+    (leads-at s c.args.steps.now c.args.start.now.position c.start.ensures.study.playable (position-of s c.args.steps.now c.args.start.now c.requires.start))
+    _ c.args.values.now c.evaluate_legal_moves.new.values c.in_ok-moves.ensures.asked)) c.in_ok-lines.ensures.asked
 
 pub returns-clause-text : goal.returns-clause-text
 returns-clause-text g c h =
@@ -74,7 +80,9 @@ returns-clause-text g c h =
     c.aim_of-aim.ensures
     ∙ ap (λ t. record { goal = st.goal; hero_first = same_side st.hero t }) (c.to_move.ensures ∙ ap (λ (x : Start). x.position.to_move) c.start.ensures.value)
     ∙ ap (λ u. record { goal = u.goal; hero_first = same_side u.hero s.start.position.to_move }) c.stipulation-stipulation.ensures in
-    view-is s c.args.steps.now here c.aim_of-aim.result (length c.args.steps.now) c.value_at.result c.as_slice.result.now c.in_ok-lines.lines.nodes c.in_ok-lines.lines.zugzwangs c.in_ok-text.text
+    view-is s c.args.steps.now here c.aim_of-aim.result (length c.args.steps.now) c.value_at.result c.as_slice.result.now c.in_ok-lines.lines.nodes
+    c.in_ok-lines.lines.zugzwangs c.in_ok-text.text
     c.requires.found c.requires.start aim refl c.value_at.ensures
     (subst (λ (l : List EvaluatedMove). AreChosen (λ v. true) here.position (legal_list here.position) l) (sym c.as_slice.ensures.value)
-    (c.in_ok-moves.ensures.game h)) c.in_ok-lines.ensures.nodes (c.in_ok-lines.ensures.zugzwangs (c.in_ok-moves.ensures.asked.all.honest h)) c.in_ok-text.ensures
+    (c.in_ok-moves.ensures.game h)) c.in_ok-lines.ensures.nodes (c.in_ok-lines.ensures.zugzwangs (c.in_ok-moves.ensures.asked.all.honest h))
+    c.in_ok-text.ensures

@@ -1,14 +1,14 @@
 use Rattle.std.proofs.Common.{List, subst, inl, inr}
 use Rattle.study_web.specs.declared.file_spans.FileSpan.{FileSpan}
 use Rattle.study_web.specs.Answers.{IsReviewed, IsOutOfMemory, IsUnread}
-use Rattle.study_web.proofs.Denials.{untold_end}
+use Rattle.study_web.proofs.Denials.{no_value_end}
 use Rattle.study_web.proofs.Unread.{no_memory}
 use Rattle.study_web.proofs.dispatch.answer_review.Goals as goal
 
 pub returns-in-Err : goal.returns-in-Err
 returns-in-Err g c =
     let script = c.args.script.now in
-    inl (untold_end IsOutOfMemory (IsUnread script) c.in-Err.why c.told.result.text.items c.told.result.ended c.told.ensures.none
+    inl (no_value_end IsOutOfMemory (IsUnread script) c.in-Err.why c.reported.result.text.items c.reported.result.ended c.reported.ensures.none
     c.in-Err.ensures.none (no_memory script))
 
 pub returns-in-Ok : goal.returns-in-Ok

@@ -1,4 +1,4 @@
-use Rattle.std.proofs.Common.{◌≡◌, ◌∷◌, [], List, refl, ap, subst, ◌∙◌, inl}
+use Rattle.std.proofs.Common.{◌∷◌, [], List, refl, ap, subst, ◌∙◌, inl}
 use Rattle.study_board.specs.Position.{Position}
 use Rattle.study_material.specs.declared.class.Class.{Class}
 use Rattle.study_view.specs.Setup.{AreClassesNeeded}
@@ -8,7 +8,7 @@ use Rattle.study_web.specs.declared.request_fault.RequestFault.TheVariants as de
 use Rattle.study_web.specs.Answers.{IsNoMemory, IsSurveyDenial}
 use Rattle.study_web.specs.Opened.{AreAllRight, IsOfFileValues}
 use Rattle.study_web.specs.Spans.{spans_for}
-use Rattle.study_web.proofs.Denials.{whole_told, whole_denied, if_right, survey_denial}
+use Rattle.study_web.proofs.Denials.{whole_reported, whole_denied, if_right, survey_denial}
 use Rattle.study_web.proofs.Shelves.{right_made, values_made}
 use Rattle.study_web.proofs.dispatch.answer_survey.Goals as goal
 
@@ -38,9 +38,9 @@ returns-in-Ok g c =
     ∙ ap (λ (cs : List Class). spans_for cs c.args.files.now.spans.now) c.as_slice.ensures.value in (
       classes,
       subst (λ (q : Position). AreClassesNeeded (q ∷ []) classes) c.copied.ensures c.classes_needed-classes.ensures,
-      whole_told c.survey_of.result (λ v. v.items) (λ text. AreAllRight those bytes → IsSurvey p asked.square asked.stipulation text)
+      whole_reported c.survey_of.result (λ v. v.items) (λ text. AreAllRight those bytes → IsSurvey p asked.square asked.stipulation text)
           (IsSurveyDenial (IsOfFileValues those bytes p) asked.start asked.square) IsNoMemory
-          c.told.result.text.items c.told.result.ended c.told.ensures.text c.told.ensures.none
+          c.reported.result.text.items c.reported.result.ended c.reported.ensures.text c.reported.ensures.none
           (if_right c.survey_of.result (λ v. v.items) (AreAllRight those bytes) (IsSurvey p asked.square asked.stipulation)
           (λ right. c.survey_of.ensures.text (right_made spans made.bytes right)))
           (survey_denial _ (IsOfFileValues those bytes p) asked.start asked.square (values_made spans made.bytes made.written p)

@@ -1,4 +1,4 @@
-use Rattle.std.proofs.Common.{◌≡◌, List, refl, ap, ◌∙◌, inl}
+use Rattle.std.proofs.Common.{List, refl, ap, ◌∙◌, inl}
 use Rattle.study_material.specs.declared.class.Class.{Class}
 use Rattle.study_listing.specs.Pieces.{IsPiece}
 use Rattle.study_reply.specs.declared.refusal.Refusal.TheVariants.{OutOfMemory}
@@ -6,7 +6,7 @@ use Rattle.study_web.specs.declared.request_fault.RequestFault.TheVariants as de
 use Rattle.study_web.specs.Answers.{IsNoMemory}
 use Rattle.study_web.specs.Spans.{spans_for}
 use Rattle.study_web.specs.Opened.{AreAllRight, IsOfFileSearch}
-use Rattle.study_web.proofs.Denials.{whole_told, whole_denied, if_right, search_denial}
+use Rattle.study_web.proofs.Denials.{whole_reported, whole_denied, if_right, search_denial}
 use Rattle.study_web.proofs.Shelves.{right_made, search_made}
 use Rattle.study_web.proofs.dispatch.of_find.Goals as goal
 
@@ -31,8 +31,8 @@ returns-in-Ok g c =
     ∙ ap (λ (cs : List Class). spans_for cs c.args.files.now.spans.now) c.as_slice.ensures.value in (
       classes,
       c.classes_for-classes.ensures,
-      whole_told c.found_of.result (λ v. v.items) (λ text. AreAllRight those bytes → IsPiece piece text) (IsOfFileSearch those bytes) IsNoMemory
-          c.told.result.text.items c.told.result.ended c.told.ensures.text c.told.ensures.none
+      whole_reported c.found_of.result (λ v. v.items) (λ text. AreAllRight those bytes → IsPiece piece text) (IsOfFileSearch those bytes) IsNoMemory
+          c.reported.result.text.items c.reported.result.ended c.reported.ensures.text c.reported.ensures.none
           (if_right c.found_of.result (λ v. v.items) (AreAllRight those bytes) (IsPiece piece)
           (λ right. c.found_of.ensures.text (right_made spans made.bytes right)))
           (search_denial c.found_of.result _ (IsOfFileSearch those bytes) (search_made spans made.bytes made.written) c.found_of.ensures.none) refl,

@@ -1,4 +1,4 @@
-use Rattle.std.proofs.Common.{◌≡◌, ◌∷◌, [], List, refl, ap, subst, ◌∙◌, inl}
+use Rattle.std.proofs.Common.{◌∷◌, [], List, refl, ap, subst, ◌∙◌, inl}
 use Rattle.study_board.specs.Position.{Position}
 use Rattle.study_material.specs.declared.class.Class.{Class}
 use Rattle.study_view.specs.Setup.{AreClassesNeeded}
@@ -8,7 +8,7 @@ use Rattle.study_web.specs.Answers.{IsNoMemory}
 use Rattle.study_web.specs.Opened.{AreAllRight, IsOfFileSearch}
 use Rattle.study_web.specs.Row.{IsRow}
 use Rattle.study_web.specs.Spans.{spans_for}
-use Rattle.study_web.proofs.Denials.{whole_told, whole_denied, if_right, search_denial}
+use Rattle.study_web.proofs.Denials.{whole_reported, whole_denied, if_right, search_denial}
 use Rattle.study_web.proofs.Shelves.{right_made, search_made}
 use Rattle.study_web.proofs.dispatch.of_row.Goals as goal
 
@@ -35,8 +35,8 @@ returns-in-Ok g c =
     ∙ ap (λ (cs : List Class). spans_for cs c.args.files.now.spans.now) c.as_slice.ensures.value in (
       classes,
       subst (λ (q : Position). AreClassesNeeded (q ∷ []) classes) c.copied.ensures c.classes_needed-classes.ensures,
-      whole_told c.row_of.result (λ v. v.items) (λ text. AreAllRight those bytes → IsRow row.outcome row.start.position text)
-          (IsOfFileSearch those bytes) IsNoMemory c.told.result.text.items c.told.result.ended c.told.ensures.text c.told.ensures.none
+      whole_reported c.row_of.result (λ v. v.items) (λ text. AreAllRight those bytes → IsRow row.outcome row.start.position text)
+          (IsOfFileSearch those bytes) IsNoMemory c.reported.result.text.items c.reported.result.ended c.reported.ensures.text c.reported.ensures.none
           (if_right c.row_of.result (λ v. v.items) (AreAllRight those bytes) (IsRow row.outcome row.start.position)
           (λ right. c.row_of.ensures.text (right_made spans made.bytes right)))
           (search_denial c.row_of.result _ (IsOfFileSearch those bytes) (search_made spans made.bytes made.written) c.row_of.ensures.none) refl,

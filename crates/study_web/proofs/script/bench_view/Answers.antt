@@ -28,12 +28,12 @@ pub returns-in-Err-Values-clause-none : goal.returns-in-Err-Values-clause-none
 returns-in-Err-Values-clause-none g c =
     let old = c.args.values.now in
     let new = c.write_view.new.values in
-    let Untold : ProbeFault → Type 0 =
+    let NoValue : ProbeFault → Type 0 =
     λ fault. StudyStopped g.V.Values.source
     (study (plain_study (marked c.args.bench.now))) old fault new in
-    subst (λ (r : Refusal). IsViewDenial Untold (has_spot (plain_study (marked c.args.bench.now)).tree (steps_of c.args.path.now) ≡ false) (denial.Refused r))
+    subst (λ (r : Refusal). IsViewDenial NoValue (has_spot (plain_study (marked c.args.bench.now)).tree (steps_of c.args.path.now) ≡ false) (denial.Refused r))
     (sym c.of_probe.ensures)
-    (probe_denial Untold _ c.in-Err-Values.fault (
+    (probe_denial NoValue _ c.in-Err-Values.fault (
       plain_study (marked c.args.bench.now),
       refl,
       c.start-first.ensures.study.valid,

@@ -15,7 +15,7 @@ returns-in-Ok-clause-review g c = λ right.
     let store = c.open_tables.new.store in
     let shelf : StoreKnowledge = record { files = g.S.TableStore.files store; headers = g.S.TableStore.headers store; faults = g.S.TableStore.faults store } in
     let same = c.open_tables.ensures.faults in
-    let told = c.follow_over-summary.ensures.outcome (over_files classes shelf) (record {
+    let reported = c.follow_over-summary.ensures.outcome (over_files classes shelf) (record {
       held = record {
         document = refl;
         marks = tt;
@@ -34,6 +34,6 @@ returns-in-Ok-clause-review g c = λ right.
       shelf,
       same,
       own_review (over_files classes shelf) c.args.script.now c.own_end.result.text.items c.follow_over-summary.new.out.items
-          (Some c.follow_over-summary.new.script.now) c.follow_over-summary.result c.own_end.result.summary (rw c.new-text.ensures.items at told)
+          (Some c.follow_over-summary.new.script.now) c.follow_over-summary.result c.own_end.result.summary (rw c.new-text.ensures.items at reported)
           c.own_end.ensures.ended,
     )

@@ -7,7 +7,7 @@ use Rattle.study_script.specs.SessionHolds.{document_seen}
 use Rattle.study_script.specs.State.{Document, StoreKnowledge, is_among}
 use Rattle.study_web.specs.Answers.{IsNever, IsUnread}
 use Rattle.study_web.specs.Opened.{IsHeldAs, IsOfTables}
-use Rattle.study_web.specs.Views.{IsUntoldOver, LacksNode, LacksNodeOver, OverStore}
+use Rattle.study_web.specs.Views.{IsValueFaultOver, LacksNode, LacksNodeOver, OverStore}
 use Rattle.study_web.proofs.Denials.{weaker_denial}
 use Rattle.study_web.proofs.Opening.{among_chosen}
 use Rattle.study_web.proofs.ViewsLeft.{view_over}
@@ -39,11 +39,12 @@ returns-in-Ok-run_to_end-clause-none g c =
     let faults = g.S.TableStore.faults c.args.store.now in
     let steps = steps_of c.args.path.now in
     let held : (d : Class) → IsHeldAs (headers d) (is_among classes d) = λ d. rw (among_chosen chosen d) (c.in-Ok.ensures.held d) in
-    weaker_denial _ (λ fault. ((d : Class) → g.S.TableStore.honest c.args.store.now true d) → OverStore headers faults (IsUntoldOver c.args.script.now fault))
+    weaker_denial _ (λ fault. ((d : Class) → g.S.TableStore.honest c.args.store.now true d)
+    → OverStore headers faults (IsValueFaultOver c.args.script.now fault))
     (LacksNode (document_seen left.document) steps)
     (((d : Class) → g.S.TableStore.honest c.args.store.now true d) → OverStore headers faults (LacksNodeOver c.args.script.now steps))
-    (λ fault untold right. let is = c.in-Ok-run_to_end.ensures.left classes (c.in-Ok.ensures.right right) (λ d. sym (among_chosen chosen d))
-    (λ d f m. same d f ∙ c.in-Ok.ensures.fails d f m) in (classes, held, shelf, same, (is.0, left.refused.items, is.2, untold is.0 is.1)))
+    (λ fault no_value right. let is = c.in-Ok-run_to_end.ensures.left classes (c.in-Ok.ensures.right right) (λ d. sym (among_chosen chosen d))
+    (λ d f m. same d f ∙ c.in-Ok.ensures.fails d f m) in (classes, held, shelf, same, (is.0, left.refused.items, is.2, no_value is.0 is.1)))
     (λ lacks right. let is = c.in-Ok-run_to_end.ensures.left classes (c.in-Ok.ensures.right right) (λ d. sym (among_chosen chosen d))
     (λ d f m. same d f ∙ c.in-Ok.ensures.fails d f m) in
     (classes, held, shelf, same, (is.0, left.refused.items, is.2, subst (λ (x : Document). LacksNode x steps) is.1.document lacks)))

@@ -2,8 +2,8 @@ use Rattle.study_command.specs.Paths.{steps_of}
 use Rattle.study_script.specs.SessionHolds.{document_seen, tables_source, Holds}
 use Rattle.study_script.specs.State.{State}
 use Rattle.study_web.specs.Answers.{IsNever}
-use Rattle.study_web.specs.Views.{LacksNode, IsViewUntold, StudyStopped}
-use Rattle.study_web.proofs.Denials.{passed_on, untold_left}
+use Rattle.study_web.specs.Views.{LacksNode, IsViewFault, StudyStopped}
+use Rattle.study_web.proofs.Denials.{passed_on, no_value_left}
 use Rattle.study_web.proofs.script.view_of_end.Goals as goal
 
 pub returns-in_err-text-clause-none : goal.returns-in_err-text-clause-none
@@ -16,6 +16,6 @@ returns-in_err-text-clause-none g c =
     passed_on
     (λ fault. StudyStopped (tables_source honest gives)
     (document_seen c.args.left.document) old fault new)
-    (λ fault. (s : State) → Holds honest gives c.args.left.document old s → IsViewUntold s fault) lacks lacks
-    (λ fault is. untold_left honest gives c.args.left.document old new fault is) (λ h. h) c.from_residual.result IsNever c.in_err-text.field-0.0
+    (λ fault. (s : State) → Holds honest gives c.args.left.document old s → IsViewFault s fault) lacks lacks
+    (λ fault is. no_value_left honest gives c.args.left.document old new fault is) (λ h. h) c.from_residual.result IsNever c.in_err-text.field-0.0
     c.from_residual.ensures.1 c.in_err-text.ensures.none

@@ -3,7 +3,7 @@ use Rattle.std.proofs.KnownBytes.{Consumes-nil}
 use Rattle.study_command.specs.Lines.{script_lines}
 use Rattle.study_command.proofs.LineTaken.{has_more, has_none, gave-more}
 use Rattle.study_script.proofs.FirstLines.{Gone, gone_none, gone_long, gone_many, gone_more}
-use Rattle.study_web.proofs.PositionsRead.{line_more, line_none, told_where_ok}
+use Rattle.study_web.proofs.PositionsRead.{line_more, line_none, known_where_ok}
 use Rattle.study_web.proofs.Unread.{no_memory}
 use Rattle.study_web.proofs.setup.positions_in.Goals as goal
 
@@ -20,7 +20,7 @@ loop-n-preserved g c =
     let now = Some c.loop-n.reader.now in
     let next = Some c.read.new.script.now in
     let taken = rw c.in-Ok-true.field-0-test at c.in-Ok-true.ensures.line in
-    let added = told_where_ok c.add_position.result _ (sym c.is_err.ensures.value ∙ c.if-is_err.false) c.add_position.ensures in (
+    let added = known_where_ok c.add_position.result _ (sym c.is_err.ensures.value ∙ c.if-is_err.false) c.add_position.ensures in (
       line_more (script_lines c.args.script.now) (script_lines c.loop-n.reader.now) (script_lines c.read.new.script.now) c.read.new.self
           c.loop-n.list.items c.add_position.new.list.items c.loop-n.invariant.0 taken (rw c.as_slice.ensures at added),
       gave-more script now next c.loop-n.n 1 c.loop-n.invariant.1 c.in-Ok-true.ensures.one_feed,

@@ -13,9 +13,11 @@ returns-clause-none g c =
     let headers = g.S.TableStore.headers c.args.store.now in
     let faults = g.S.TableStore.faults c.args.store.now in
     let valid : IsValid c.args.asked.now.start.position = search rules in
-    subst (λ (r : Refusal). IsOfValues headers faults ((d : Class) → g.S.TableStore.honest c.args.store.now true d) c.args.asked.now.start.position (denial.Refused r))
+    subst (λ (r : Refusal). IsOfValues headers faults ((d : Class) → g.S.TableStore.honest c.args.store.now true d) c.args.asked.now.start.position
+    (denial.Refused r))
     (sym c.of_probe.ensures)
-    (survey_denied (paged_source g.S.Pages.PageSource.honest g.S.Pages.PageSource.gives) headers faults ((d : Class) → g.S.TableStore.honest c.args.store.now true d) c.in-Ok.tables
+    (survey_denied (paged_source g.S.Pages.PageSource.honest g.S.Pages.PageSource.gives) headers faults ((d : Class)
+    → g.S.TableStore.honest c.args.store.now true d) c.in-Ok.tables
     c.write_survey.new.values c.in-Err-Values.fault
     c.args.asked.now.start c.args.asked.now.square c.write_survey.result valid
     (c.in-Err-Values.is ∙ ap Err c.in-Err-Values.field-0-is) c.write_survey.ensures.asked c.in-Ok.ensures.held c.in-Ok.ensures.fails c.in-Ok.ensures.right)

@@ -5,7 +5,7 @@ use Rattle.study_marks.specs.BenchState.{marked}
 use Rattle.study_import.specs.Notes.{game_of, game_taken}
 use Rattle.study_import.specs.Movetext.{with_numbering}
 use Rattle.study_games.specs.Tokens.{token_seen, lexed_seen}
-use Rattle.study_import.proofs.TokenByToken.{step_on, stop_on, unfit_on, told_by}
+use Rattle.study_import.proofs.TokenByToken.{step_on, stop_on, unfit_on, reported_by}
 use Rattle.study_import.proofs.movetext.GameReading.read.Goals as goal
 
 pub returns-in_default-numbered : goal.returns-in_default-numbered
@@ -25,9 +25,10 @@ returns-in-Err-take g c =
     s.reading.lines.cut s.reading.inserts s.notes) in
     let t = token_seen c.in-Ok.cut.token in
     let n = c.in-Some-numbered.numbering in
-    told_by c.in-Err-take.reason (game_taken (with_numbering r n) t) _ _ _ c.in-Err-take.ensures
+    reported_by c.in-Err-take.reason (game_taken (with_numbering r n) t) _ _ _ c.in-Err-take.ensures
     (λ e. sym c.loop-fuel.invariant
-    ∙ stop_on c.loop-fuel.fuel (c.loop-fuel.fuel - 1) c.loop-fuel.fresh r t c.in-Ok.cut.rest.now c.loop-fuel.rest.now n c.in-Err-take.reason (omega (arith, c.loop-fuel-test.true))
+    ∙ stop_on c.loop-fuel.fuel (c.loop-fuel.fuel - 1) c.loop-fuel.fresh r t c.in-Ok.cut.rest.now c.loop-fuel.rest.now n c.in-Err-take.reason
+    (omega (arith, c.loop-fuel-test.true))
     (sym c.read_token.ensures ∙ ap (option_map lexed_seen) (c.in-Some.is ∙ ap Some c.in-Ok.is)) (sym c.in-Some-numbered.ensures) e)
 
 pub loop-fuel-preserved : goal.loop-fuel-preserved
@@ -39,7 +40,8 @@ loop-fuel-preserved g c =
     let next = (game_of (plain_study (marked m.reading.bench)) m.reading.lines.path.items m.reading.lines.begun m.reading.lines.waiting.items
     m.reading.lines.cut m.reading.inserts m.notes) in
     let t = token_seen c.in-Ok.cut.token in
-    rw c.begins_feed-fresh.ensures (sym (step_on c.loop-fuel.fuel (c.loop-fuel.fuel - 1) c.loop-fuel.fresh r t c.in-Ok.cut.rest.now c.loop-fuel.rest.now c.in-Some-numbered.numbering next
+    rw c.begins_feed-fresh.ensures (sym (step_on c.loop-fuel.fuel (c.loop-fuel.fuel - 1) c.loop-fuel.fresh r t c.in-Ok.cut.rest.now c.loop-fuel.rest.now
+    c.in-Some-numbered.numbering next
     (omega (arith, c.loop-fuel-test.true))
     (sym c.read_token.ensures ∙ ap (option_map lexed_seen) (c.in-Some.is ∙ ap Some c.in-Ok.is))
     (sym c.in-Some-numbered.ensures)

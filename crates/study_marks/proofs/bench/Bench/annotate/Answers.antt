@@ -17,7 +17,7 @@ use Rattle.study_marks.proofs.BenchEdits.{counted-later}
 use Rattle.study_marks.proofs.Readers.{size-marked}
 use Rattle.study_marks.proofs.BenchRewritten.{restarted, shifted-study, shifted-plain, shifted-right, asked-shifted, same-refusal, refusal-asked}
 use Rattle.study_marks.specs.Answers.{TellsFirstFault}
-use Rattle.study_marks.proofs.FaultsTold.{same-first, same-undamaged}
+use Rattle.study_marks.proofs.FaultsReported.{same-first, same-undamaged}
 use Rattle.study_marks.proofs.bench.Bench.annotate.Goals as goal
 
 pub returns-in_err-all-clause-refusal : goal.returns-in_err-all-clause-refusal
@@ -43,7 +43,7 @@ pub invariant_of-self : goal.invariant_of-self
 invariant_of-self g c =
     let b = bench_state_of c.self.inside.start c.self.inside.stipulation c.self.inside.tags c.self.inside.tree in
     let u = plain_tree c.relabel_all.new.tree in
-    let told : evaluation_tree u ≡ reevaluated_tree c.as_slice.result.now (evaluation_tree b.study.tree) = c.relabel_all.ensures.told in
+    let evaluated : evaluation_tree u ≡ reevaluated_tree c.as_slice.result.now (evaluation_tree b.study.tree) = c.relabel_all.ensures.evaluated in
     let aim : c.aim_of-aim.result ≡ aim_of (restarted b.study c.args.start u) =
     c.aim_of-aim.ensures
     ∙ ap
@@ -57,7 +57,7 @@ invariant_of-self g c =
     let legal : IsPlayable c.args.start.position b.study.tree.below =
     subst (λ (k : BenchState). IsPlayable c.args.start.position k.study.tree.below) (sym c.self.view_is)
     c.requires.playable in
-    (shifted-study c.as_slice.result.now b c.args.start u 0 told valid legal c.self.invariant.0, right)
+    (shifted-study c.as_slice.result.now b c.args.start u 0 evaluated valid legal c.self.invariant.0, right)
 
 pub returns-clause-found : goal.returns-clause-found
 returns-clause-found g c =
@@ -69,15 +69,15 @@ pub returns-clause-edited : goal.returns-clause-edited
 returns-clause-edited g c =
     let b = bench_state_of c.self.inside.start c.self.inside.stipulation c.self.inside.tags c.self.inside.tree in
     let u = plain_tree c.relabel_all.new.tree in
-    let told : evaluation_tree u ≡ reevaluated_tree c.as_slice.result.now (evaluation_tree b.study.tree) = c.relabel_all.ensures.told in
-    shifted-plain c.as_slice.result.now b c.args.start u (counted c.relabel_all.new.tree.relabelled) told
+    let evaluated : evaluation_tree u ≡ reevaluated_tree c.as_slice.result.now (evaluation_tree b.study.tree) = c.relabel_all.ensures.evaluated in
+    shifted-plain c.as_slice.result.now b c.args.start u (counted c.relabel_all.new.tree.relabelled) evaluated
     ∙ ap (λ (k : BenchState). with_start (plain_study (marked k)) c.args.start) c.self.view_is
 
 pub returns-clause-right : goal.returns-clause-right
 returns-clause-right g c =
     let b = bench_state_of c.self.inside.start c.self.inside.stipulation c.self.inside.tags c.self.inside.tree in
     let u = plain_tree c.relabel_all.new.tree in
-    let told : evaluation_tree u ≡ reevaluated_tree c.as_slice.result.now (evaluation_tree b.study.tree) = c.relabel_all.ensures.told in
+    let evaluated : evaluation_tree u ≡ reevaluated_tree c.as_slice.result.now (evaluation_tree b.study.tree) = c.relabel_all.ensures.evaluated in
     let aim : c.aim_of-aim.result ≡ aim_of (restarted b.study c.args.start u) =
     c.aim_of-aim.ensures
     ∙ ap
@@ -87,7 +87,7 @@ returns-clause-right g c =
           s;
     }) c.to_move.ensures in
     let right : AllAddUp (aim_of (restarted b.study c.args.start u)) u = subst (λ (a : Aim). AllAddUp a u) aim c.relabel_all.ensures.right in
-    λ h. shifted-right c.as_slice.result.now b c.args.start u (counted c.relabel_all.new.tree.relabelled) told right
+    λ h. shifted-right c.as_slice.result.now b c.args.start u (counted c.relabel_all.new.tree.relabelled) evaluated right
     (subst (λ (ts : List Evaluation). AllAreEvaluated c.args.start.position (reevaluated_tree ts (evaluation_tree b.study.tree)))
     (sym c.as_slice.ensures.value) (c.in_ok-all.ensures.game h))
 

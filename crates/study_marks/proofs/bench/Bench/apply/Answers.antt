@@ -8,7 +8,7 @@ use Rattle.study_marks.specs.Queries.{asked_at, positions_asked}
 use Rattle.study_marks.specs.Edits.{with_start}
 use Rattle.study_marks.specs.EditLists.{questions_of}
 use Rattle.study_marks.specs.Answers.{TellsFirstFault}
-use Rattle.study_marks.proofs.FaultsTold.{same-first, same-undamaged}
+use Rattle.study_marks.proofs.FaultsReported.{same-first, same-undamaged}
 use Rattle.study_marks.specs.BenchState.{marked}
 use Rattle.study_marks.proofs.SameShape.{moves_to-mapped}
 use Rattle.study_marks.proofs.OneEdit.{position-applied, insert-refused, insert-accepted, shift-applied, stipulation-applied}

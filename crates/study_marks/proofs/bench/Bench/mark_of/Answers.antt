@@ -9,10 +9,10 @@ use Rattle.study_marks.specs.Answers.{Answers, TellsFirstFault}
 use Rattle.study_marks.specs.Trial.{trial_refusal, IsMarkOf}
 use Rattle.study_marks.proofs.BenchEdits.{match-ok}
 use Rattle.study_marks.proofs.InsertedMoves.{position-marked, outside-answer}
-use Rattle.study_marks.proofs.FaultsTold.{first-answer}
+use Rattle.study_marks.proofs.FaultsReported.{first-answer}
 use Rattle.study_marks.proofs.PathRenewed.{spot-there}
 use Rattle.study_marks.proofs.TrialMoves.{refused-first, not-refused, tried-mark}
-use Rattle.study_marks.proofs.ValuesAsked.{untold-here, held-told}
+use Rattle.study_marks.proofs.ValuesAsked.{no_value-here, held-evaluated}
 use Rattle.study_marks.proofs.bench.Bench.mark_of.Goals as goal
 
 pub returns-in_err-before-clause-refusal : goal.returns-in_err-before-clause-refusal
@@ -32,7 +32,7 @@ returns-in_err-value-clause-refusal g c =
     (subst (λ (p : Position). IfErr c.from_residual-in_err-value.result (IsOutside (g.V.Values.source.held c.args.values.now) (p ∷ []))) here
     (outside-answer (g.V.Values.source.held c.args.values.now) (c.played.result ∷ []) c.in_err-value.field-0.0
     c.from_residual-in_err-value.result c.from_residual-in_err-value.ensures.1
-    (untold-here (g.V.Values.source.held c.args.values.now) c.played.result [] c.value.result c.in_err-value.field-0.0 c.in_err-value.was
+    (no_value-here (g.V.Values.source.held c.args.values.now) c.played.result [] c.value.result c.in_err-value.field-0.0 c.in_err-value.was
     c.value.ensures.no_table c.value.ensures.damaged)))
 
 pub returns-in_err-value-clause-first : goal.returns-in_err-value-clause-first
@@ -63,7 +63,7 @@ returns-clause-found g c =
     subst (λ (p : Position). AllHeld (g.V.Values.source.held c.args.values.now) (p ∷ [])) here
     (record {
       each = (
-        held-told (g.V.Values.source.held c.args.values.now) c.played.result c.value.result c.in_ok-value.value c.in_ok-value.was
+        held-evaluated (g.V.Values.source.held c.args.values.now) c.played.result c.value.result c.in_ok-value.value c.in_ok-value.was
             c.value.ensures.no_table,
         tt,
       );

@@ -11,7 +11,7 @@ use Rattle.study_marks.specs.Queries.{counted_up_by}
 use Rattle.study_marks.specs.Bench.{bench_state_of}
 use Rattle.study_marks.proofs.BenchEdits.{counted-later}
 use Rattle.study_marks.proofs.Readers.{size-marked}
-use Rattle.study_marks.proofs.BenchRewritten.{told-kept, restipulated, stipulated-study, stipulated-plain, stipulated-right}
+use Rattle.study_marks.proofs.BenchRewritten.{evaluated-kept, restipulated, stipulated-study, stipulated-plain, stipulated-right}
 use Rattle.study_marks.proofs.bench.Bench.set_stipulation.Goals as goal
 
 pub invariant_of-self : goal.invariant_of-self
@@ -23,7 +23,7 @@ invariant_of-self g c =
     ∙ ap (λ s. record { goal = c.args.stipulation.goal; hero_first = same_side c.args.stipulation.hero s })
     c.to_move.ensures in (
       stipulated-study b.study c.args.stipulation (plain_tree c.relabel_all.new.tree)
-          (told-kept b.study.tree (plain_tree c.relabel_all.new.tree) c.relabel_all.ensures.told) c.self.invariant.0,
+          (evaluated-kept b.study.tree (plain_tree c.relabel_all.new.tree) c.relabel_all.ensures.evaluated) c.self.invariant.0,
       subst (λ (a : Aim). AllAddUp a (plain_tree c.relabel_all.new.tree)) aim c.relabel_all.ensures.right,
     )
 
@@ -32,13 +32,13 @@ returns-clause-edited g c =
     let b = bench_state_of c.self.inside.start c.self.inside.stipulation c.self.inside.tags c.self.inside.tree in
     stipulated-plain b c.args.stipulation (plain_tree c.relabel_all.new.tree)
     (counted c.relabel_all.new.tree.relabelled)
-    (told-kept b.study.tree (plain_tree c.relabel_all.new.tree) c.relabel_all.ensures.told)
+    (evaluated-kept b.study.tree (plain_tree c.relabel_all.new.tree) c.relabel_all.ensures.evaluated)
     ∙ ap (λ (k : BenchState). with_stipulation (plain_study (marked k)) c.args.stipulation) c.self.view_is
 
 pub returns-clause-kept : goal.returns-clause-kept
 returns-clause-kept g c =
     let b = bench_state_of c.self.inside.start c.self.inside.stipulation c.self.inside.tags c.self.inside.tree in
-    told-kept b.study.tree (plain_tree c.relabel_all.new.tree) c.relabel_all.ensures.told
+    evaluated-kept b.study.tree (plain_tree c.relabel_all.new.tree) c.relabel_all.ensures.evaluated
     ∙ ap (λ (k : BenchState). evaluation_tree k.study.tree) c.self.view_is
 
 pub returns-clause-right : goal.returns-clause-right
@@ -51,7 +51,7 @@ returns-clause-right g c h =
     c.to_move.ensures in
     stipulated-right b c.args.stipulation (plain_tree c.relabel_all.new.tree)
     (counted c.relabel_all.new.tree.relabelled)
-    (told-kept b.study.tree (plain_tree c.relabel_all.new.tree) c.relabel_all.ensures.told)
+    (evaluated-kept b.study.tree (plain_tree c.relabel_all.new.tree) c.relabel_all.ensures.evaluated)
     (subst (λ (a : Aim). AllAddUp a (plain_tree c.relabel_all.new.tree)) aim c.relabel_all.ensures.right) (subst IsKeptRight (sym c.self.view_is) h)
 
 pub returns-clause-relabelled : goal.returns-clause-relabelled

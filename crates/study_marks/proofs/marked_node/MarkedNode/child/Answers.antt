@@ -15,7 +15,7 @@ pub returns-in-None : goal.returns-in-None
 returns-in-None g c =
     let b = c.self.inside.branch in
     ap (λ t. node_in t.below c.args.place []) (sym c.self.view_is)
-    ∙ child-missing c.self.inside.aim c.self.inside.depth b.label.told b.below c.args.place c.in-None.ensures
+    ∙ child-missing c.self.inside.aim c.self.inside.depth b.label.evaluated b.below c.args.place c.in-None.ensures
 
 pub returns-in-Some : goal.returns-in-Some
 returns-in-Some g c =
@@ -25,4 +25,4 @@ returns-in-Some g c =
     let mark = mark-made a d b.label c.in-Some.child.node.label c.label.result.now c.label-label.result.now c.mark_of_move-on_move.result
     c.mark.result c.label.ensures c.label-label.ensures c.mark_of_move-on_move.ensures c.mark.ensures in
     ap (λ t. node_in t.below c.args.place []) (sym c.self.view_is)
-    ∙ child-made a d b.label.told b.below c.args.place _ c.mark.result c.in-Some.ensures mark
+    ∙ child-made a d b.label.evaluated b.below c.args.place _ c.mark.result c.in-Some.ensures mark

@@ -6,4 +6,4 @@ use Rattle.study_marks.proofs.marked_node.MarkedNode.width.Goals as goal
 pub returns : goal.returns
 returns g c =
     let b = c.self.inside.branch in
-    c.width.ensures ∙ sym (width-shown c.self.inside.aim c.self.inside.depth b.label.told b.below) ∙ ap (λ t. width t.below) c.self.view_is
+    c.width.ensures ∙ sym (width-shown c.self.inside.aim c.self.inside.depth b.label.evaluated b.below) ∙ ap (λ t. width t.below) c.self.view_is

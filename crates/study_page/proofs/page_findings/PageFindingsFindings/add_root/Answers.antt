@@ -1,6 +1,7 @@
-use Rattle.std.proofs.Common.{ℕ, List, [], refl}
+use Rattle.std.proofs.Common.{ℕ, List, [], OnOk, ap, refl, subst}
+use Rattle.study_tree.specs.Tree.{spot_at}
+use Rattle.study_marks.specs.Bench.{played_by}
 use Rattle.study_marks.specs.BenchState.{marked}
-use Rattle.study_marks.proofs.PathRenewed.{no-spot}
 use Rattle.study_facts.specs.Made.{Grew, Rose}
 use Rattle.study_facts.specs.TimeFaults.{IsTimeFault}
 use Rattle.study_page.specs.Rows.{FaultItems, Cards, TryRows, ZugzwangRows, DefenceRows, EndRows}
@@ -9,28 +10,36 @@ use Rattle.study_facts.proofs.Within.{leads-at, asks-wider}
 use Rattle.study_page.proofs.MadeRows.{on-ok, on-ok-seven, grew-to, rose-to, fault-unplayed, no-card}
 use Rattle.study_page.proofs.page_findings.PageFindingsFindings.add_root.Goals as goal
 
-pub unreachable-requires : goal.unreachable-requires
-unreachable-requires g c = no-spot (marked c.args.bench.now).tree [] refl (c.fill_place.ensures.none c.if-not-fill_place.true)
+pub add_rows-requires : goal.add_rows-requires
+add_rows-requires g c = record {
+  here = c.root_node.ensures.node;
+  by = ap (λ (u : List ℕ). played_by (spot_at (marked c.args.bench.now).tree u)) c.root_node.ensures.path;
+}
 
 pub returns-clause-adds : goal.returns-clause-adds
 returns-clause-adds g c h =
     let s = marked c.args.bench.now in
     let old = c.args.self.now.sections in
-    let new = c.add_position.new.parts in
+    let new = c.add_rows.new.parts in
     let root : List ℕ = [] in
-    let made = c.add_position.ensures in
-    on-ok-seven c.add_position.result
+    let made = c.add_rows.ensures in
+    let result = c.add_rows.result in
+    let at = c.root_node.ensures.path in
+    on-ok-seven result
     (Grew (FaultItems s root) old.faults new.faults) (Rose (IsTimeFault s root) old.time_faults new.time_faults) (Grew (Cards s root) old.duals new.duals)
     (Grew (TryRows s root) old.tries new.tries) (Grew (ZugzwangRows s root) old.zugzwangs new.zugzwangs)
     (Grew (DefenceRows s root) old.defences new.defences) (Grew (EndRows s root) old.ends new.ends)
-    (on-ok c.add_position.result _ (grew-to (FaultItems s root) old.faults old.faults new.faults made.faults (fault-unplayed s root old.faults refl)))
-    (on-ok c.add_position.result _ (rose-to (IsTimeFault s root) old.time_faults old.time_faults new.time_faults made.time (root-time s old.time_faults)))
-    (on-ok c.add_position.result _ (grew-to (Cards s root) old.duals old.duals new.duals made.duals (no-card s root old.duals refl)))
-    (made.tries h) (made.zugzwangs h) (made.defences h) (made.ends h)
+    (on-ok result _ (grew-to (FaultItems s root) old.faults old.faults new.faults made.faults (fault-unplayed s root old.faults refl)))
+    (on-ok result _ (rose-to (IsTimeFault s root) old.time_faults old.time_faults new.time_faults made.time (root-time s old.time_faults)))
+    (on-ok result _ (grew-to (Cards s root) old.duals old.duals new.duals made.duals (no-card s root old.duals refl)))
+    (subst (λ (u : List ℕ). OnOk result (Grew (TryRows s u) old.tries new.tries)) at (made.tries h))
+    (subst (λ (u : List ℕ). OnOk result (Grew (ZugzwangRows s u) old.zugzwangs new.zugzwangs)) at (made.zugzwangs h))
+    (subst (λ (u : List ℕ). OnOk result (Grew (DefenceRows s u) old.defences new.defences)) at (made.defences h))
+    (subst (λ (u : List ℕ). OnOk result (Grew (EndRows s u) old.ends new.ends)) at (made.ends h))
 
 pub returns-clause-asked : goal.returns-clause-asked
 returns-clause-asked g c =
-    let root : List ℕ = [] in
-    asks-wider g.V.Values.source (marked c.args.bench.now).start.position c.fill_place.new.place.position
-    (leads-at (marked c.args.bench.now) root c.fill_place.new.place.position c.start-first.ensures.study.playable (c.fill_place.ensures.place c.if-not-fill_place.false).position)
-    c.args.values.now c.add_position.new.values c.add_position.result c.add_position.ensures.asked
+    let here = c.root_node.result in
+    asks-wider g.V.Values.source (marked c.args.bench.now).start.position here.node.position.now
+    (leads-at (marked c.args.bench.now) here.steps.now here.node.position.now c.start-first.ensures.study.playable c.root_node.ensures.node.node.position)
+    c.args.values.now c.add_rows.new.values c.add_rows.result c.add_rows.ensures.asked

@@ -4,8 +4,8 @@ use Rattle.study_prober.proofs.Faults.{passed_on}
 use Rattle.study_prober.proofs.open_table.OpenTable.cells.Goals as goal
 
 pub returns-in_err-page-clause-whole : goal.returns-in_err-page-clause-whole
-returns-in_err-page-clause-whole g c = λ t honest same complete d n told. c.in_err-page.ensures.whole t honest same
-    complete d n (passed_on c.from_residual.result _ _ c.from_residual.ensures.1 told)
+returns-in_err-page-clause-whole g c = λ t honest same complete d n reported. c.in_err-page.ensures.whole t honest same
+    complete d n (passed_on c.from_residual.result _ _ c.from_residual.ensures.1 reported)
 
 pub returns-clause-ok : goal.returns-clause-ok
 returns-clause-ok g c = λ t honest same.

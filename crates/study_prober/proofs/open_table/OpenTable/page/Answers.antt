@@ -4,7 +4,7 @@ use Rattle.study_prober.proofs.Cells.{whole_read}
 use Rattle.study_prober.proofs.open_table.OpenTable.page.Goals as goal
 
 pub returns-else-page_cells-clause-whole : goal.returns-else-page_cells-clause-whole
-returns-else-page_cells-clause-whole g c = λ t honest same complete d n told.
+returns-else-page_cells-clause-whole g c = λ t honest same complete d n reported.
     let number = c.requires.number in
     absurd
     (false≢true (sym (sym c.page_cells.ensures ∙ c.if-page_cells.false) ∙ whole_read t c.args.self.now.header

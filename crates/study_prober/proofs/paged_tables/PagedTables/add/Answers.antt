@@ -25,7 +25,7 @@ returns-then-ne-clause-fault g c =
     fault_other (MayAnswer g.S.PageSource.gives g.S.PageSource.honest c.args.source)
     (is_some (held_of c.args.self.now.sources c.args.class)) c.args.class c.in_ok-header.header
     (sym c.holds.ensures ∙ c.if-holds.false)
-    (differs_true the_type _ _ (sym c.ne.ensures ∙ c.if-ne.true)) c.in_ok-header.ensures.told
+    (differs_true the_type _ _ (sym c.ne.ensures ∙ c.if-ne.true)) c.in_ok-header.ensures.reported
 
 pub returns-in_default-clause-fault : goal.returns-in_default-clause-fault
 returns-in_default-clause-fault g c =
@@ -33,7 +33,7 @@ returns-in_default-clause-fault g c =
     (is_some (held_of c.args.self.now.sources c.args.class)) c.args.class c.in_ok-header.header
     (Err OutOfMemory) (sym c.holds.ensures ∙ c.if-holds.false)
     (differs_false the_type (search rules) _ _ (sym c.ne.ensures ∙ c.if-ne.false))
-    refl c.in_ok-header.ensures.told
+    refl c.in_ok-header.ensures.reported
 
 pub invariant_of-self-2 : goal.invariant_of-self-2
 invariant_of-self-2 g c =
@@ -61,7 +61,7 @@ returns-clause-fault g c =
     fault_none (MayAnswer g.S.PageSource.gives g.S.PageSource.honest c.args.source)
     (is_some (held_of c.args.self.now.sources c.args.class)) c.args.class c.in_ok-header.header (Ok tt)
     (sym c.holds.ensures ∙ c.if-holds.false)
-    (differs_false the_type (search rules) _ _ (sym c.ne.ensures ∙ c.if-ne.false)) tt c.in_ok-header.ensures.told
+    (differs_false the_type (search rules) _ _ (sym c.ne.ensures ∙ c.if-ne.false)) tt c.in_ok-header.ensures.reported
 
 pub returns-clause-added : goal.returns-clause-added
 returns-clause-added g c =

@@ -1,4 +1,4 @@
-use Rattle.std.proofs.Common.{◌≡◌, ◌∙◌, ap, sym, subst}
+use Rattle.std.proofs.Common.{◌∙◌, ap, sym, subst}
 use Rattle.std.specs.Prelude.{Option, is_some}
 use Rattle.study_prober.specs.declared.open_table.OpenTable.{OpenTable}
 use Rattle.study_prober.specs.PagedTables.{Paged, IsSameSource, MayFail, SourcesAreRight, held_of}
@@ -22,7 +22,7 @@ pub returns-clause-game : goal.returns-clause-game
 returns-clause-game g c = λ right.
     read-values g.S.PageSource.honest c.self.inside.sources.items c.args.class c.args.number c.read_page-answer.new.into c.read_page-answer.result
     c.read_page-answer.ensures.no_table
-    (subst (λ (w : Paged g.row.S.Denot). SourcesAreRight g.S.PageSource.honest w.sources) (sym c.self.view_is) right) c.read_page-answer.ensures.told
+    (subst (λ (w : Paged g.row.S.Denot). SourcesAreRight g.S.PageSource.honest w.sources) (sym c.self.view_is) right) c.read_page-answer.ensures.reported
 
 pub returns-clause-no_damage : goal.returns-clause-no_damage
 returns-clause-no_damage g c = λ right.
@@ -37,10 +37,10 @@ returns-clause-stays_honest g c = λ right.
     (subst (λ (w : Paged g.row.S.Denot). SourcesAreRight g.S.PageSource.honest w.sources) (sym c.self.view_is) right)
 
 pub returns-clause-failed_so : goal.returns-clause-failed_so
-returns-clause-failed_so g c = λ f told.
+returns-clause-failed_so g c = λ f reported.
     subst (λ (w : Paged g.row.S.Denot). MayFail g.S.PageSource.gives (held_of w.sources c.args.class) c.args.class f) c.self.view_is
     (read-fails g.S.PageSource.honest c.self.inside.sources.items c.args.class c.args.number c.read_page-answer.new.into c.read_page-answer.result
-    c.read_page-answer.ensures.no_table g.S.PageSource.gives f c.requires c.read_page-answer.ensures.unread told)
+    c.read_page-answer.ensures.no_table g.S.PageSource.gives f c.requires c.read_page-answer.ensures.unread reported)
 
 pub returns-clause-fails_as_before : goal.returns-clause-fails_as_before
 returns-clause-fails_as_before g c = λ d f.

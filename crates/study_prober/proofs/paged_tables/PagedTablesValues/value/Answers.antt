@@ -18,7 +18,8 @@ returns-clause-stays_honest g c =
     c.probe_paged-answer.ensures.sources
 
 pub returns-clause-no_table : goal.returns-clause-no_table
-returns-clause-no_table g c = λ d. no_table_by _ _ (ap (λ (w : Paged g.row.S.Denot). held_of w.sources d) c.self.view_is) (c.probe_paged-answer.ensures.no_table d)
+returns-clause-no_table g c = λ d. no_table_by _ _ (ap (λ (w : Paged g.row.S.Denot). held_of w.sources d) c.self.view_is)
+    (c.probe_paged-answer.ensures.no_table d)
 
 pub returns-clause-whole : goal.returns-clause-whole
 returns-clause-whole g c =
@@ -41,7 +42,8 @@ pub returns-clause-read : goal.returns-clause-read
 returns-clause-read g c = λ d h of was. c.probe_paged-answer.ensures.read d h of (ap (λ (w : Paged g.row.S.Denot). held_of w.sources d) c.self.view_is ∙ was)
 
 pub returns-clause-unread : goal.returns-clause-unread
-returns-clause-unread g c = λ d h f of was. c.probe_paged-answer.ensures.unread d h f of (ap (λ (w : Paged g.row.S.Denot). held_of w.sources d) c.self.view_is ∙ was)
+returns-clause-unread g c = λ d h f of was. c.probe_paged-answer.ensures.unread d h f of (ap (λ (w : Paged g.row.S.Denot). held_of w.sources d) c.self.view_is
+    ∙ was)
 
 pub returns-clause-put : goal.returns-clause-put
 returns-clause-put g c = λ d h of was.
@@ -59,19 +61,20 @@ returns-clause-refused g c =
     (ap (λ (w : Paged g.row.S.Denot). w.kept) c.self.view_is)) c.probe_paged-answer.ensures.refused
 
 pub returns-clause-alike : goal.returns-clause-alike
-returns-clause-alike g c = λ d h k was now. c.probe_paged-answer.ensures.alike d h k (ap (λ (w : Paged g.row.S.Denot). held_of w.sources d) c.self.view_is ∙ was) now
+returns-clause-alike g c = λ d h k was now. c.probe_paged-answer.ensures.alike d h k (ap (λ (w : Paged g.row.S.Denot). held_of w.sources d) c.self.view_is
+    ∙ was) now
 
 pub returns-clause-given : goal.returns-clause-given
 returns-clause-given g c = λ d of.
     let same = ap (λ (w : Paged g.row.S.Denot). held_of w.sources d) c.self.view_is in
     let probed = c.probe_paged-answer.ensures in
     answered g.S.PageSource.gives d (index_of c.args.p.now) (held_of c.args.self.now.sources d) c.probe_paged-answer.result
-    (λ b told. let none = (probed.no_table b).0 told in sym same
+    (λ b reported. let none = (probed.no_table b).0 reported in sym same
     ∙ ap (λ (x : Class). held_of c.self.inside.sources.items x) (one_class d b c.args.p.now of none.0) ∙ none.1)
     (λ none. (probed.no_table d).1 (of, same ∙ none))
     (λ h was. probed.read d h of (same ∙ was))
     (λ h f was. probed.unread d h f of (same ∙ was))
-    (λ b page told. let at = probed.damaged b page told in (one_class b d c.args.p.now at.0 of, at.1))
+    (λ b page reported. let at = probed.damaged b page reported in (one_class b d c.args.p.now at.0 of, at.1))
     (λ h page was. probed.not_whole d h page (same ∙ was))
 
 pub returns-clause-no_damage : goal.returns-clause-no_damage
@@ -89,11 +92,11 @@ returns-clause-once g c = λ d h k of before after none.
     (ap (λ (w : Paged g.row.S.Denot). w.kept) c.self.view_is) none)
 
 pub returns-clause-failed_so : goal.returns-clause-failed_so
-returns-clause-failed_so g c = λ d f of told.
+returns-clause-failed_so g c = λ d f of reported.
     let same = ap (λ (w : Paged g.row.S.Denot). held_of w.sources d) c.self.view_is in
     let probed = c.probe_paged-answer.ensures in
     failed_so g.S.PageSource.gives d (index_of c.args.p.now / 4096) f (held_of c.args.self.now.sources d) c.probe_paged-answer.result
-    (λ none. (probed.no_table d).1 (of, same ∙ none)) (λ h was. probed.unread d h f of (same ∙ was) told) (probed.inside d f of told) told
+    (λ none. (probed.no_table d).1 (of, same ∙ none)) (λ h was. probed.unread d h f of (same ∙ was) reported) (probed.inside d f of reported) reported
 
 pub returns-clause-fails_as_before : goal.returns-clause-fails_as_before
 returns-clause-fails_as_before g c = λ d f.

@@ -1,11 +1,10 @@
 use Rattle.std.proofs.Common.{◌≡◌, ◌≤◌, ℕ, ◌*◌, ◌∙◌, sym, ap, subst, List, drop}
-use Rattle.std.specs.Prelude.{Option, Some, length}
+use Rattle.std.specs.Prelude.{Option, Some}
 use Rattle.study_values.specs.Number.{cells_of}
-use Rattle.study_material.specs.declared.class.Class.{Class}
 use Rattle.study_tablefile.specs.Format.{page_cells_of}
 use Rattle.study_table.specs.Table.{Table, table_of}
 use Rattle.study_prober.specs.WholeTables.{Whole}
-use Rattle.study_prober.proofs.ReadPages.{page_begins, page_values, none-table, some-table}
+use Rattle.study_prober.proofs.ReadPages.{page_begins, page_values, some-table}
 use Rattle.study_prober.proofs.whole_tables.WholeTablesCellPages.read_cells.Goals as goal
 
 pub copy_cells-requires : goal.copy_cells-requires

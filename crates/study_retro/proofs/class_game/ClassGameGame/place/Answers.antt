@@ -24,6 +24,6 @@ returns g c = (
   place_away c.args.self.now.tables.now c.args.self.now.class c.class_of-class.result.0 c.args.at.now c.args.self.now.closed c.class_of-class.ensures.class
       (same_false the_type _ _ (sym c.eq.ensures ∙ c.if-eq.false)),
   table_value c.args.self.now.tables.now c.args.self.now.class c.class_of-class.result.0 c.args.at.now c.args.self.now.closed c.class_of-class.ensures.class
-      c.in-Some.table.now c.at.result c.in-Some.ensures.value c.at.ensures.told,
+      c.in-Some.table.now c.at.result c.in-Some.ensures.value c.at.ensures.reported,
   c.at.ensures.near,
 )

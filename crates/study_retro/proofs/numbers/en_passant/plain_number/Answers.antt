@@ -1,13 +1,13 @@
 use Rattle.std.proofs.Common.{ℕ, ◌<◌, sym, subst}
 use Rattle.study_index.proofs.ClassLaws.{below}
-use Rattle.study_index.proofs.ComputedIndex.{told_decoded}
+use Rattle.study_index.proofs.ComputedIndex.{decoded_of_numbered}
 use Rattle.study_retro.proofs.EarlierChess.{small_index}
 use Rattle.study_retro.proofs.MovedSteps.{moved_before}
 use Rattle.study_retro.proofs.numbers.en_passant.plain_number.Goals as goal
 
 pub index_after_move-requires : goal.index_after_move-requires
 index_after_move-requires c =
-    below c.args.class c.args.number c.args.at.now (told_decoded c.args.class c.args.number c.args.at.now c.requires.at)
+    below c.args.class c.args.number c.args.at.now (decoded_of_numbered c.args.class c.args.number c.args.at.now c.requires.at)
 
 pub returns-then-leads_to_number-clause-small : goal.returns-then-leads_to_number-clause-small
 returns-then-leads_to_number-clause-small c =

@@ -2,12 +2,12 @@ use Rattle.std.proofs.Common.{◌≡◌, ℕ, ◌+◌, ◌*◌, ◌/◌, ◌%◌
 use Rattle.study_board.specs.Geometry.{files_apart, rank_of}
 use Rattle.study_board.specs.Sets.{has}
 use Rattle.study_retro.proofs.StillChess.{not_true}
-use Rattle.study_retro.proofs.Twins.{apart_twinless, single_twinless}
+use Rattle.study_retro.proofs.Twins.{apart_without_en_passant, single_without_en_passant}
 use Rattle.study_retro.proofs.numbers.en_passant.squares_without_en_passant.Goals as goal
 
 pub returns-then-not-has_both_pawns : goal.returns-then-not-has_both_pawns
 returns-then-not-has_both_pawns c = λ y ly e.
-    single_twinless c.args.class (64 * c.args.row + y) (sym c.has_both_pawns.ensures ∙ c.if-not-has_both_pawns.true)
+    single_without_en_passant c.args.class (64 * c.args.row + y) (sym c.has_both_pawns.ensures ∙ c.if-not-has_both_pawns.true)
 
 pub returns : goal.returns
 returns c = λ y ly e.
@@ -16,7 +16,7 @@ returns c = λ y ly e.
     let white : n / 64 % 64 ≡ c.at-pawn.result = omega (arith, ly, pawn) in
     let black : n % 64 ≡ y = omega (arith, ly) in
     let out = not_true (has c.adjacent_squares.result y) (sym (c.complement-2.ensures y ly) ∙ e) in
-    apart_twinless c.args.class n
+    apart_without_en_passant c.args.class n
     (λ rank files low high.
     c.adjacent_squares.ensures y ly out
     (sym (ap (λ (x : ℕ). rank_of x) white) ∙ rank ∙ ap (λ (x : ℕ). rank_of x) black)

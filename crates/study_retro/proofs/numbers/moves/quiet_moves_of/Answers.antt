@@ -19,7 +19,7 @@ use Rattle.study_retro.proofs.numbers.moves.quiet_moves_of.Goals as goal
 pub returns-then-ne-clause-no : goal.returns-then-ne-clause-no
 returns-then-ne-clause-no g c = λ f q at x legal quiet.
     let man = c.args.mover.man.now in
-    let s = safe_by c.args.game.now.class c.args.number q at c.requires.plain c.args.mover.setup.now.men.items c.args.mover.setup.now.to_move c.requires.told
+    let s = safe_by c.args.game.now.class c.args.number q at c.requires.plain c.args.mover.setup.now.men.items c.args.mover.setup.now.to_move c.requires.encodes
     (move_to man x) legal man c.requires.man refl in
     absurd (false≢true (sym (sym (side_same _ _) ∙ not-true _ (sym c.ne.ensures ∙ c.if-ne.true)) ∙ s.1))
 
@@ -64,7 +64,7 @@ loop-target-preserved g c =
     ∙ inv.among a f.inside f.there) in
     record {
       some = λ t q at. some_legal c.args.game.now.class c.args.number q at c.requires.plain
-          c.args.mover.setup.now.men.items c.args.mover.setup.now.to_move c.requires.told man c.requires.man own a f.inside safe;
+          c.args.mover.setup.now.men.items c.args.mover.setup.now.to_move c.requires.encodes man c.requires.man own a f.inside safe;
       among = still-among all set a c.next.new.self f inv.among;
       lose = taken-too all set a c.next.new.self f (λ (x : ℕ). reaches_last_rank man x ≡ false → (q : Position)
           → position_numbered c.args.game.now.class c.args.number ≡ Some q
@@ -79,9 +79,9 @@ returns-clause-no g c = λ f q at x legal quiet.
     let men = c.args.mover.setup.now.men.items in
     let side = c.args.mover.setup.now.to_move in
     let class = c.args.game.now.class in
-    let s = safe_by class c.args.number q at c.requires.plain men side c.requires.told (move_to man x) legal man c.requires.man refl in
-    let plain = safe_plain class c.args.number q at c.requires.plain men side c.requires.told (move_to man x) legal man c.requires.man refl refl in
-    let free = occupied_same class c.args.number q at c.requires.plain men side c.requires.told x ∙ quiet.0 in
+    let s = safe_by class c.args.number q at c.requires.plain men side c.requires.encodes (move_to man x) legal man c.requires.man refl in
+    let plain = safe_plain class c.args.number q at c.requires.plain men side c.requires.encodes (move_to man x) legal man c.requires.man refl refl in
+    let free = occupied_same class c.args.number q at c.requires.plain men side c.requires.encodes x ∙ quiet.0 in
     let there = ap (λ (set : ℕ). has set x) c.into_iter-target-iterator.ensures.into_iter_gives ∙ c.without-free.ensures x s.0
     ∙ in-one-alone _ _ (c.safe_targets.ensures x s.0 ∙ ap (λ (zs : List Man). is_safe_target zs side man x) c.as_slice-men.ensures.value ∙ s.2)
     (c.occupied.ensures x s.0 ∙ ap (λ (zs : List Man). is_occupied zs x) c.as_slice-men.ensures.value ∙ free) in

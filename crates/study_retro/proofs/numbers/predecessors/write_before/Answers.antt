@@ -5,7 +5,7 @@ use Rattle.study_board.specs.declared.men.Man.{Man}
 use Rattle.study_retro.specs.Predecessors.{IsBefore, IsBeforeBy}
 use Rattle.study_levels.specs.Propagation.{AreSet, IsSetWhere}
 use Rattle.study_levels.proofs.CellsLemmas.{each-more}
-use Rattle.study_retro.proofs.BackLemmas.{set-then, set-kept, set-why, before_told}
+use Rattle.study_retro.proofs.BackLemmas.{set-then, set-kept, set-why, before_found}
 use Rattle.study_retro.proofs.numbers.predecessors.write_before.Goals as goal
 
 pub loop-slot-init : goal.loop-slot-init
@@ -18,7 +18,8 @@ loop-slot-init c = record {
 pub write_before_man-more-requires-clause-man : goal.write_before_man-more-requires-clause-man
 write_before_man-more-requires-clause-man c =
     let men = c.as_slice-man-items.result.now in
-    let there : Contains men c.man-item.result = subst (λ (x : Man). Contains men x) (sym c.man-item.is) (Contains-get_or men c.loop-slot.slot _ c.loop-slot-test.true) in
+    let there : Contains men c.man-item.result = subst (λ (x : Man). Contains men x) (sym c.man-item.is)
+    (Contains-get_or men c.loop-slot.slot _ c.loop-slot-test.true) in
     subst (λ (xs : List Man). Contains xs c.man-item.result) c.as_slice-man-items.ensures.value there
 
 pub loop-slot-preserved : goal.loop-slot-preserved
@@ -45,7 +46,8 @@ loop-slot-preserved c =
 pub returns-clause-done : goal.returns-clause-done
 returns-clause-done c = λ n b.
     let men = c.as_slice-man-items.result.now in
-    let t = before_told c.args.class c.args.number c.requires.numbered.0 c.requires.numbered.1 c.decode_men-setup.result.men.items c.decode_men-setup.result.to_move
+    let t = before_found c.args.class c.args.number c.requires.numbered.0 c.requires.numbered.1 c.decode_men-setup.result.men.items
+    c.decode_men-setup.result.to_move
     (c.decode_men-setup.ensures.men, c.decode_men-setup.ensures.to_move) n b in
     let C : List Man → Type 0 = λ xs. Contains xs t.0 in
     c.loop-slot.invariant.done t.0

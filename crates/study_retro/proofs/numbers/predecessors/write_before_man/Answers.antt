@@ -5,7 +5,7 @@ use Rattle.study_board.specs.Men.{same_side}
 use Rattle.study_board.proofs.EqualMen.{side_same}
 use Rattle.study_board.proofs.SquareLists.{first-of, none-of-empty}
 use Rattle.study_index.proofs.ClassLaws.{below}
-use Rattle.study_index.proofs.ComputedIndex.{told_decoded}
+use Rattle.study_index.proofs.ComputedIndex.{decoded_of_numbered}
 use Rattle.study_index.specs.Computed.{position_numbered}
 use Rattle.study_retro.specs.Predecessors.{IsBeforeBy, IsBeforeFrom}
 use Rattle.study_levels.specs.Propagation.{AreSet}
@@ -17,7 +17,7 @@ use Rattle.study_retro.proofs.numbers.predecessors.write_before_man.Goals as goa
 pub returns-then-ne-clause-done : goal.returns-then-ne-clause-done
 returns-then-ne-clause-done c = λ n b.
     let came = led_came c.args.class c.args.number c.requires.numbered.0 c.requires.numbered.1 c.args.mover.setup.now.men.items c.args.mover.setup.now.to_move
-    c.requires.told c.args.mover.man.now c.requires.man b.0 n b.1 b.2 in
+    c.requires.encodes c.args.mover.man.now c.requires.man b.0 n b.1 b.2 in
     absurd (false≢true (sym (sym (side_same _ _) ∙ not-true _ (sym c.ne.ensures ∙ c.if-ne.true))
     ∙ ap (λ (s : Side). same_side c.args.mover.man.now.side s) c.other.ensures ∙ came.0))
 
@@ -26,7 +26,7 @@ loop-origin-init c = record { size = c.requires.cells; set = set-none _ _ _ _ _ 
 
 pub new-departure-requires : goal.new-departure-requires
 new-departure-requires c =
-    below c.args.class c.args.number c.requires.numbered.0 (told_decoded c.args.class c.args.number c.requires.numbered.0 c.requires.numbered.1)
+    below c.args.class c.args.number c.requires.numbered.0 (decoded_of_numbered c.args.class c.args.number c.requires.numbered.0 c.requires.numbered.1)
 
 pub write_from-requires-clause-led : goal.write_from-requires-clause-led
 write_from-requires-clause-led c = λ q at.
@@ -36,7 +36,7 @@ write_from-requires-clause-led c = λ q at.
     subst (λ (n : ℕ). position_numbered c.args.class n ≡ Some q) c.new-departure.ensures.number at in
     let his = sym (ap (λ (s : Side). same_side c.args.mover.man.now.side s) c.other.ensures)
     ∙ sym (side_same _ _) ∙ not-false _ (sym c.ne.ensures ∙ c.if-ne.false) in
-    before_in c.args.class c.args.number q here c.args.mover.setup.now.men.items c.args.mover.setup.now.to_move c.requires.told
+    before_in c.args.class c.args.number q here c.args.mover.setup.now.men.items c.args.mover.setup.now.to_move c.requires.encodes
     c.args.mover.man.now c.requires.man c.unmove_origins-all.result _ c.as_slice.ensures.value c.unmove_origins-all.ensures a f.inside his
     (c.loop-origin.invariant.set.among a f.inside f.there)
 
@@ -68,5 +68,5 @@ returns-clause-rise c =
 pub returns-clause-done : goal.returns-clause-done
 returns-clause-done c = λ n b.
     let e = in_before c.args.class c.args.number c.requires.numbered.0 c.requires.numbered.1 c.args.mover.setup.now.men.items c.args.mover.setup.now.to_move
-    c.requires.told c.args.mover.man.now c.requires.man c.unmove_origins-all.result _ c.as_slice.ensures.value c.unmove_origins-all.ensures b.0 n b.1 b.2 in
+    c.requires.encodes c.args.mover.man.now c.requires.man c.unmove_origins-all.result _ c.as_slice.ensures.value c.unmove_origins-all.ensures b.0 n b.1 b.2 in
     c.loop-origin.invariant.set.done n b.0 b.1 e (none-of-empty _ c.in-None.ensures.steps.0 b.0 b.1) b.2

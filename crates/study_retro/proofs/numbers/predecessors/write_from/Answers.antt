@@ -21,7 +21,8 @@ write_cell-requires-clause-number c =
     let q = c.requires.numbered.0 in
     let at = c.requires.numbered.1 in
     let fits =
-    departed class c.args.departure.now.class number number man.at c.args.departure.now.from a k c.requires.class refl c.requires.from c.number_to-before.ensures in
+    departed class c.args.departure.now.class number number man.at c.args.departure.now.from a k c.requires.class refl c.requires.from
+    c.number_to-before.ensures in
     let led = c.requires.led q at in
     let lands = (c.leads_to_number_from.ensures q led.from at led.leads).0 c.if-not-leads_to_number_from.false in
     subst (λ (m : ℕ). k < m) (sym c.requires.cells) (before_below class number man a k (is_before class number q at man a k fits led lands))
@@ -36,7 +37,8 @@ has_en_passant-requires c =
     let q = c.requires.numbered.0 in
     let at = c.requires.numbered.1 in
     let fits =
-    departed class c.args.departure.now.class number number man.at c.args.departure.now.from a k c.requires.class refl c.requires.from c.number_to-before.ensures in
+    departed class c.args.departure.now.class number number man.at c.args.departure.now.from a k c.requires.class refl c.requires.from
+    c.number_to-before.ensures in
     small_before class number q at man a k fits (c.requires.led q at)
 
 pub write_cell-requires-then-has_en_passant-clause-number : goal.write_cell-requires-then-has_en_passant-clause-number
@@ -49,7 +51,8 @@ write_cell-requires-then-has_en_passant-clause-number c =
     let q = c.requires.numbered.0 in
     let at = c.requires.numbered.1 in
     let fits =
-    departed class c.args.departure.now.class number number man.at c.args.departure.now.from a k c.requires.class refl c.requires.from c.number_to-before.ensures in
+    departed class c.args.departure.now.class number number man.at c.args.departure.now.from a k c.requires.class refl c.requires.from
+    c.number_to-before.ensures in
     let led = c.requires.led q at in
     let lands = (c.leads_to_number_from.ensures q led.from at led.leads).0 c.if-not-leads_to_number_from.false in
     let p = c.has_en_passant.ensures.0 c.if-has_en_passant.true in
@@ -66,7 +69,8 @@ returns-then-has_en_passant-clause-rise c =
     let q = c.requires.numbered.0 in
     let at = c.requires.numbered.1 in
     let fits =
-    departed class c.args.departure.now.class number number man.at c.args.departure.now.from a k c.requires.class refl c.requires.from c.number_to-before.ensures in
+    departed class c.args.departure.now.class number number man.at c.args.departure.now.from a k c.requires.class refl c.requires.from
+    c.number_to-before.ensures in
     let led = c.requires.led q at in
     let lands = (c.leads_to_number_from.ensures q led.from at led.leads).0 c.if-not-leads_to_number_from.false in
     let p = c.has_en_passant.ensures.0 c.if-has_en_passant.true in
@@ -92,7 +96,8 @@ returns-else-has_en_passant-clause-rise c =
     let q = c.requires.numbered.0 in
     let at = c.requires.numbered.1 in
     let fits =
-    departed class c.args.departure.now.class number number man.at c.args.departure.now.from a k c.requires.class refl c.requires.from c.number_to-before.ensures in
+    departed class c.args.departure.now.class number number man.at c.args.departure.now.from a k c.requires.class refl c.requires.from
+    c.number_to-before.ensures in
     let led = c.requires.led q at in
     let lands = (c.leads_to_number_from.ensures q led.from at led.leads).0 c.if-not-leads_to_number_from.false in
     let cell = c.args.change.cell in
@@ -112,7 +117,8 @@ returns-then-has_en_passant-clause-done c = λ n b.
     let q = c.requires.numbered.0 in
     let at = c.requires.numbered.1 in
     let fits =
-    departed class c.args.departure.now.class number number man.at c.args.departure.now.from a k c.requires.class refl c.requires.from c.number_to-before.ensures in
+    departed class c.args.departure.now.class number number man.at c.args.departure.now.from a k c.requires.class refl c.requires.from
+    c.number_to-before.ensures in
     let cell = c.args.change.cell in
     let over = c.args.change.over in
     let mid = c.write_cell.new.cells in
@@ -133,7 +139,8 @@ returns-else-has_en_passant-clause-done c = λ n b.
     let q = c.requires.numbered.0 in
     let at = c.requires.numbered.1 in
     let fits =
-    departed class c.args.departure.now.class number number man.at c.args.departure.now.from a k c.requires.class refl c.requires.from c.number_to-before.ensures in
+    departed class c.args.departure.now.class number number man.at c.args.departure.now.from a k c.requires.class refl c.requires.from
+    c.number_to-before.ensures in
     elim (before_is class number q at man a k fits n b) [
       | inl e ↦ subst (λ (x : ℕ). IsSetWhere c.args.change.cell c.args.change.over c.write_cell.new.cells x) (sym e) c.write_cell.ensures.done
       | inr s ↦ absurd (false≢true (sym c.if-has_en_passant.false

@@ -13,8 +13,8 @@ returns c = λ t q at.
     let men = c.args.setup.now.men.items in
     let side = c.args.setup.now.to_move in
     let set = c.args.attacked in
-    no_capture_of_king c.args.class c.args.number q at men side c.requires.told
-    (sym (check_by_word c.args.class c.args.number q at men side c.requires.told side set c.requires.attacked (other_side side) (other_other side))
+    no_capture_of_king c.args.class c.args.number q at men side c.requires.encodes
+    (sym (check_by_word c.args.class c.args.number q at men side c.requires.encodes side set c.requires.attacked (other_side side) (other_other side))
     ∙ ap (λ (s : Side). list_any (λ m. is_man s King m && has set m.at) men) (sym c.other.ensures)
     ∙ ap (λ (zs : List Man). list_any (λ m. is_man c.other.result King m && has set m.at) zs) (sym c.as_slice.ensures.value)
     ∙ sym c.has_king_in.ensures ∙ t)

@@ -18,6 +18,7 @@ returns c q at =
     ap (λ (s : Side). in_check q.men s) (sym (side_is c.args.class c.args.number q at men side c.requires))
     ∙ sym
     (check_by_word c.args.class c.args.number q at men side c.requires c.other.result set
-    (λ x l. c.attacked_squares-attacked.ensures x l ∙ ap (λ (zs : List Man). is_attacked zs c.other.result x) c.as_slice-men.ensures.value) side c.other.ensures)
+    (λ x l. c.attacked_squares-attacked.ensures x l ∙ ap (λ (zs : List Man). is_attacked zs c.other.result x) c.as_slice-men.ensures.value) side
+    c.other.ensures)
     ∙ ap (λ (zs : List Man). list_any (λ m. is_man side King m && has set m.at) zs) (sym c.as_slice-men.ensures.value)
     ∙ sym c.has_king_in.ensures

@@ -15,8 +15,9 @@ returns c = λ t q at.
     let men = c.args.setup.now.men.items in
     let side = c.args.setup.now.to_move in
     let same = sym c.as_slice-men.ensures.value in
-    stays_quiet c.args.class c.args.number q at c.requires.plain men side c.requires.told
-    (sym (by_word c.args.class c.args.number q at men side c.requires.told side c.args.attacked c.requires.attacked (λ m. same_side m.side (other_side side)))
+    stays_quiet c.args.class c.args.number q at c.requires.plain men side c.requires.encodes
+    (sym (by_word c.args.class c.args.number q at men side c.requires.encodes side c.args.attacked c.requires.attacked
+    (λ m. same_side m.side (other_side side)))
     ∙ ap (λ (s : Side). list_any (λ m. same_side m.side s && has c.args.attacked m.at) men) (sym c.other.ensures)
     ∙ ap (λ (zs : List Man). list_any (λ m. same_side m.side c.other.result && has c.args.attacked m.at) zs) same
     ∙ sym c.has_man_in.ensures ∙ c.if-has_man_in.false)

@@ -19,4 +19,5 @@ returns c y ly =
     c.intersection.ensures y
     ∙ ap (λ (b : Bool). has checks y && b) (c.attacks.ensures y ly
     ∙ ap (λ (s : Side). attacks_square (on_square man to ∷ []) (record { side = s; kind = last.kind; at = x }) y) c.other.ensures)
-    ∙ past_one (has checks y) (attacks_square [] f y) (attacks_square (on_square man to ∷ []) f y) (does_not_block f y to) (c.requires y ly) (bears_men [] man to f y)
+    ∙ past_one (has checks y) (attacks_square [] f y) (attacks_square (on_square man to ∷ []) f y) (does_not_block f y to) (c.requires y ly)
+    (bears_men [] man to f y)

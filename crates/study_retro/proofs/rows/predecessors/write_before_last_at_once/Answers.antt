@@ -46,4 +46,5 @@ returns-clause-done c = λ n y on e b.
     let q = c.requires.numbered y on e in
     let came = last_came row.class (64 * row.number + y) y q.0 q.1 row.others.items row.last row.to_move (row.encoded y on) a n b.1 b.2 in
     c.write_row.ensures.done n a b.1 (c.origins_in_row-origins.ensures.all a b.1 (y, on, e, came.1))
-    (before_is row.class (64 * row.number + y) q.0 q.1 (on_square row.last y) a (64 * c.args.before + a) (λ p moved. c.requires.before y a p on b.1 moved) n b.2)
+    (before_is row.class (64 * row.number + y) q.0 q.1 (on_square row.last y) a (64 * c.args.before + a) (λ p moved. c.requires.before y a p on b.1 moved) n
+    b.2)

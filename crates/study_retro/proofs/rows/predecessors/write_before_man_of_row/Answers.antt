@@ -13,7 +13,8 @@ returns-then-ne-clause-done c = λ n y on e b.
     let q = c.requires.numbered y on e in
     let came = row_came row.class (64 * row.number + y) y q.0 q.1 row.others.items row.last row.to_move (row.encoded y on) c.args.man.now c.requires.man
     b.0 n b.1 b.2 in
-    absurd (false≢true (sym (sym (side_same _ _) ∙ not-true _ (sym c.ne.ensures ∙ c.if-ne.true)) ∙ ap (λ (s : Side). same_side c.args.man.now.side s) c.other.ensures ∙ came.0))
+    absurd (false≢true (sym (sym (side_same _ _) ∙ not-true _ (sym c.ne.ensures ∙ c.if-ne.true))
+    ∙ ap (λ (s : Side). same_side c.args.man.now.side s) c.other.ensures ∙ came.0))
 
 pub write_before_man_from-requires-clause-side : goal.write_before_man_from-requires-clause-side
 write_before_man_from-requires-clause-side c =

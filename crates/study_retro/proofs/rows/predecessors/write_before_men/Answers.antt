@@ -9,7 +9,7 @@ use Rattle.study_retro.specs.RowBack.{IsBeforeRowBy}
 use Rattle.study_retro.specs.RowLevels.{IsBeforeRow}
 use Rattle.study_retro.specs.Still.{on_square}
 use Rattle.study_levels.proofs.CellsLemmas.{each-more}
-use Rattle.study_retro.proofs.BackLemmas.{set-then, set-kept, set-why, before_told}
+use Rattle.study_retro.proofs.BackLemmas.{set-then, set-kept, set-why, before_found}
 use Rattle.study_retro.proofs.rows.predecessors.write_before_men.Goals as goal
 
 pub loop-slot-init : goal.loop-slot-init
@@ -23,7 +23,8 @@ loop-slot-init c = record {
 pub write_before_man_of_row-more-requires-clause-man : goal.write_before_man_of_row-more-requires-clause-man
 write_before_man_of_row-more-requires-clause-man c =
     let men = c.as_slice-man-items.result.now in
-    let there : Contains men c.man-item.result = subst (λ (x : Man). Contains men x) (sym c.man-item.is) (Contains-get_or men c.loop-slot.slot _ c.loop-slot-test.true) in
+    let there : Contains men c.man-item.result = subst (λ (x : Man). Contains men x) (sym c.man-item.is)
+    (Contains-get_or men c.loop-slot.slot _ c.loop-slot-test.true) in
     subst (λ (xs : List Man). Contains xs c.man-item.result) c.as_slice-man-items.ensures.value there
 
 pub loop-slot-preserved : goal.loop-slot-preserved
@@ -37,9 +38,11 @@ loop-slot-preserved c =
     let mid = c.loop-slot.cells in
     let new = c.write_before_man_of_row-more.new.cells in
     let Why : ℕ → Type 0 = IsBeforeRow row.class row.number c.args.decided in
-    let Q : Man → Type 0 = λ x. (n y : ℕ) → y < 64 → has c.args.decided y ≡ true → IsBeforeBy row.class (64 * row.number + y) x n → IsSetWhere cell over new n in
+    let Q : Man → Type 0 = λ x. (n y : ℕ) → y < 64 → has c.args.decided y ≡ true → IsBeforeBy row.class (64 * row.number + y) x n
+    → IsSetWhere cell over new n in
     let more : AreSet Why cell over mid new =
-    set-why cell over (IsBeforeRowBy row.class row.number c.args.decided m) Why mid new (λ n w. (w.0, w.1, w.2, (m, w.3))) c.write_before_man_of_row-more.ensures.rise in
+    set-why cell over (IsBeforeRowBy row.class row.number c.args.decided m) Why mid new (λ n w. (w.0, w.1, w.2, (m, w.3)))
+    c.write_before_man_of_row-more.ensures.rise in
     record {
       size = c.write_before_man_of_row-more.auto.cells ∙ inv.size;
       rise = set-then cell over Why c.args.cells.now mid new inv.rise more;
@@ -55,11 +58,12 @@ returns-clause-done c = λ n y on e b.
     let men = c.as_slice-man-items.result.now in
     let inv = c.loop-slot.invariant in
     let q = c.requires.numbered y on e in
-    let t = before_told row.class (64 * row.number + y) q.0 q.1 (row.others.items ++ on_square row.last y ∷ []) row.to_move (row.encoded y on) n b in
+    let t = before_found row.class (64 * row.number + y) q.0 q.1 (row.others.items ++ on_square row.last y ∷ []) row.to_move (row.encoded y on) n b in
     let C : List Man → Type 0 = λ xs. Contains xs t.0 in
     elim (Contains-push_cases row.others.items (on_square row.last y) t.0 t.1) [
       | inl among ↦ inv.done t.0
-          (subst C (sym (take_all c.loop-slot.slot men (let h = c.loop-slot-test.false in omega (arith, h)))) (subst C (sym c.as_slice-man-items.ensures.value) among))
+          (subst C (sym (take_all c.loop-slot.slot men (let h = c.loop-slot-test.false in omega (arith, h))))
+          (subst C (sym c.as_slice-man-items.ensures.value) among))
           n y on e t.2
       | inr same ↦ inv.last n y on e (subst (λ (m : Man). IsBeforeBy row.class (64 * row.number + y) m n) (sym same) t.2)
     ]

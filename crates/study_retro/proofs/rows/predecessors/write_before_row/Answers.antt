@@ -3,7 +3,7 @@ use Rattle.std.proofs.lemmas.Bool.{false≢true}
 use Rattle.study_board.specs.Sets.{has}
 use Rattle.study_board.proofs.SetBits.{has-zero}
 use Rattle.study_index.proofs.ClassLaws.{below}
-use Rattle.study_index.proofs.ComputedIndex.{told_decoded}
+use Rattle.study_index.proofs.ComputedIndex.{decoded_of_numbered}
 use Rattle.study_retro.proofs.rows.predecessors.write_before_row.Goals as goal
 
 pub returns-then-is_empty-clause-done : goal.returns-then-is_empty-clause-done
@@ -16,5 +16,5 @@ new-requires-clause-cell c =
     let y = c.first-square.result in
     let number = 64 * c.args.row + y in
     let q = c.requires.numbered y f.inside f.there in
-    let b = below c.args.class number q.0 (told_decoded c.args.class number q.0 q.1) in
+    let b = below c.args.class number q.0 (decoded_of_numbered c.args.class number q.0 q.1) in
     omega (arith, b)

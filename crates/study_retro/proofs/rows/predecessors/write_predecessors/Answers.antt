@@ -27,7 +27,8 @@ returns-in-Some-clause-rise c =
     let man = c.args.man.now in
     let a = c.args.origin in
     let set = c.args.led in
-    set-why c.args.change.cell c.args.change.over (IsInRowOrTwin class c.in-Some.before set) (IsBeforeRowFrom class row set man a) c.args.cells.now c.write_row.new.cells
+    set-why c.args.change.cell c.args.change.over (IsInRowOrTwin class c.in-Some.before set) (IsBeforeRowFrom class row set man a) c.args.cells.now
+    c.write_row.new.cells
     (λ i w.
     let y = w.0 in
     let on = w.1 in
@@ -35,8 +36,13 @@ returns-in-Some-clause-rise c =
     let q = c.requires.numbered y on e in
     let low : 64 * row + y < 16777216 = let r = c.requires.plain in omega (arith, r, on) in
     let fits : (p : Position) → IsMoved class (64 * row + y) man.at a p → index_of p ≡ 64 * c.in-Some.before + y =
-    λ p moved. c.in-Some.ensures.numbers y p on (subst (λ (x : ℕ). IsMoved class (64 * row + y) x a p) (sym c.requires.from) moved) in
-    (y, on, e, fit_before class (64 * row + y) q.0 q.1 low man a (64 * c.in-Some.before + y) (c.may_allow_en_passant.ensures c.if-may_allow_en_passant.false) fits (c.requires.led y q.0 on e q.1) i w.3))
+    λ p moved. c.in-Some.ensures.numbers y p on (subst (λ (x : ℕ). IsMoved class (64 * row + y) x a p) (sym c.requires.from) moved) in (
+      y,
+      on,
+      e,
+      fit_before class (64 * row + y) q.0 q.1 low man a (64 * c.in-Some.before + y) (c.may_allow_en_passant.ensures c.if-may_allow_en_passant.false)
+          fits (c.requires.led y q.0 on e q.1) i w.3,
+    ))
     c.write_row.ensures.rise
 
 pub returns-in-Some-clause-done : goal.returns-in-Some-clause-done

@@ -2,7 +2,7 @@ use Rattle.std.proofs.Common.{◌≡◌, ◌+◌, ◌*◌, ℕ, sym, ◌∙◌, 
 use Rattle.study_board.proofs.SquareLists.{none-of-empty}
 use Rattle.study_index.specs.Computed.{position_numbered}
 use Rattle.study_index.proofs.ClassLaws.{below}
-use Rattle.study_index.proofs.ComputedIndex.{told_decoded}
+use Rattle.study_index.proofs.ComputedIndex.{decoded_of_numbered}
 use Rattle.study_retro.specs.Predecessors.{IsBeforeFrom}
 use Rattle.study_levels.specs.Propagation.{AreSet}
 use Rattle.study_retro.proofs.RowSets.{set-none, set-more}
@@ -19,7 +19,7 @@ new-one-requires c =
     let f = first-as _ _ _ y c.in-Some.ensures.steps (c.from.ensures ∙ c.number.ensures.value) in
     let number = 64 * c.args.departure.now.row + y in
     let q = c.requires.numbered y f.inside (c.loop-square.invariant.set.among y f.inside f.there) in
-    below class number q.0 (told_decoded class number q.0 q.1)
+    below class number q.0 (decoded_of_numbered class number q.0 q.1)
 
 pub write_from-requires-clause-numbered : goal.write_from-requires-clause-numbered
 write_from-requires-clause-numbered c =

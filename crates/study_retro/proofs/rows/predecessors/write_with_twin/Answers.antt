@@ -1,7 +1,7 @@
 use Rattle.std.proofs.Common.{◌≡◌, ◌+◌, ◌<◌, ℕ, Some, inl, inr, sym, ◌∙◌, subst}
 use Rattle.std.proofs.lemmas.Bool.{false≢true}
 use Rattle.study_index.proofs.ClassLaws.{below}
-use Rattle.study_index.proofs.ComputedIndex.{told_decoded}
+use Rattle.study_index.proofs.ComputedIndex.{decoded_of_numbered}
 use Rattle.study_index.specs.Computed.{position_numbered}
 use Rattle.study_levels.specs.Propagation.{IsSetWhere}
 use Rattle.study_retro.specs.RowBack.{IsItOrTwin}
@@ -12,7 +12,7 @@ pub write_cell-requires-then-has_en_passant-clause-number : goal.write_cell-requ
 write_cell-requires-then-has_en_passant-clause-number c =
     let p = c.has_en_passant.ensures.0 c.if-has_en_passant.true in
     subst (λ (m : ℕ). c.args.number + 16777216 < m) (sym (c.write_cell.auto.cells ∙ c.requires.cells))
-    (below c.args.class (c.args.number + 16777216) p.0 (told_decoded c.args.class (c.args.number + 16777216) p.0 p.1))
+    (below c.args.class (c.args.number + 16777216) p.0 (decoded_of_numbered c.args.class (c.args.number + 16777216) p.0 p.1))
 
 pub returns-then-has_en_passant-clause-rise : goal.returns-then-has_en_passant-clause-rise
 returns-then-has_en_passant-clause-rise c =

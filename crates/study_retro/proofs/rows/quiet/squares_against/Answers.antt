@@ -6,4 +6,5 @@ use Rattle.study_retro.proofs.rows.quiet.squares_against.Goals as goal
 
 pub returns-then-not-is_relevant_target : goal.returns-then-not-is_relevant_target
 returns-then-not-is_relevant_target c y ly =
-    rw c.empty.ensures (none_unless _ (attacks_square [] (facing c.args.last.now c.args.m.now.at) y) y (sym c.is_relevant_target.ensures ∙ c.if-not-is_relevant_target.true))
+    rw c.empty.ensures (none_unless _ (attacks_square [] (facing c.args.last.now c.args.m.now.at) y) y (sym c.is_relevant_target.ensures
+    ∙ c.if-not-is_relevant_target.true))

@@ -8,7 +8,8 @@ use Rattle.study_retro.specs.Still.{facing, is_relevant_target}
 use Rattle.study_retro.proofs.rows.quiet.squares_bearing.Goals as goal
 
 pub loop-m-init : goal.loop-m-init
-loop-m-init c y ly = rw c.empty-set.ensures (any_none (λ m. is_relevant_target c.args.last.now c.args.to_move m && attacks_square [] (facing c.args.last.now m.at) y) y)
+loop-m-init c y ly = rw c.empty-set.ensures
+    (any_none (λ m. is_relevant_target c.args.last.now c.args.to_move m && attacks_square [] (facing c.args.last.now m.at) y) y)
 
 pub loop-m-preserved : goal.loop-m-preserved
 loop-m-preserved c y ly =

@@ -6,4 +6,5 @@ use Rattle.study_retro.specs.Still.{facing, is_relevant_target}
 use Rattle.study_retro.proofs.rows.quiet.squares_bearing.Given as goal
 
 abbrev pub invariant-loop-m : goal.invariant-loop-m
-invariant-loop-m l = (y : ℕ) → y < 64 → has l.set y ≡ list_any (λ m. is_relevant_target l.last l.to_move m && attacks_square [] (facing l.last m.at) y) (take l.m-index l.others)
+invariant-loop-m l = (y : ℕ) → y < 64 → has l.set y ≡ list_any (λ m. is_relevant_target l.last l.to_move m && attacks_square [] (facing l.last m.at) y)
+    (take l.m-index l.others)

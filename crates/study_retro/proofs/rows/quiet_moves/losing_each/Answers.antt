@@ -6,10 +6,10 @@ use Rattle.study_board.specs.Position.{is_occupied}
 use Rattle.study_board.proofs.SquareLists.{first-of, none-of-empty}
 use Rattle.study_moves.specs.AnyOrder.{is_safe_target}
 use Rattle.study_values.specs.Number.{without_bit}
-use Rattle.study_index.specs.Decoded.{slots_of, told_men}
+use Rattle.study_index.specs.Decoded.{slots_of, decoded_men}
 use Rattle.study_index.specs.Computed.{position_numbered}
 use Rattle.study_index.proofs.ClassLaws.{below}
-use Rattle.study_index.proofs.ComputedIndex.{told_decoded}
+use Rattle.study_index.proofs.ComputedIndex.{decoded_of_numbered}
 use Rattle.study_retro.specs.ClassGame.{class_game}
 use Rattle.study_levels.specs.Numbered.{NoLossBy}
 use Rattle.study_retro.proofs.SquaresKept.{first-as, kept-none, kept-with, kept-without}
@@ -25,7 +25,7 @@ new-one-requires g c =
     let f = first-as _ _ _ y c.in-Some.ensures.steps (c.from.ensures ∙ c.number.ensures.value) in
     let number = 64 * c.args.departure.now.row + y in
     let q = c.requires.numbered y f.inside (c.loop-square.invariant.among y f.inside f.there) in
-    below class number q.0 (told_decoded class number q.0 q.1)
+    below class number q.0 (decoded_of_numbered class number q.0 q.1)
 
 pub loses_after-requires-clause-numbered : goal.loses_after-requires-clause-numbered
 loses_after-requires-clause-numbered g c =
@@ -56,7 +56,7 @@ loses_after-requires-clause-safe g c =
     let f = first-as _ _ _ y c.in-Some.ensures.steps (c.from.ensures ∙ c.number.ensures.value) in
     let can = c.requires.going y f.inside (c.loop-square.invariant.among y f.inside f.there) in
     ap (λ (ms : List Man). is_safe_target ms c.decode_men-setup.result.to_move c.args.man.now c.args.target) c.decode_men-setup.ensures.men
-    ∙ (ap (λ (s : Side). is_safe_target (told_men (slots_of class) (without_bit number)) s c.args.man.now c.args.target) c.decode_men-setup.ensures.to_move
+    ∙ (ap (λ (s : Side). is_safe_target (decoded_men (slots_of class) (without_bit number)) s c.args.man.now c.args.target) c.decode_men-setup.ensures.to_move
     ∙ can.safe)
 
 pub loses_after-requires-clause-free : goal.loses_after-requires-clause-free

@@ -5,7 +5,7 @@ use Rattle.study_board.specs.Sets.{has}
 use Rattle.study_board.proofs.SetBits.{has-zero}
 use Rattle.study_index.specs.Computed.{position_numbered}
 use Rattle.study_index.proofs.ClassLaws.{below}
-use Rattle.study_index.proofs.ComputedIndex.{told_decoded}
+use Rattle.study_index.proofs.ComputedIndex.{decoded_of_numbered}
 use Rattle.study_retro.specs.ClassGame.{class_game}
 use Rattle.study_levels.specs.Numbered.{LosesBy, NoLossBy}
 use Rattle.study_retro.proofs.rows.quiet_moves.lost_in_row_without_en_passant.Goals as goal
@@ -20,7 +20,7 @@ new-requires-clause-cell g c =
     let class = c.args.game.now.class in
     let number = 64 * c.args.row + c.first-square.result in
     let q = c.requires.numbered c.first-square.result f.inside f.there in
-    let l = below class number q.0 (told_decoded class number q.0 q.1) in
+    let l = below class number q.0 (decoded_of_numbered class number q.0 q.1) in
     omega (arith, l)
 
 pub lost_of_row-requires-clause-numbered : goal.lost_of_row-requires-clause-numbered

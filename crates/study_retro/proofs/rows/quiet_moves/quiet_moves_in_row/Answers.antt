@@ -7,7 +7,7 @@ use Rattle.study_board.specs.Sets.{has}
 use Rattle.study_board.proofs.SetBits.{has-zero}
 use Rattle.study_material.specs.declared.class.Class.{Class}
 use Rattle.study_retro.specs.ClassGame.{class_game}
-use Rattle.study_retro.specs.Predecessors.{AreTold}
+use Rattle.study_retro.specs.Predecessors.{AreEncoded}
 use Rattle.study_retro.specs.RowEscapes.{AllLoseBy}
 use Rattle.study_retro.specs.Still.{on_square}
 use Rattle.study_levels.proofs.CellsLemmas.{each-more}
@@ -66,9 +66,9 @@ returns-clause-yes g c = λ y q on t at.
     let men = c.as_slice-man-items.result.now in
     let row = c.args.row.now in
     let small = row.plain in
-    let told = subst (λ (d : Class). AreTold d (64 * row.number + y) (row.others.items ++ on_square row.last y ∷ []) row.to_move) c.requires.class
+    let encodes = subst (λ (d : Class). AreEncoded d (64 * row.number + y) (row.others.items ++ on_square row.last y ∷ []) row.to_move) c.requires.class
     (row.encoded y on) in
-    row_lose c.args.game.now.class (64 * row.number + y) y q at (omega (arith, small, on)) row.others.items row.last row.to_move told
+    row_lose c.args.game.now.class (64 * row.number + y) y q at (omega (arith, small, on)) row.others.items row.last row.to_move encodes
     (class_game c.args.game.now.class c.args.game.now.tables.now) c.args.cells.now c.args.level
     (λ m i. let C : List Man → Type 0 = λ xs. Contains xs m in
     c.loop-slot.invariant.lose m

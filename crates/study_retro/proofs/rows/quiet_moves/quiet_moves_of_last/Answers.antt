@@ -7,7 +7,7 @@ use Rattle.study_material.specs.declared.class.Class.{Class}
 use Rattle.study_material.specs.Class.{lists_of}
 use Rattle.study_values.specs.Number.{has_both_pawns}
 use Rattle.study_index.specs.Moved.{IsMoved}
-use Rattle.study_retro.specs.Predecessors.{AreTold}
+use Rattle.study_retro.specs.Predecessors.{AreEncoded}
 use Rattle.study_retro.specs.Still.{on_square}
 use Rattle.study_retro.proofs.RowEscapeLemmas.{go_below, go_escape, go_some, go_won, last_can, last_goes}
 use Rattle.study_retro.proofs.rows.quiet_moves.quiet_moves_of_last.Goals as goal
@@ -20,9 +20,9 @@ pub returns-then-ne-clause-yes : goal.returns-then-ne-clause-yes
 returns-then-ne-clause-yes g c = λ y q on e at x legal quiet.
     let row = c.args.row.now in
     let small = row.plain in
-    let told = subst (λ (d : Class). AreTold d (64 * row.number + y) (row.others.items ++ on_square row.last y ∷ []) row.to_move) c.requires.class
+    let encodes = subst (λ (d : Class). AreEncoded d (64 * row.number + y) (row.others.items ++ on_square row.last y ∷ []) row.to_move) c.requires.class
     (row.encoded y on) in
-    let go = last_goes c.args.game.now.class (64 * row.number + y) y q at (omega (arith, small, on)) row.others.items row.last row.to_move told
+    let go = last_goes c.args.game.now.class (64 * row.number + y) y q at (omega (arith, small, on)) row.others.items row.last row.to_move encodes
     x legal quiet in
     absurd (false≢true (sym (sym (side_same _ _) ∙ not-true _ (sym c.ne.ensures ∙ c.if-ne.true)) ∙ go.1))
 
@@ -38,14 +38,14 @@ squares_won-won-requires-clause-cells g c = λ x onx e.
     let y = w.0 in
     let number = 64 * row.number + y in
     let plain : number < 16777216 = let on = w.1 in omega (arith, small, on) in
-    let told = subst (λ (d : Class). AreTold d number (row.others.items ++ on_square row.last y ∷ []) row.to_move) c.requires.class (row.encoded y w.1) in
+    let encodes = subst (λ (d : Class). AreEncoded d number (row.others.items ++ on_square row.last y ∷ []) row.to_move) c.requires.class (row.encoded y w.1) in
     let q = c.requires.numbered y w.1 w.2 in
     let passes = inl (subst (λ (d : Class). has_both_pawns (lists_of d) ≡ false) c.requires.class (sym c.has_both_pawns.ensures ∙ c.if-has_both_pawns.false)) in
     let fits = λ (p : Position) (moved : IsMoved class number y x p).
     c.in-Some.ensures.numbers y x p w.1 onx (subst (λ (d : Class). IsMoved d number y x p) (sym c.requires.class) moved) in
     subst (λ (m : ℕ). 64 * c.in-Some.after + x < m) (sym c.requires.cells)
     (go_below class number q.0 q.1 plain (on_square row.last y) x onx
-    (last_can class number y q.0 q.1 plain row.others.items row.last row.to_move told his x w.3) passes stays c.args.game.now.tables.now
+    (last_can class number y q.0 q.1 plain row.others.items row.last row.to_move encodes his x w.3) passes stays c.args.game.now.tables.now
     c.requires.laws c.args.cells.now (64 * c.in-Some.after + x) fits)
 
 -- if the last man goes to a square that is neither won nor on its last rank, it escapes
@@ -63,13 +63,13 @@ returns-in-Some-clause-no g c = λ y on e f.
     let quiet : has c.without-quiet.result x ≡ true = c.without-quiet.ensures x w.1 ∙ rw (there, outside.1) refl in
     let number = 64 * row.number + y in
     let plain : number < 16777216 = let on = on in omega (arith, small, on) in
-    let told = subst (λ (d : Class). AreTold d number (row.others.items ++ on_square row.last y ∷ []) row.to_move) c.requires.class (row.encoded y on) in
+    let encodes = subst (λ (d : Class). AreEncoded d number (row.others.items ++ on_square row.last y ∷ []) row.to_move) c.requires.class (row.encoded y on) in
     let q = c.requires.numbered y on e in
     let passes = inl (subst (λ (d : Class). has_both_pawns (lists_of d) ≡ false) c.requires.class (sym c.has_both_pawns.ensures ∙ c.if-has_both_pawns.false)) in
     let fits = λ (p : Position) (moved : IsMoved class number y x p).
     c.in-Some.ensures.numbers y x p on w.1 (subst (λ (d : Class). IsMoved d number y x p) (sym c.requires.class) moved) in
     go_escape class number q.0 q.1 plain (on_square row.last y) x w.1
-    (last_can class number y q.0 q.1 plain row.others.items row.last row.to_move told his x w.2) passes stays c.args.game.now.tables.now
+    (last_can class number y q.0 q.1 plain row.others.items row.last row.to_move encodes his x w.2) passes stays c.args.game.now.tables.now
     c.requires.laws c.args.cells.now (64 * c.in-Some.after + x) fits c.args.level (λ v. c.squares_won-won.ensures.no x v.0 w.1 quiet outside.0 v.1 v.2)
   where
     or_false : (a b : Bool) → (a || b) ≡ false → (a ≡ false) × (b ≡ false)
@@ -85,8 +85,8 @@ returns-in-Some-clause-yes g c = λ y q on e at x legal quiet.
     let his = sym (side_same _ _) ∙ not-false _ (sym c.ne.ensures ∙ c.if-ne.false) in
     let number = 64 * row.number + y in
     let plain : number < 16777216 = let on = on in omega (arith, small, on) in
-    let told = subst (λ (d : Class). AreTold d number (row.others.items ++ on_square row.last y ∷ []) row.to_move) c.requires.class (row.encoded y on) in
-    let go = last_goes class number y q at plain row.others.items row.last row.to_move told x legal quiet in
+    let encodes = subst (λ (d : Class). AreEncoded d number (row.others.items ++ on_square row.last y ∷ []) row.to_move) c.requires.class (row.encoded y on) in
+    let go = last_goes class number y q at plain row.others.items row.last row.to_move encodes x legal quiet in
     let out : has c.promotion_squares-promoting.result x ≡ false = c.promotion_squares-promoting.ensures x go.0 ∙ go.3 in
     let won = (c.squares_won-won.ensures.yes x go.0 (left_true (has c.squares_won-won.result x) (has c.promotion_squares-promoting.result x)
     (sym (c.union.ensures x) ∙ c.moves_of_last.ensures.yes y x on e go.0 go.2) out)).1 in
@@ -94,7 +94,7 @@ returns-in-Some-clause-yes g c = λ y q on e at x legal quiet.
     let fits = λ (p : Position) (moved : IsMoved class number y x p).
     c.in-Some.ensures.numbers y x p on go.0 (subst (λ (d : Class). IsMoved d number y x p) (sym c.requires.class) moved) in
     go_won class number q at plain (on_square row.last y) x go.0
-    (last_can class number y q at plain row.others.items row.last row.to_move told his x go.2) passes go.3 c.args.game.now.tables.now
+    (last_can class number y q at plain row.others.items row.last row.to_move encodes his x go.2) passes go.3 c.args.game.now.tables.now
     c.requires.laws c.args.cells.now (64 * c.in-Some.after + x) fits c.args.level won q at
   where
     left_true : (a b : Bool) → (a || b) ≡ true → b ≡ false → a ≡ true
@@ -111,7 +111,8 @@ returns-in-Some-clause-some g c = λ y q on e at. elim (c.moves_of_last.ensures.
       let his = sym (side_same _ _) ∙ not-false _ (sym c.ne.ensures ∙ c.if-ne.false) in
       let number = 64 * row.number + y in
       let plain : number < 16777216 = let on = on in omega (arith, small, on) in
-      let told = subst (λ (d : Class). AreTold d number (row.others.items ++ on_square row.last y ∷ []) row.to_move) c.requires.class (row.encoded y on) in
+      let encodes = subst (λ (d : Class). AreEncoded d number (row.others.items ++ on_square row.last y ∷ []) row.to_move) c.requires.class
+      (row.encoded y on) in
       go_some class number q at plain (on_square row.last y) w.1.0 w.1.1
-      (last_can class number y q at plain row.others.items row.last row.to_move told his w.1.0 w.1.2)
+      (last_can class number y q at plain row.others.items row.last row.to_move encodes his w.1.0 w.1.2)
 ]

@@ -5,7 +5,7 @@ use Rattle.study_board.specs.declared.men.Man.{Man}
 use Rattle.study_board.proofs.SquareLists.{first-of, none-of-empty}
 use Rattle.study_material.specs.declared.class.Class.{Class}
 use Rattle.study_index.specs.Computed.{position_numbered}
-use Rattle.study_retro.specs.Predecessors.{AreTold}
+use Rattle.study_retro.specs.Predecessors.{AreEncoded}
 use Rattle.study_retro.specs.ClassGame.{class_game}
 use Rattle.study_levels.specs.Numbered.{NoLossBy}
 use Rattle.study_retro.specs.Still.{HasMove, on_square}
@@ -29,9 +29,9 @@ quiet_moves_of-moves-requires-clause-man g c =
     let row = c.args.row.now in
     let y = c.from.result in
     let f = first-as _ _ _ y c.in-Some.ensures.steps (c.from.ensures ∙ c.number.ensures.value) in
-    let told = subst (λ (d : Class). AreTold d (64 * row.number + y) (row.others.items ++ on_square row.last y ∷ []) row.to_move) c.requires.class
+    let encodes = subst (λ (d : Class). AreEncoded d (64 * row.number + y) (row.others.items ++ on_square row.last y ∷ []) row.to_move) c.requires.class
     (row.encoded y f.inside) in
-    subst (λ (xs : List Man). Contains xs c.args.man.now) (told.0 ∙ sym c.decode_men-setup.ensures.men)
+    subst (λ (xs : List Man). Contains xs c.args.man.now) (encodes.0 ∙ sym c.decode_men-setup.ensures.men)
     (Contains-append_left row.others.items (on_square row.last y ∷ []) c.args.man.now c.requires.man)
 
 pub loop-square-preserved : goal.loop-square-preserved

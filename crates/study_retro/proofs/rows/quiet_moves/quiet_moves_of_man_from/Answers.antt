@@ -14,7 +14,7 @@ use Rattle.study_index.specs.Computed.{position_numbered}
 use Rattle.study_levels.specs.Numbered.{NoLossBy}
 use Rattle.study_levels.proofs.SquaresLeft.{still-among, taken-too}
 use Rattle.study_retro.specs.ClassGame.{class_game}
-use Rattle.study_retro.specs.Predecessors.{AreTold}
+use Rattle.study_retro.specs.Predecessors.{AreEncoded}
 use Rattle.study_retro.specs.RowEscapes.{CanGo}
 use Rattle.study_retro.specs.RowMoves.{AreOnDistinctSquares, goes_quietly}
 use Rattle.study_retro.specs.Still.{IsWonAfter, move_to, on_square}
@@ -60,7 +60,7 @@ losing_after-lost-requires-clause-going g c = λ y on e.
     let small = row.plain in
     let both = and_parts _ _ (sym (c.intersection-going.ensures y) ∙ e) in
     let q = c.requires.numbered y on (c.loop-target.invariant.among y on both.0) in
-    let told = subst (λ (d : Class). AreTold d (64 * row.number + y) (row.others.items ++ on_square row.last y ∷ []) row.to_move) c.requires.class
+    let encodes = subst (λ (d : Class). AreEncoded d (64 * row.number + y) (row.others.items ++ on_square row.last y ∷ []) row.to_move) c.requires.class
     (row.encoded y on) in
     let his = c.requires.side in
     let word = made-for (λ xs last side m. AreOnDistinctSquares (xs ++ on_square last y ∷ [])
@@ -69,7 +69,7 @@ losing_after-lost-requires-clause-going g c = λ y on e.
     (c.new-checks.ensures.others ∙ c.as_slice-others.ensures.value) c.new-checks.ensures.last c.new-checks.ensures.side c.new-checks.ensures.man
     (c.squares_allowing_move.ensures y on) in
     subst (λ (d : ℕ). CanGo c.args.game.now.class (64 * d + y) man a) (sym c.requires.row)
-    (row_can c.args.game.now.class (64 * row.number + y) y q.0 q.1 (omega (arith, small, on)) row.others.items row.last row.to_move told man c.requires.man
+    (row_can c.args.game.now.class (64 * row.number + y) y q.0 q.1 (omega (arith, small, on)) row.others.items row.last row.to_move encodes man c.requires.man
     his a c.squares_allowing_move.result word both.1)
 
 pub loop-target-preserved : goal.loop-target-preserved
@@ -110,16 +110,16 @@ loop-target-preserved g c =
       lose = λ y x q on there at in64.
           let Loses : ℕ → Type 0 = λ z. is_legal q (move_to man z) ≡ true → IsQuiet q (move_to man z)
           → IsWonAfter (class_game class c.args.game.now.tables.now) c.args.cells.now c.args.level q (move_to man z) in
-          let told = subst (λ (d : Class). AreTold d (64 * row.number + y) (row.others.items ++ on_square row.last y ∷ []) row.to_move)
+          let encodes = subst (λ (d : Class). AreEncoded d (64 * row.number + y) (row.others.items ++ on_square row.last y ∷ []) row.to_move)
           c.requires.class (row.encoded y on) in
           let plain : 64 * row.number + y < 16777216 = omega (arith, small, on) in
           let here : Loses a = λ legal quiet. elim (cases y on there) [
             | inl is_lost ↦
                 c.losing_after-lost.ensures.yes
-                (row_stays class (64 * row.number + y) y q at plain row.others.items row.last row.to_move told man c.requires.man a legal quiet)
+                (row_stays class (64 * row.number + y) y q at plain row.others.items row.last row.to_move encodes man c.requires.man a legal quiet)
                 y q on is_lost (ap (λ (d : ℕ). position_numbered class (64 * d + y)) is_row ∙ at)
             | inr k ↦
-                let go = row_goes class (64 * row.number + y) y q at plain row.others.items row.last row.to_move told man c.requires.man a legal quiet in
+                let go = row_goes class (64 * row.number + y) y q at plain row.others.items row.last row.to_move encodes man c.requires.man a legal quiet in
                 absurd (false≢true (sym k.1 ∙ (c.intersection-going.ensures y ∙ rw (k.0, go.3 c.squares_allowing_move.result (word y on)) refl)))
           ] in
           taken-too c.into_iter-target-iterator.result c.loop-target.target-iterator a c.next.new.self f Loses
@@ -129,11 +129,11 @@ loop-target-preserved g c =
         | inr out ↦
             let goes : has going y ≡ true = sym (ap (λ (b : Bool). b || has going y) out) ∙ (sym (c.union-some.ensures y) ∙ e) in
             let both = and_parts (has losing y) (has c.squares_allowing_move.result y) (sym (c.intersection-going.ensures y) ∙ goes) in
-            let told = subst (λ (d : Class). AreTold d (64 * row.number + y) (row.others.items ++ on_square row.last y ∷ []) row.to_move)
+            let encodes = subst (λ (d : Class). AreEncoded d (64 * row.number + y) (row.others.items ++ on_square row.last y ∷ []) row.to_move)
             c.requires.class (row.encoded y on) in
             let plain : 64 * row.number + y < 16777216 = omega (arith, small, on) in
             go_some class (64 * row.number + y) q at plain man a f.inside
-            (row_can class (64 * row.number + y) y q at plain row.others.items row.last row.to_move told man c.requires.man his a
+            (row_can class (64 * row.number + y) y q at plain row.others.items row.last row.to_move encodes man c.requires.man his a
             c.squares_allowing_move.result (word y on) both.1)
       ];
     }
@@ -142,9 +142,9 @@ pub returns-clause-yes : goal.returns-clause-yes
 returns-clause-yes g c = λ y q on e at x legal quiet.
     let row = c.args.row.now in
     let small = row.plain in
-    let told = subst (λ (d : Class). AreTold d (64 * row.number + y) (row.others.items ++ on_square row.last y ∷ []) row.to_move) c.requires.class
+    let encodes = subst (λ (d : Class). AreEncoded d (64 * row.number + y) (row.others.items ++ on_square row.last y ∷ []) row.to_move) c.requires.class
     (row.encoded y on) in
-    let go = row_goes c.args.game.now.class (64 * row.number + y) y q at (omega (arith, small, on)) row.others.items row.last row.to_move told
+    let go = row_goes c.args.game.now.class (64 * row.number + y) y q at (omega (arith, small, on)) row.others.items row.last row.to_move encodes
     c.args.man.now c.requires.man x legal quiet in
     let there = ap (λ (set : ℕ). has set x) c.into_iter-target-iterator.ensures.into_iter_gives
     ∙ (c.targets_among-target-items.ensures x go.0

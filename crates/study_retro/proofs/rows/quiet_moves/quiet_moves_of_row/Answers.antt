@@ -4,7 +4,7 @@ use Rattle.study_board.specs.Sets.{has}
 use Rattle.study_board.proofs.EqualMen.{side_same}
 use Rattle.study_board.proofs.SetBits.{has-zero}
 use Rattle.study_material.specs.declared.class.Class.{Class}
-use Rattle.study_retro.specs.Predecessors.{AreTold}
+use Rattle.study_retro.specs.Predecessors.{AreEncoded}
 use Rattle.study_retro.specs.Still.{on_square}
 use Rattle.study_retro.proofs.RowEscapeLemmas.{row_goes}
 use Rattle.study_retro.proofs.rows.quiet_moves.quiet_moves_of_row.Goals as goal
@@ -17,9 +17,9 @@ pub returns-then-ne-clause-yes : goal.returns-then-ne-clause-yes
 returns-then-ne-clause-yes g c = λ y q on e at x legal quiet.
     let row = c.args.row.now in
     let small = row.plain in
-    let told = subst (λ (d : Class). AreTold d (64 * row.number + y) (row.others.items ++ on_square row.last y ∷ []) row.to_move) c.requires.class
+    let encodes = subst (λ (d : Class). AreEncoded d (64 * row.number + y) (row.others.items ++ on_square row.last y ∷ []) row.to_move) c.requires.class
     (row.encoded y on) in
-    let go = row_goes c.args.game.now.class (64 * row.number + y) y q at (omega (arith, small, on)) row.others.items row.last row.to_move told
+    let go = row_goes c.args.game.now.class (64 * row.number + y) y q at (omega (arith, small, on)) row.others.items row.last row.to_move encodes
     c.args.man.now c.requires.man x legal quiet in
     absurd (false≢true (sym (sym (side_same _ _) ∙ not-true _ (sym c.ne.ensures ∙ c.if-ne.true)) ∙ go.1))
 

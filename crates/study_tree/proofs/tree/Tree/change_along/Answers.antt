@@ -1,4 +1,4 @@
-use Rattle.std.proofs.Common.{◌∷◌, sym, ap, arith}
+use Rattle.std.proofs.Common.{◌∷◌, sym, ap}
 use Rattle.study_tree.specs.Forest.{forest_of}
 use Rattle.study_tree.specs.Tree.{plain_tree}
 use Rattle.study_tree.proofs.ShownTrees.{found_in}

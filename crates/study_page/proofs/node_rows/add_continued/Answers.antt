@@ -1,0 +1,40 @@
+use Rattle.std.proofs.Common.{map}
+use Rattle.study_moves.specs.Rules.{after}
+use Rattle.study_moves.specs.LegalList.{legal_list}
+use Rattle.study_facts.proofs.Within.{each-legal, some-fault, some-evaluated}
+use Rattle.study_facts.proofs.NotHeld.{no_value-of}
+use Rattle.study_facts.specs.Asked.{within}
+use Rattle.study_facts.proofs.Asking.{of-fault, of-evaluated, no-memory}
+use Rattle.study_page.proofs.node_rows.add_continued.Goals as goal
+
+pub returns-in-Err-clause-asked : goal.returns-in-Err-clause-asked
+returns-in-Err-clause-asked g c =
+    of-fault (within c.args.here.now.node.position.now g.V.Values.source) (Unit {0})
+    c.args.values.now c.drawing_moves.new.values c.in-Err.fault
+    (some-fault g.V.Values.source c.args.here.now.node.position.now (g.V.Values.source.held c.args.values.now) c.args.values.now c.drawing_moves.new.values
+    (map (after c.args.here.now.node.position.now) (legal_list c.args.here.now.node.position.now)) c.in-Err.fault
+    (each-legal c.args.here.now.node.position.now) c.in-Err.ensures.no_value c.in-Err.ensures.first)
+    (λ k e. no_value-of (g.V.Values.source.held c.args.values.now)
+    (map (after c.args.here.now.node.position.now) (legal_list c.args.here.now.node.position.now))
+    c.in-Err.fault k c.in-Err.ensures.no_value e)
+    c.in-Err.ensures.no_damage c.in-Err.ensures.failures c.drawing_moves.ensures.honest c.drawing_moves.ensures.tables
+
+pub returns-in_err-put_keep_at-in-Ok-clause-asked : goal.returns-in_err-put_keep_at-in-Ok-clause-asked
+returns-in_err-put_keep_at-in-Ok-clause-asked g c =
+    no-memory (within c.args.here.now.node.position.now g.V.Values.source)
+    c.args.values.now c.drawing_moves.new.values c.from_residual.result c.from_residual.ensures.1
+    (of-evaluated (within c.args.here.now.node.position.now g.V.Values.source)
+    c.args.values.now c.drawing_moves.new.values
+    (some-evaluated g.V.Values.source c.args.here.now.node.position.now c.args.values.now c.drawing_moves.new.values
+    (map (after c.args.here.now.node.position.now) (legal_list c.args.here.now.node.position.now)) (each-legal c.args.here.now.node.position.now)
+    c.in-Ok.ensures.evaluated)
+    c.in-Ok.ensures.failures c.drawing_moves.ensures.honest c.drawing_moves.ensures.tables)
+
+pub returns-in_ok-put_keep_at-in-Ok-clause-asked : goal.returns-in_ok-put_keep_at-in-Ok-clause-asked
+returns-in_ok-put_keep_at-in-Ok-clause-asked g c =
+    of-evaluated (within c.args.here.now.node.position.now g.V.Values.source)
+    c.args.values.now c.drawing_moves.new.values
+    (some-evaluated g.V.Values.source c.args.here.now.node.position.now c.args.values.now c.drawing_moves.new.values
+    (map (after c.args.here.now.node.position.now) (legal_list c.args.here.now.node.position.now)) (each-legal c.args.here.now.node.position.now)
+    c.in-Ok.ensures.evaluated)
+    c.in-Ok.ensures.failures c.drawing_moves.ensures.honest c.drawing_moves.ensures.tables
