@@ -39,6 +39,23 @@ export const REASONS = /** @type {Record<string, string>} */ ({
   TableRead: 'the file of a table could not be read',
   OutOfMemory: 'no memory is left',
 });
+/** Why a game was left out that a script would not be refused for, by the name of the fault. */
+export const GAME_REASONS = /** @type {Record<string, string>} */ ({
+  GameTooLarge: 'more than 1,048,576 bytes',
+  TagForm: 'a tag that is not a name and a text in quotation marks',
+  OpenString: 'a tag whose text is not closed in its line',
+  NoStipulation: 'it does not say what is to be done',
+  TagInMoves: 'a tag among the moves',
+  Numbering: 'a move number that does not fit',
+  NullMove: 'a null move in the main line',
+  BehindResult: 'moves behind the result',
+  Byte: 'a letter that begins no move',
+  OpenComment: 'a comment that is not closed',
+  NoMoveBefore: 'a variation before the first move',
+  NotOpened: 'a ) without its (',
+  OpenVariation: 'a ( without its )',
+  TooNested: 'more than 256 variations within one another',
+});
 /** What the sentence of a verdict says of the one fault if it loses time alone, and of several that do. */
 export const LOST = [', which loses time alone', ', which lose time alone'];
 /** The stamp of a study all of whose faults lose time alone. */

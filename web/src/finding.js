@@ -117,11 +117,21 @@ function addFound(now, lines) {
   [now.at, now.of, now.many] = [Number(at), Number(of), now.many + lines.length];
 }
 /**
+ * How a search with more positions than are listed is narrowed down, in words.
+ * @param {string} theme      as THEMES has it
+ * @param {number} moves      the number of only moves in a row, for a theme that takes one
+ */
+export function narrowing(theme, moves) {
+  if (theme.startsWith('longest')) return '';
+  return `; narrow it down by squares${theme.endsWith('N') && moves < 12 ? ', or by more only moves' : ''}`;
+}
+/**
  * How a search stands, in words.
  * @param {Search} now
+ * @param {string} advice      what is said where not all are listed
  */
-export function searchText({at, of, found, many, ended}) {
-  const whole = of > 0 && at >= of, first = `the first ${found.length} are listed; narrow it down by squares`,
+export function searchText({at, of, found, many, ended}, advice) {
+  const whole = of > 0 && at >= of, first = `the first ${found.length} are listed${advice}`,
         end = {all: 'all there are', enough: whole ? `all there are, and ${first}` : first, stopped: 'stopped'}[ended];
   const part = whole || !of ? '' : `; ${Math.floor(100 * at / of)} % looked at`;
   return `${counted(many, 'position')} found${part}: ${end || 'searching …'}.`;

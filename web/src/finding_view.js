@@ -5,7 +5,7 @@ import {track} from './actions.js';
 import {app, services} from './state.js';
 import {CLASSES} from './core_host.js';
 import {control, sideOf} from './fen.js';
-import {THEMES, manMissing, opened, search, searchText} from './finding.js';
+import {THEMES, manMissing, narrowing, opened, search, searchText} from './finding.js';
 import {openText} from './opening.js';
 import {toText} from './script.js';
 import {draftFen} from './setup.js';
@@ -23,7 +23,7 @@ const form = {
 };
 /**
  * @type {{spawn: () => import('./engine.js').Core, search: Search | null, going: boolean, fault: string,
- *   shown: string, lacking: string, here: string, chosen: boolean}}
+ *   shown: string, advice: string, lacking: string, here: string, chosen: boolean}}
  */
 const state = {
   spawn: () => services.core,
@@ -31,6 +31,7 @@ const state = {
   going: false,
   fault: '',
   shown: '',
+  advice: '',
   lacking: '',
   here: '',
   chosen: false
@@ -136,8 +137,8 @@ function find() {
     most: MOST
   };
   const shown = [wanted.name, wanted.theme, wanted.filters].filter(Boolean).join(' '),
-        lacking = manMissing(wanted.name, wanted.filters);
-  Object.assign(state, {search: null, going: true, fault: '', shown, lacking});
+        lacking = manMissing(wanted.name, wanted.filters), advice = narrowing(form.theme, Number(form.n));
+  Object.assign(state, {search: null, going: true, fault: '', shown, advice, lacking});
   showFinding();
   const found = (/** @type {Search} */ now) => {
     state.search = now;
@@ -158,7 +159,7 @@ function soFar() {
   const now = state.search;
   if (state.fault) return `Not found: ${state.fault}.`;
   if (!now) return state.going ? 'Its tables are being read, or built …' : '';
-  return `${state.shown}: ${now.found.length || !state.lacking ? searchText(now) : `${state.lacking}.`}`;
+  return `${state.shown}: ${now.found.length || !state.lacking ? searchText(now, state.advice) : `${state.lacking}.`}`;
 }
 /** @param {Found} found */
 function linesOf(found) {

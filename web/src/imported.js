@@ -1,6 +1,7 @@
 // @ts-check
 // What the program makes of a PGN: blocks of lines with remarks above them, and for each game that has none a remark
 // that says why.
+import {GAME_REASONS} from './core_words.js';
 import {counted, reason} from './words.js';
 /**
  * A game that was left out: where in the PGN, its author as far as one is named, why, and at which text.
@@ -44,22 +45,6 @@ export function leftOutBy(line) {
   const [why, text = ''] = m[5].replace(/^left out: /, '').split(' at ');
   return {game: Number(m[1]), line: Number(m[2]), column: Number(m[3]) || 0, author: m[4] || '', why, text};
 }
-const FAULTS = /** @type {Record<string, string>} */ ({
-  GameTooLarge: 'longer than a million bytes',
-  TagForm: 'a tag that is not written as [Name "text"]',
-  OpenString: 'a tag whose text is not closed in its line',
-  TagInMoves: 'a tag among the moves',
-  Numbering: 'a move number that does not fit',
-  NullMove: 'a null move in the main line',
-  BehindResult: 'moves behind the result',
-  Byte: 'a letter that begins no move',
-  OpenComment: 'a comment that is not closed',
-  NoMoveBefore: 'a variation before the first move',
-  NotOpened: 'a ) without its (',
-  OpenVariation: 'a ( without its )',
-  TooNested: 'more than 256 variations within one another',
-  NoStipulation: 'it does not say what is to be done'
-});
 /**
  * Why a game was left out, in words.
  * @param {LeftOut} game
@@ -67,7 +52,7 @@ const FAULTS = /** @type {Record<string, string>} */ ({
 export function whyLeftOut({why, text}) {
   const words = why === 'NotSan' && /^[DTSLCFAV][a-h1-8x:]/.test(text)
     ? 'not a move with the letters K Q R B N, as a PGN has them'
-    : FAULTS[why] || (/^[A-Z]\w+$/.test(why) ? reason('error ' + why) : why);
+    : GAME_REASONS[why] || (/^[A-Z]\w+$/.test(why) ? reason('error ' + why) : why);
   return text ? `${text}: ${words}` : words;
 }
 /** @param {LeftOut} game */

@@ -3,7 +3,7 @@ import test from 'node:test';
 import assert from 'node:assert/strict';
 import {placesBefore} from '../src/earlier.js';
 import {menOf} from '../src/fen.js';
-import {manMissing, opened, placements, readFound, searchText} from '../src/finding.js';
+import {manMissing, narrowing, opened, placements, readFound, searchText} from '../src/finding.js';
 
 test('a line of a list is read', () => {
   assert.deepEqual(readFound('1B6/3K4/8/1k6/8/P7/8/8 w - - 0 1 draw loss 38'),
@@ -44,12 +44,15 @@ test('what can have stood before a position', () => {
   assert.equal(placesBefore('3Q4/3r4/8/8/8/2k5/8/K7 b - - 0 1').some(({promoted}) => promoted), false);
 });
 test('how a search stands', () => {
-  const search = {at: 50, of: 100, found: Array(3), many: 3, ended: ''};
-  assert.equal(searchText(search), '3 positions found; 50 % looked at: searching ….');
-  assert.equal(searchText({...search, ended: 'stopped'}), '3 positions found; 50 % looked at: stopped.');
-  assert.equal(searchText({...search, ended: 'enough', many: 7}),
+  const search = {at: 50, of: 100, found: Array(3), many: 3, ended: ''}, advice = narrowing('zugzwang', 4);
+  assert.equal(searchText(search, advice), '3 positions found; 50 % looked at: searching ….');
+  assert.equal(searchText({...search, ended: 'stopped'}, advice), '3 positions found; 50 % looked at: stopped.');
+  assert.equal(searchText({...search, ended: 'enough', many: 7}, advice),
     '7 positions found; 50 % looked at: the first 3 are listed; narrow it down by squares.');
-  assert.equal(searchText({...search, at: 100, ended: 'enough', many: 7}),
-    '7 positions found: all there are, and the first 3 are listed; narrow it down by squares.');
-  assert.equal(searchText({...search, at: 100, ended: 'all'}), '3 positions found: all there are.');
+  assert.equal(searchText({...search, at: 100, ended: 'enough', many: 7}, narrowing('win N', 4)),
+    '7 positions found: all there are, and the first 3 are listed; narrow it down by squares, or by more only moves.');
+  assert.equal(searchText({...search, at: 100, ended: 'enough', many: 7}, narrowing('longest white', 4)),
+    '7 positions found: all there are, and the first 3 are listed.');
+  assert.equal(narrowing('draw N', 12), '; narrow it down by squares');
+  assert.equal(searchText({...search, at: 100, ended: 'all'}, advice), '3 positions found: all there are.');
 });

@@ -37,7 +37,7 @@ test('a file in UTF-16 is read by its mark', () => {
   const windows = new TextEncoder().encode('a\r\nb\r\n');
   assert.equal(plainBytes(windows), windows);
 });
-test('a PGN is told from a script', () => {
+test('a PGN is distinguished from a script', () => {
   for (const text of ['[Event "x"]', '\ufeff\n [White "x"]', '% a remark\n[FEN "x"]', 'by an editor\n\n[FEN "x"]'])
     assert.ok(looksLikePgn(text), text);
   for (const text of ['', 'position x', '# [FEN "x"]', '{"FEN": 1}', '[1, 2]']) assert.ok(!looksLikePgn(text), text);

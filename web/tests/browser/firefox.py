@@ -120,8 +120,8 @@ def main():
             "load KK\\nload KRK\\nposition k7/8/1K6/8/8/8/8/7R w - - 0 1\\nstipulate white mate 1\\ninsert root"
             " Rh8\\nmark 0\\n"
         )
-        told = fox.promise(f"studyboard.run('{script}', 8)")
-        assert told.endswith("insert 0 Rh8#\nmark 0 loss 0 only faults 0\n"), told
+        answer = fox.promise(f"studyboard.run('{script}', 8)")
+        assert answer.endswith("insert 0 Rh8#\nmark 0 loss 0 only faults 0\n"), answer
         if os.environ.get("SHOTS"):
             with open(os.path.join(os.environ["SHOTS"], "firefox.png"), "wb") as file:
                 file.write(base64.b64decode(fox.ask("WebDriver:TakeScreenshot", {"full": True})["value"]))

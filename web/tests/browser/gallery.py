@@ -86,12 +86,12 @@ def main():
         began = time.time()
         user.open_tables(sys.argv[1], need)
         play(user, script, expected)
-        told = user.promise("studyboard.pgn()")
-        right = told == games(expected)[0]
+        answer = user.promise("studyboard.pgn()")
+        right = answer == games(expected)[0]
         bad += not right
         print(f"{name}: {'equal' if right else 'NOT EQUAL'}, {time.time() - began:.1f} s", flush=True)
         if not right:
-            print(told, games(expected)[0], sep="\n---\n")
+            print(answer, games(expected)[0], sep="\n---\n")
         user.until("document.getElementById('review').textContent.indexOf('being found') < 0")
         user.picture("gallery_" + name)
         user.no_faults()

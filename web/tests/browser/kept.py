@@ -220,8 +220,8 @@ def test_a_set_up_that_was_not_started(user):
 
 def replies(text):
     """What studybench answers, and its exit status; the module's own run where there is no native program."""
-    told = subprocess.run([NATIVE], input=text.encode(), capture_output=True, check=False)
-    return told.stdout.decode(), told.returncode
+    answer = subprocess.run([NATIVE], input=text.encode(), capture_output=True, check=False)
+    return answer.stdout.decode(), answer.returncode
 
 
 def test_studybench_takes_what_is_saved(user):
@@ -236,9 +236,9 @@ def test_studybench_takes_what_is_saved(user):
     user.until("document.getElementById('refused').innerText === '2 lines of the script were refused'", 20)
     name, saved = user.download("saveScript")
     assert name == "A.script" and remark in saved and saved.startswith("build KK\n")
-    told = replies(saved)[0] if os.access(NATIVE, os.X_OK) else user.promise("studyboard.run(a[0])", saved)
-    assert re.findall(r"^error.*", told, re.M) == ["error NoSuchNode", "error NotSan"]
-    assert re.findall(r"^\[Event [\s\S]*?\n\n[\s\S]*?\n\n", told, re.M) == [user.promise("studyboard.pgn()")]
+    answer = replies(saved)[0] if os.access(NATIVE, os.X_OK) else user.promise("studyboard.run(a[0])", saved)
+    assert re.findall(r"^error.*", answer, re.M) == ["error NoSuchNode", "error NotSan"]
+    assert re.findall(r"^\[Event [\s\S]*?\n\n[\s\S]*?\n\n", answer, re.M) == [user.promise("studyboard.pgn()")]
     before = script(user)
     long, many = f"{text}{remark}x\n", text + "#\n" * 100000
     for bad, words in ((long, "line 10 has more than 1024 characters"), (many, "more than 100,000 lines")):

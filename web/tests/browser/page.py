@@ -329,7 +329,7 @@ def test_several_studies(user):
     user.picture("two")
 
 
-def test_a_study_told_twice(user):
+def test_a_study_given_twice(user):
     """A `pgn` line before the last edit of a study has its game in the page's PGN and report, as in studybench's."""
     with open(os.path.join(TOP, "examples", "kpk_rook_pawn_wrong.script"), encoding="utf-8") as file:
         script = re.sub(r"^build .*\n", "", file.read(), flags=re.M)
@@ -364,13 +364,14 @@ def test_from_study_to_study(user):
 def test_report(user):
     sample(user)
     script = user.promise("studyboard.script()")
-    told = user.promise("studyboard.report(a[0])", script + "pgn\ndance <b>\n")
-    assert told.startswith("<!DOCTYPE html>\n") and told.endswith("</body></html>\n")
-    assert '<article id="e1">' in told
-    assert "<code>dance &lt;b&gt;</code> <b>UnknownCommand</b>: " in told and "<b>\n" not in told
+    answer = user.promise("studyboard.report(a[0])", script + "pgn\ndance <b>\n")
+    assert answer.startswith("<!DOCTYPE html>\n") and answer.endswith("</body></html>\n")
+    assert '<article id="e1">' in answer
+    assert "<code>dance &lt;b&gt;</code> <b>UnknownCommand</b>: " in answer and "<b>\n" not in answer
     tags = Tags()
-    tags.feed(told)
-    assert tags.count("article") >= 1 and tags.count("script") == 0 and '<span class="stamp sound">sound</span>' in told
+    tags.feed(answer)
+    assert tags.count("article") >= 1 and tags.count("script") == 0
+    assert '<span class="stamp sound">sound</span>' in answer
     assert user.by("saveReport").is_displayed()
 
 
@@ -385,8 +386,8 @@ def test_print(user):
     assert not user.d.find_element(By.CSS_SELECTOR, "#here .moves").is_displayed()
     user.d.execute_cdp_cmd("Emulation.setEmulatedMedia", {"media": ""})
     user.go("0")
-    told = "[studyboard.path(), document.getElementById('value').innerText]"
-    user.js(f"window.print = () => {{ window.printed = {told}; }}")
+    shown = "[studyboard.path(), document.getElementById('value').innerText]"
+    user.js(f"window.print = () => {{ window.printed = {shown}; }}")
     user.click("print")
     user.settle()
     path, value = user.js("return window.printed")

@@ -189,10 +189,10 @@ def test_a_surveyed_man_is_what_a_press_moves(user):
 def test_tags(user):
     small(user)
     user.set_up(FEN, "white win")
-    for typed, told in (("12 May 1921", "1921.05.12"), ("1921-05", "1921.05"), ("1895", "1895")):
+    for typed, written in (("12 May 1921", "1921.05.12"), ("1921-05", "1921.05"), ("1895", "1895")):
         user.fill("tagDate", typed)
         by = user.js("return document.querySelector('#head .by').textContent")
-        assert told in by and "??" not in by
+        assert written in by and "??" not in by
     user.fill("tagDate", "in spring")
     assert "a date is" in user.text("head") and "in spring" not in user.promise("studyboard.script()")
     assert user.by("tagDate").get_attribute("value") == "in spring"

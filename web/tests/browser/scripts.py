@@ -125,10 +125,10 @@ def main():
             script, pages = random_script(dice, True), dice.choice([None, 1, 64])
             words = [NATIVE, "--separate", "--tables", folder] + (["--pages", str(pages)] if pages else [])
             native = subprocess.run(words, input=script.encode(), capture_output=True, check=False).stdout.decode()
-            told = user.promise("studyboard.run(a[0], a[1] || undefined)", script, pages)
-            if told != native:
+            answer = user.promise("studyboard.run(a[0], a[1] || undefined)", script, pages)
+            if answer != native:
                 bad += 1
-                print(f"script {i} NOT EQUAL\n{script}---\n{told}---\n{native}", flush=True)
+                print(f"script {i} NOT EQUAL\n{script}---\n{answer}---\n{native}", flush=True)
         print(f"random: {count} scripts, {bad} differ")
     user.no_faults()
     user.end()

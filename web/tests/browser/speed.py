@@ -71,9 +71,9 @@ def large(user, moves, dice):
     loads = "".join(f"load {name}\n" for name in SAAVEDRA)
     while len(lines) < moves:
         asked = start + "".join(lines) + "".join(f"moves {path}\n" for path in level)
-        told = user.promise("studyboard.run(a[0], 1000)", loads + asked).split("\n")[-len(level) - 1 : -1]
+        answer = user.promise("studyboard.run(a[0], 1000)", loads + asked).split("\n")[-len(level) - 1 : -1]
         below = []
-        for path, sans in zip(level, told):
+        for path, sans in zip(level, answer):
             white = path == "root" or path.count(".") % 2 == 1
             for k, san in enumerate(dice.sample(sans.split()[2:], min(len(sans.split()) - 2, 1 if white else 5))):
                 if len(lines) < moves:
