@@ -46,8 +46,8 @@ study_script run outcome
 """
 # The theorems beside the headline, each read after those before it.
 MORE = {
-    "the report as lines": "study_report follow_script",
-    "the report as pages": "study_print follow_pages",
+    "the report as lines": "study_report write_report",
+    "the report as pages": "study_print write_pages",
     "the board": "study_web answer_into",
 }
 WORD = re.compile(r"[A-Za-z_][\w'\-]*")

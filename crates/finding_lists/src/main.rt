@@ -38,7 +38,7 @@ fn list_all(rt: &HostRuntime) -> io::Result<()> {
     out.flush()
 }
 
-fn refused() -> io::Error {
+fn refusal() -> io::Error {
     io::Error::from(ErrorKind::InvalidData)
 }
 
@@ -52,10 +52,10 @@ fn build_tables<'a, A: Allocator>(
         if !values.tables().has(each) {
             let room = BuildRoom::new(alloc, cells(each))?;
             let Ok((table, _)) = build(each, values.tables(), room) else {
-                return Err(refused());
+                return Err(refusal());
             };
             if values.add(table).is_err() {
-                return Err(refused());
+                return Err(refusal());
             }
         }
     }
@@ -70,10 +70,10 @@ fn list<'a, A: Allocator, W: Write>(
     out: &mut W,
 ) -> io::Result<()> {
     let Some((name, theme)) = line.split_once('\t') else {
-        return Err(refused());
+        return Err(refusal());
     };
     let Ok(class) = Class::parse(name) else {
-        return Err(refused());
+        return Err(refusal());
     };
     build_tables(alloc, class, values)?;
     let mut text = MemoryWriter::new(alloc);
@@ -99,15 +99,15 @@ fn list_into<'a, A: Allocator>(
         words.push(word.as_bytes())?;
     }
     let Ok(request) = read_request(class, words.as_slice()) else {
-        return Err(refused());
+        return Err(refusal());
     };
     match selection_of(&request, values) {
-        Err(_) => Err(refused()),
+        Err(_) => Err(refusal()),
         Ok(None) => Ok(0),
         Ok(Some(selection)) => {
             match list_found(&selection, Form::Lines, values, text, &mut NoWatch) {
                 Ok(count) => Ok(count),
-                Err(_) => Err(refused()),
+                Err(_) => Err(refusal()),
             }
         }
     }

@@ -5,7 +5,7 @@ use std::io::{BufReader, ErrorKind, Read, Write};
 use std::{fs, io};
 use study_command::Line;
 use study_prober::WholeTables;
-use study_report::{Lines, follow};
+use study_report::{Lines, report_session};
 use study_script::{
     Document, MemoryStore, RunFault, Session, Summary, TableStore, Tables, run_session,
 };
@@ -55,13 +55,13 @@ fn answer_over<'a, R: Read, W: Write, S: TableStore, A: Allocator>(
         store,
         separate: false,
     };
-    ended(run_session(&mut line, replies, out, &mut session))?;
+    end(run_session(&mut line, replies, out, &mut session))?;
     writeln!(out, "== {name}, lines of a report")?;
     session.document = Document::Empty;
-    ended(follow(&mut line, lines, out, &mut Lines, &mut session))
+    end(report_session(&mut line, lines, out, &mut Lines, &mut session))
 }
 
-fn ended(answer: Result<Summary, RunFault>) -> io::Result<()> {
+fn end(answer: Result<Summary, RunFault>) -> io::Result<()> {
     match answer {
         Ok(_) => Ok(()),
         Err(_) => Err(io::Error::from(ErrorKind::Other)),

@@ -16,12 +16,12 @@ use Rattle.study_board.specs.declared.men.Kind.TheVariants.{King, Queen, Rook, B
 use Rattle.study_board.specs.declared.symmetry.Symmetry.{Symmetry}
 use Rattle.study_board.specs.Geometry.{rank_of, strictly_between}
 use Rattle.study_board.specs.Men.{same_side, other_side, same_kind, is_man, is_blocked, reaches, attacks_square, is_attacked, is_pawn}
-use Rattle.study_board.specs.Position.{Position, IsValid, AllAbove, IsAscending, placed, man_at, is_occupied}
+use Rattle.study_board.specs.Position.{Position, IsValid, AllAbove, IsAscending, insert_man, man_at, is_occupied}
 use Rattle.study_board.specs.Position.{is_empty, has_man, has_square_twice, has_one_king, is_end_pawn}
 use Rattle.study_board.specs.Position.{has_end_pawn, in_check, could_be_passed, passed_possible}
-use Rattle.study_board.specs.Symmetry.{mirrored, turned_square, turned_side, turned_man, turned_men, turned_passed, image, keeps_pawns, admits}
+use Rattle.study_board.specs.Symmetry.{mirror_if, turned_square, turned_side, turned_man, turned_men, turned_passed, image, keeps_pawns, admits}
 use Rattle.study_board.proofs.Lists.{or_false, not_true, count_by-cons, list_any_weaker}
-use Rattle.study_board.proofs.MenInOrder.{IsSortedByAt, NoneBelow, NoneBelow-less, IsSortedByAt-placed}
+use Rattle.study_board.proofs.MenInOrder.{IsSortedByAt, NoneBelow, NoneBelow-less, IsSortedByAt-insert_man}
 use Rattle.study_board.proofs.Valid.{IsFaultless, IsFaultless-from_first, first_fault-from_IsFaultless, IsAscending-from_sorted}
 use Rattle.study_board.proofs.Coordinates.{and_comm, KeepsPawns, turned_small, turned_apart, on_rook_line-turned}
 use Rattle.study_board.proofs.Coordinates.{on_bishop_line-turned, knight_jump-turned, king_step-turned}
@@ -44,17 +44,17 @@ Each-filter P q (x ∷ xs) h =
     elim (q x) as (λ b. Each P (cond b (x ∷ filter q xs) (filter q xs)))
     [ true ↦ (h.0, Each-filter P q xs h.1) | false ↦ Each-filter P q xs h.1 ]
 
-pub Each-placed : (P : Man → Type 0) (m : Man) (xs : List Man) → P m → Each P xs → Each P (placed m xs)
-Each-placed P m [] one h = (one, tt)
-Each-placed P m (x ∷ xs) one h = elim (nat_lt x.at m.at) as (λ b. Each P (cond b (x ∷ placed m xs) (m ∷ x ∷ xs)))
-    [ true ↦ (h.0, Each-placed P m xs one h.1) | false ↦ (one, h) ]
+pub Each-insert_man : (P : Man → Type 0) (m : Man) (xs : List Man) → P m → Each P xs → Each P (insert_man m xs)
+Each-insert_man P m [] one h = (one, tt)
+Each-insert_man P m (x ∷ xs) one h = elim (nat_lt x.at m.at) as (λ b. Each P (cond b (x ∷ insert_man m xs) (m ∷ x ∷ xs)))
+    [ true ↦ (h.0, Each-insert_man P m xs one h.1) | false ↦ (one, h) ]
 
 -- a list with a man inserted in order has the members of the list, and the man
-pub list_any-placed : (p : Man → Bool) (m : Man) (xs : List Man) → list_any p (placed m xs) ≡ (p m || list_any p xs)
-list_any-placed p m [] = refl
-list_any-placed p m (x ∷ xs) =
-    elim (nat_lt x.at m.at) as (λ b. list_any p (cond b (x ∷ placed m xs) (m ∷ x ∷ xs)) ≡ (p m || (p x || list_any p xs)))
-    [ true ↦ rw (list_any-placed p m xs) (exchanged (p x) (p m) (list_any p xs)) | false ↦ refl ]
+pub list_any-insert_man : (p : Man → Bool) (m : Man) (xs : List Man) → list_any p (insert_man m xs) ≡ (p m || list_any p xs)
+list_any-insert_man p m [] = refl
+list_any-insert_man p m (x ∷ xs) =
+    elim (nat_lt x.at m.at) as (λ b. list_any p (cond b (x ∷ insert_man m xs) (m ∷ x ∷ xs)) ≡ (p m || (p x || list_any p xs)))
+    [ true ↦ rw (list_any-insert_man p m xs) (exchanged (p x) (p m) (list_any p xs)) | false ↦ refl ]
   where
     exchanged : (a b c : Bool) → (a || (b || c)) ≡ (b || (a || c))
     exchanged true true c = refl
@@ -62,26 +62,26 @@ list_any-placed p m (x ∷ xs) =
     exchanged false true c = refl
     exchanged false false c = refl
 
-pub count_by-placed : (p : Man → Bool) (m : Man) (xs : List Man) → count_by p (placed m xs) ≡ cond (p m) 1 0 + count_by p xs
-count_by-placed p m [] = count_by-cons p m []
-count_by-placed p m (x ∷ xs) =
-    elim (nat_lt x.at m.at) as (λ b. count_by p (cond b (x ∷ placed m xs) (m ∷ x ∷ xs)) ≡ cond (p m) 1 0 + count_by p (x ∷ xs)) [
-      | true ↦ let e = count_by-cons p x (placed m xs) in let f = count_by-cons p x xs in let ih = count_by-placed p m xs in omega arith
+pub count_by-insert_man : (p : Man → Bool) (m : Man) (xs : List Man) → count_by p (insert_man m xs) ≡ cond (p m) 1 0 + count_by p xs
+count_by-insert_man p m [] = count_by-cons p m []
+count_by-insert_man p m (x ∷ xs) =
+    elim (nat_lt x.at m.at) as (λ b. count_by p (cond b (x ∷ insert_man m xs) (m ∷ x ∷ xs)) ≡ cond (p m) 1 0 + count_by p (x ∷ xs)) [
+      | true ↦ let e = count_by-cons p x (insert_man m xs) in let f = count_by-cons p x xs in let ih = count_by-insert_man p m xs in omega arith
       | false ↦ count_by-cons p m (x ∷ xs)
     ]
 
-pub length-placed : (m : Man) (xs : List Man) → length (placed m xs) ≡ suc (length xs)
-length-placed m [] = refl
-length-placed m (x ∷ xs) =
-    elim (nat_lt x.at m.at) as (λ b. length (cond b (x ∷ placed m xs) (m ∷ x ∷ xs)) ≡ suc (suc (length xs)))
-    [ true ↦ ap suc (length-placed m xs) | false ↦ refl ]
+pub length-insert_man : (m : Man) (xs : List Man) → length (insert_man m xs) ≡ suc (length xs)
+length-insert_man m [] = refl
+length-insert_man m (x ∷ xs) =
+    elim (nat_lt x.at m.at) as (λ b. length (cond b (x ∷ insert_man m xs) (m ∷ x ∷ xs)) ≡ suc (suc (length xs)))
+    [ true ↦ ap suc (length-insert_man m xs) | false ↦ refl ]
 
-pub man_at-placed : (m : Man) (xs : List Man) (x : ℕ) → man_at (placed m xs) x ≡ cond (m.at == x) (Some m) (man_at xs x)
-man_at-placed m [] x = refl
-man_at-placed m (y ∷ ys) x =
-    let go : (b : Bool) → nat_lt y.at m.at ≡ b → man_at (cond b (y ∷ placed m ys) (m ∷ y ∷ ys)) x ≡ cond (m.at == x) (Some m) (man_at (y ∷ ys) x) =
-    λ b. elim b as (λ v. nat_lt y.at m.at ≡ v → man_at (cond v (y ∷ placed m ys) (m ∷ y ∷ ys)) x ≡ cond (m.at == x) (Some m) (man_at (y ∷ ys) x)) [
-      | true ↦ λ t. rw (man_at-placed m ys x) (not_both (y.at == x) (m.at == x) (below y.at m.at x (ltb-true _ _ t)))
+pub man_at-insert_man : (m : Man) (xs : List Man) (x : ℕ) → man_at (insert_man m xs) x ≡ cond (m.at == x) (Some m) (man_at xs x)
+man_at-insert_man m [] x = refl
+man_at-insert_man m (y ∷ ys) x =
+    let go : (b : Bool) → nat_lt y.at m.at ≡ b → man_at (cond b (y ∷ insert_man m ys) (m ∷ y ∷ ys)) x ≡ cond (m.at == x) (Some m) (man_at (y ∷ ys) x) =
+    λ b. elim b as (λ v. nat_lt y.at m.at ≡ v → man_at (cond v (y ∷ insert_man m ys) (m ∷ y ∷ ys)) x ≡ cond (m.at == x) (Some m) (man_at (y ∷ ys) x)) [
+      | true ↦ λ t. rw (man_at-insert_man m ys x) (not_both (y.at == x) (m.at == x) (below y.at m.at x (ltb-true _ _ t)))
       | false ↦ λ t. refl
     ] in
     go (nat_lt y.at m.at) refl
@@ -95,8 +95,8 @@ man_at-placed m (y ∷ ys) x =
     not_both false v h = refl
 
 -- two men on different squares can be inserted in order in either sequence
-pub placed-exchanged : (a b : Man) (xs : List Man) → eqb a.at b.at ≡ false → placed a (placed b xs) ≡ placed b (placed a xs)
-placed-exchanged a b [] e = two (nat_lt b.at a.at) (nat_lt a.at b.at) (opposite b.at a.at e)
+pub insert_man-exchanged : (a b : Man) (xs : List Man) → eqb a.at b.at ≡ false → insert_man a (insert_man b xs) ≡ insert_man b (insert_man a xs)
+insert_man-exchanged a b [] e = two (nat_lt b.at a.at) (nat_lt a.at b.at) (opposite b.at a.at e)
   where
     opposite : (m n : ℕ) → eqb n m ≡ false → nat_lt n m ≡ not (nat_lt m n)
     opposite m n e = grind (arith, nat_tests)
@@ -104,19 +104,21 @@ placed-exchanged a b [] e = two (nat_lt b.at a.at) (nat_lt a.at b.at) (opposite 
     two : (u v : Bool) → v ≡ not u → cond u (b ∷ a ∷ []) (a ∷ b ∷ []) ≡ cond v (a ∷ b ∷ []) (b ∷ a ∷ [])
     two true v e = rw e
     two false v e = rw e
-placed-exchanged a b (x ∷ xs) e =
+insert_man-exchanged a b (x ∷ xs) e =
     let go : (u v : Bool) → nat_lt x.at a.at ≡ u → nat_lt x.at b.at ≡ v
-    → placed a (cond v (x ∷ placed b xs) (b ∷ x ∷ xs)) ≡ placed b (cond u (x ∷ placed a xs) (a ∷ x ∷ xs)) =
+    → insert_man a (cond v (x ∷ insert_man b xs) (b ∷ x ∷ xs)) ≡ insert_man b (cond u (x ∷ insert_man a xs) (a ∷ x ∷ xs)) =
     λ u v. elim u as (λ w. nat_lt x.at a.at ≡ w → nat_lt x.at b.at ≡ v
-    → placed a (cond v (x ∷ placed b xs) (b ∷ x ∷ xs)) ≡ placed b (cond w (x ∷ placed a xs) (a ∷ x ∷ xs))) [
-      | true ↦ elim v as (λ w. nat_lt x.at a.at ≡ true → nat_lt x.at b.at ≡ w → placed a (cond w (x ∷ placed b xs) (b ∷ x ∷ xs)) ≡ placed b (x ∷ placed a xs)) [
-        | true ↦ λ p q. rw (p, q) (ap (λ l. x ∷ l) (placed-exchanged a b xs e))
-        | false ↦ λ p q. let r : nat_lt b.at a.at ≡ true = above b.at x.at a.at q p in rw (q, r, p)
-      ]
-      | false ↦ elim v as (λ w. nat_lt x.at a.at ≡ false → nat_lt x.at b.at ≡ w → placed a (cond w (x ∷ placed b xs) (b ∷ x ∷ xs)) ≡ placed b (a ∷ x ∷ xs)) [
-        | true ↦ λ p q. let r : nat_lt a.at b.at ≡ true = above a.at x.at b.at p q in rw (p, r, q)
-        | false ↦ λ p q. rw (p, q) (two (nat_lt b.at a.at) (nat_lt a.at b.at) (opposite b.at a.at e))
-      ]
+    → insert_man a (cond v (x ∷ insert_man b xs) (b ∷ x ∷ xs)) ≡ insert_man b (cond w (x ∷ insert_man a xs) (a ∷ x ∷ xs))) [
+      | true ↦ elim v as (λ w. nat_lt x.at a.at ≡ true → nat_lt x.at b.at ≡ w → insert_man a (cond w (x ∷ insert_man b xs) (b ∷ x ∷ xs))
+          ≡ insert_man b (x ∷ insert_man a xs)) [
+            | true ↦ λ p q. rw (p, q) (ap (λ l. x ∷ l) (insert_man-exchanged a b xs e))
+            | false ↦ λ p q. let r : nat_lt b.at a.at ≡ true = above b.at x.at a.at q p in rw (q, r, p)
+          ]
+      | false ↦ elim v as (λ w. nat_lt x.at a.at ≡ false → nat_lt x.at b.at ≡ w → insert_man a (cond w (x ∷ insert_man b xs) (b ∷ x ∷ xs))
+          ≡ insert_man b (a ∷ x ∷ xs)) [
+            | true ↦ λ p q. let r : nat_lt a.at b.at ≡ true = above a.at x.at b.at p q in rw (p, r, q)
+            | false ↦ λ p q. rw (p, q) (two (nat_lt b.at a.at) (nat_lt a.at b.at) (opposite b.at a.at e))
+          ]
     ] in
     go (nat_lt x.at a.at) (nat_lt x.at b.at) refl refl
   where
@@ -130,9 +132,9 @@ placed-exchanged a b (x ∷ xs) e =
     two true v e = rw e
     two false v e = rw e
 
-pub placed-first : (m : Man) (xs : List Man) → NoneBelow m.at xs → placed m xs ≡ m ∷ xs
-placed-first m [] h = refl
-placed-first m (x ∷ xs) h = let e : nat_lt x.at m.at ≡ false = not_below x.at m.at h.0 in rw e
+pub insert_man-first : (m : Man) (xs : List Man) → NoneBelow m.at xs → insert_man m xs ≡ m ∷ xs
+insert_man-first m [] h = refl
+insert_man-first m (x ∷ xs) h = let e : nat_lt x.at m.at ≡ false = not_below x.at m.at h.0 in rw e
   where
     not_below : (a b : ℕ) → b ≤ a → nat_lt a b ≡ false
     not_below a b h = grind (arith, nat_tests)
@@ -143,22 +145,23 @@ NoneBelow-filter q n (x ∷ xs) h = elim (q x) as (λ b. NoneBelow n (cond b (x 
     [ true ↦ (h.0, NoneBelow-filter q n xs h.1) | false ↦ NoneBelow-filter q n xs h.1 ]
 
 -- a filter of a list with a man inserted in order
-pub filter-placed : (q : Man → Bool) (m : Man) (xs : List Man) → IsSortedByAt xs → filter q (placed m xs) ≡ cond (q m) (placed m (filter q xs)) (filter q xs)
-filter-placed q m [] h = refl
-filter-placed q m (x ∷ xs) h =
+pub filter-insert_man : (q : Man → Bool) (m : Man) (xs : List Man) → IsSortedByAt xs → filter q (insert_man m xs)
+    ≡ cond (q m) (insert_man m (filter q xs)) (filter q xs)
+filter-insert_man q m [] h = refl
+filter-insert_man q m (x ∷ xs) h =
     let go : (b c d : Bool) → nat_lt x.at m.at ≡ b → q x ≡ c → q m ≡ d
-    → filter q (cond b (x ∷ placed m xs) (m ∷ x ∷ xs))
-    ≡ cond d (placed m (cond c (x ∷ filter q xs) (filter q xs))) (cond c (x ∷ filter q xs) (filter q xs)) =
+    → filter q (cond b (x ∷ insert_man m xs) (m ∷ x ∷ xs))
+    ≡ cond d (insert_man m (cond c (x ∷ filter q xs) (filter q xs))) (cond c (x ∷ filter q xs) (filter q xs)) =
     λ b c d. elim b as (λ v. nat_lt x.at m.at ≡ v → q x ≡ c → q m ≡ d
-    → filter q (cond v (x ∷ placed m xs) (m ∷ x ∷ xs))
-    ≡ cond d (placed m (cond c (x ∷ filter q xs) (filter q xs))) (cond c (x ∷ filter q xs) (filter q xs))) [
-      | true ↦ λ t e f. rw (filter-placed q m xs h.1, e, f) (later c d t)
+    → filter q (cond v (x ∷ insert_man m xs) (m ∷ x ∷ xs))
+    ≡ cond d (insert_man m (cond c (x ∷ filter q xs) (filter q xs))) (cond c (x ∷ filter q xs) (filter q xs))) [
+      | true ↦ λ t e f. rw (filter-insert_man q m xs h.1, e, f) (later c d t)
       | false ↦ λ t e f. rw (e, f) (first c d t)
     ] in
     go (nat_lt x.at m.at) (q x) (q m) refl refl refl
   where
-    later : (c d : Bool) → nat_lt x.at m.at ≡ true → cond c (x ∷ cond d (placed m (filter q xs)) (filter q xs))
-        (cond d (placed m (filter q xs)) (filter q xs)) ≡ cond d (placed m (cond c (x ∷ filter q xs) (filter q xs)))
+    later : (c d : Bool) → nat_lt x.at m.at ≡ true → cond c (x ∷ cond d (insert_man m (filter q xs)) (filter q xs))
+        (cond d (insert_man m (filter q xs)) (filter q xs)) ≡ cond d (insert_man m (cond c (x ∷ filter q xs) (filter q xs)))
         (cond c (x ∷ filter q xs) (filter q xs))
     later true true t = rw t
     later true false t = refl
@@ -167,9 +170,9 @@ filter-placed q m (x ∷ xs) h =
 
     first : (c d : Bool) → nat_lt x.at m.at ≡ false
         → cond d (m ∷ cond c (x ∷ filter q xs) (filter q xs)) (cond c (x ∷ filter q xs) (filter q xs))
-        ≡ cond d (placed m (cond c (x ∷ filter q xs) (filter q xs))) (cond c (x ∷ filter q xs) (filter q xs))
+        ≡ cond d (insert_man m (cond c (x ∷ filter q xs) (filter q xs))) (cond c (x ∷ filter q xs) (filter q xs))
     first true true t = rw t
-    first false true t = sym (placed-first m (filter q xs) (NoneBelow-filter q m.at xs (NoneBelow-less m.at x.at xs (ltb-false _ _ t) h.0)))
+    first false true t = sym (insert_man-first m (filter q xs) (NoneBelow-filter q m.at xs (NoneBelow-less m.at x.at xs (ltb-false _ _ t) h.0)))
     first c false t = refl
 
 -- a man on the board, of a kind that the symmetry respects
@@ -206,26 +209,27 @@ module _ (s : Symmetry) where
   pub any_turned : (q p : Man → Bool) → ((m : Man) → IsSeated s m → q (turned_man s m) ≡ p m) → (xs : List Man)
       → Each (IsSeated s) xs → list_any q (turned_men s xs) ≡ list_any p xs
   any_turned q p f [] h = refl
-  any_turned q p f (x ∷ xs) h = list_any-placed q (turned_man s x) (turned_men s xs) ∙ rw (f x h.0, any_turned q p f xs h.1)
+  any_turned q p f (x ∷ xs) h = list_any-insert_man q (turned_man s x) (turned_men s xs) ∙ rw (f x h.0, any_turned q p f xs h.1)
 
   pub count_turned : (q p : Man → Bool) → ((m : Man) → IsSeated s m → q (turned_man s m) ≡ p m) → (xs : List Man)
       → Each (IsSeated s) xs → count_by q (turned_men s xs) ≡ count_by p xs
   count_turned q p f [] h = refl
-  count_turned q p f (x ∷ xs) h = count_by-placed q (turned_man s x) (turned_men s xs) ∙ rw (f x h.0, count_turned q p f xs h.1) (sym (count_by-cons p x xs))
+  count_turned q p f (x ∷ xs) h = count_by-insert_man q (turned_man s x) (turned_men s xs)
+      ∙ rw (f x h.0, count_turned q p f xs h.1) (sym (count_by-cons p x xs))
 
   pub length-turned : (xs : List Man) → length (turned_men s xs) ≡ length xs
   length-turned [] = refl
-  length-turned (x ∷ xs) = length-placed (turned_man s x) (turned_men s xs) ∙ ap suc (length-turned xs)
+  length-turned (x ∷ xs) = length-insert_man (turned_man s x) (turned_men s xs) ∙ ap suc (length-turned xs)
 
   pub sorted_turned : (xs : List Man) → IsSortedByAt (turned_men s xs)
   sorted_turned [] = tt
-  sorted_turned (x ∷ xs) = IsSortedByAt-placed (turned_man s x) (turned_men s xs) (sorted_turned xs)
+  sorted_turned (x ∷ xs) = IsSortedByAt-insert_man (turned_man s x) (turned_men s xs) (sorted_turned xs)
 
   pub man_at_turned : (x : ℕ) → x < 64 → (xs : List Man) → Each (IsSeated s) xs
       → man_at (turned_men s xs) (turned_square s x) ≡ option_map (turned_man s) (man_at xs x)
   man_at_turned x lx [] h = refl
   man_at_turned x lx (y ∷ ys) h =
-      man_at-placed (turned_man s y) (turned_men s ys) (turned_square s x)
+      man_at-insert_man (turned_man s y) (turned_men s ys) (turned_square s x)
       ∙ rw (turned_apart s y.at x (h.0).on lx, man_at_turned x lx ys h.1) (moved (eqb y.at x))
     where
       moved : (b : Bool) → cond b (Some (turned_man s y)) (option_map (turned_man s) (man_at ys x)) ≡ option_map (turned_man s) (cond b (Some y) (man_at ys x))
@@ -236,10 +240,10 @@ module _ (s : Symmetry) where
       → Each (IsSeated s) xs → filter q (turned_men s xs) ≡ turned_men s (filter p xs)
   filter_turned q p f [] h = refl
   filter_turned q p f (x ∷ xs) h =
-      filter-placed q (turned_man s x) (turned_men s xs) (sorted_turned xs)
+      filter-insert_man q (turned_man s x) (turned_men s xs) (sorted_turned xs)
       ∙ rw (f x h.0, filter_turned q p f xs h.1) (moved (p x))
     where
-      moved : (b : Bool) → cond b (placed (turned_man s x) (turned_men s (filter p xs)))
+      moved : (b : Bool) → cond b (insert_man (turned_man s x) (turned_men s (filter p xs)))
           (turned_men s (filter p xs)) ≡ turned_men s (cond b (x ∷ filter p xs) (filter p xs))
       moved true = refl
       moved false = refl
@@ -247,14 +251,14 @@ module _ (s : Symmetry) where
   -- a man inserted among men on other squares
   pub placed_turned : (m : Man) → m.at < 64 → (xs : List Man) → Each (IsSeated s) xs
       → list_any (λ y. y.at == m.at) xs ≡ false
-      → turned_men s (placed m xs) ≡ placed (turned_man s m) (turned_men s xs)
+      → turned_men s (insert_man m xs) ≡ insert_man (turned_man s m) (turned_men s xs)
   placed_turned m lm [] h e = refl
   placed_turned m lm (x ∷ xs) h e =
       let parts = or_false (x.at == m.at) (list_any (λ y. y.at == m.at) xs) e in
       let other : eqb (turned_square s x.at) (turned_square s m.at) ≡ false = turned_apart s x.at m.at (h.0).on lm ∙ parts.0 in
-      elim (nat_lt x.at m.at) as (λ b. turned_men s (cond b (x ∷ placed m xs) (m ∷ x ∷ xs))
-      ≡ placed (turned_man s m) (placed (turned_man s x) (turned_men s xs))) [
-        | true ↦ rw (placed_turned m lm xs h.1 parts.1) (placed-exchanged (turned_man s x) (turned_man s m) (turned_men s xs) other)
+      elim (nat_lt x.at m.at) as (λ b. turned_men s (cond b (x ∷ insert_man m xs) (m ∷ x ∷ xs))
+      ≡ insert_man (turned_man s m) (insert_man (turned_man s x) (turned_men s xs))) [
+        | true ↦ rw (placed_turned m lm xs h.1 parts.1) (insert_man-exchanged (turned_man s x) (turned_man s m) (turned_men s xs) other)
         | false ↦ refl
       ]
 
@@ -329,7 +333,7 @@ module _ (s : Symmetry) where
         far_ends : (n : ℕ) → n < 8 → (eqb (7 - n) 0 || eqb (7 - n) 7) ≡ (eqb n 0 || eqb n 7)
         far_ends n h = grind (arith, nat_tests)
 
-        ends : (c : Bool) (n : ℕ) → n < 8 → (eqb (mirrored c n) 0 || eqb (mirrored c n) 7) ≡ (eqb n 0 || eqb n 7)
+        ends : (c : Bool) (n : ℕ) → n < 8 → (eqb (mirror_if c n) 0 || eqb (mirror_if c n) 7) ≡ (eqb n 0 || eqb n 7)
         ends true n h = far_ends n h
         ends false n h = refl
 
@@ -443,7 +447,7 @@ module _ (s : Symmetry) where
 
       small : (xs : List Man) → Each (IsSeated s) xs → Each (λ m. m.at < 64) (turned_men s xs)
       small [] h = tt
-      small (x ∷ xs) h = Each-placed (λ m. m.at < 64) (turned_man s x) (turned_men s xs) (turned_small s x.at (h.0).on) (small xs h.1)
+      small (x ∷ xs) h = Each-insert_man (λ m. m.at < 64) (turned_man s x) (turned_men s xs) (turned_small s x.at (h.0).on) (small xs h.1)
 
   pub seats : (p : Position) → IsValid p → admits p s ≡ true → Each (IsSeated s) p.men
   seats p v ad = IsSeated-from_admits s p.men ad v.on_board
@@ -466,7 +470,7 @@ module _ (s : Symmetry) where
   AllAbove-get_or n (x ∷ xs) (suc k) d lt h = AllAbove-get_or n xs k d (omega arith) h.1
 
   turned_men-suc : (xs : List Man) (k : ℕ) (d : Man) → k < length xs → IsAscending xs → All (λ m. m.at < 64) xs
-      → turned_men s (take (suc k) xs) ≡ placed (turned_man s (get_or xs k d)) (turned_men s (take k xs))
+      → turned_men s (take (suc k) xs) ≡ insert_man (turned_man s (get_or xs k d)) (turned_men s (take k xs))
   turned_men-suc [] k d lt h all = absurd (omega arith)
   turned_men-suc (x ∷ xs) zero d lt h all = refl
   turned_men-suc (x ∷ xs) (suc k) d lt h all =
@@ -476,12 +480,12 @@ module _ (s : Symmetry) where
       let there = All-get_or (λ m. m.at < 64) xs k d lt' rest in
       let above = AllAbove-get_or x.at xs k d lt' h.0 in
       let other = turned_apart s x.at (get_or xs k d).at here there ∙ not_same x.at (get_or xs k d).at above in
-      rw (turned_men-suc xs k d lt' h.1 rest) (placed-exchanged (turned_man s x) (turned_man s (get_or xs k d)) (turned_men s (take k xs)) other)
+      rw (turned_men-suc xs k d lt' h.1 rest) (insert_man-exchanged (turned_man s x) (turned_man s (get_or xs k d)) (turned_men s (take k xs)) other)
     where
       not_same : (a b : ℕ) → a < b → eqb a b ≡ false
       not_same a b lt = grind (arith, nat_tests)
 
   pub turned_men-more : (xs ys zs : List Man) (k : ℕ) (d m : Man) → k < length xs → IsAscending xs
-      → All (λ m. m.at < 64) xs → m ≡ turned_man s (get_or xs k d) → ys ≡ turned_men s (take k xs) → zs ≡ placed m ys
+      → All (λ m. m.at < 64) xs → m ≡ turned_man s (get_or xs k d) → ys ≡ turned_men s (take k xs) → zs ≡ insert_man m ys
       → zs ≡ turned_men s (take (k + 1) xs)
   turned_men-more xs ys zs k d m lt h all e f g = g ∙ rw (e, f, add-one) (sym (turned_men-suc xs k d lt h all))

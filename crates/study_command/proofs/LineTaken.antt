@@ -12,7 +12,7 @@ use Rattle.std.proofs.KnownBytes.{Consumes-nil, Consumes-trans, Consumes-kept}
 use Rattle.std.specs.List.{slice_split, onto_first}
 use Rattle.std.specs.Str.Lines.{strip_carriage_return}
 use Rattle.std.specs.Io.KnownBytes.{Consumes, IsAtEnd, Keeps}
-use Rattle.study_command.specs.Lines.{begun, script_lines, TakesLine, BeginsLong, feed_count, GaveFeeds}
+use Rattle.study_command.specs.Lines.{begun_lines, script_lines, TakesLine, BeginsLong, feed_count, GaveFeeds}
 
 abbrev pub is_feed : ℕ → Bool
 is_feed b = eqb b 10
@@ -30,13 +30,13 @@ split_on : (raw ys p : List ℕ) (ps : List (List ℕ)) → NoFeed raw → slice
 split_on [] ys p ps h e = e
 split_on (x ∷ raw) ys p ps h e = rw h.0 (ap (onto_first x) (split_on raw ys p ps h.1 e))
 
-begun-cons : (x : List ℕ) (parts : List (List ℕ)) → 0 < length parts → begun (x ∷ parts) ≡ x ∷ begun parts
-begun-cons x [] h = absurd (omega arith)
-begun-cons x (y ∷ more) h = refl
+begun_lines-cons : (x : List ℕ) (parts : List (List ℕ)) → 0 < length parts → begun_lines (x ∷ parts) ≡ x ∷ begun_lines parts
+begun_lines-cons x [] h = absurd (omega arith)
+begun_lines-cons x (y ∷ more) h = refl
 
-begun-first : (x : List ℕ) (parts : List (List ℕ)) → 0 < length x → (more : List (List ℕ)) × (begun (x ∷ parts) ≡ x ∷ more)
-begun-first x [] h = ([], rw (ne_eqb (length x) 0 (λ e. omega arith)) refl)
-begun-first x (y ∷ parts) h = (begun (y ∷ parts), refl)
+begun_lines-first : (x : List ℕ) (parts : List (List ℕ)) → 0 < length x → (more : List (List ℕ)) × (begun_lines (x ∷ parts) ≡ x ∷ more)
+begun_lines-first x [] h = ([], rw (ne_eqb (length x) 0 (λ e. omega arith)) refl)
+begun_lines-first x (y ∷ parts) h = (begun_lines (y ∷ parts), refl)
 
 -- ---- the first line of a script
 
@@ -46,8 +46,8 @@ lines_feed raw rest h =
     let e : slice_split is_feed (raw ++ (10 ∷ rest)) ≡ raw ∷ slice_split is_feed rest =
     split_on raw (10 ∷ rest) [] (slice_split is_feed rest) h refl
     ∙ ap (λ (p : List ℕ). p ∷ slice_split is_feed rest) (append-nil raw) in
-    ap (λ (ps : List (List ℕ)). map strip_carriage_return (begun ps)) e ∙ ap (map strip_carriage_return)
-    (begun-cons raw (slice_split is_feed rest) (omega (arith, length-slice_split is_feed rest)))
+    ap (λ (ps : List (List ℕ)). map strip_carriage_return (begun_lines ps)) e ∙ ap (map strip_carriage_return)
+    (begun_lines-cons raw (slice_split is_feed rest) (omega (arith, length-slice_split is_feed rest)))
 
 lines_end : (raw : List ℕ) → NoFeed raw → 0 < length raw → script_lines raw ≡ strip_carriage_return raw ∷ []
 unfolding script_lines
@@ -55,8 +55,8 @@ lines_end raw h long =
     let e : slice_split is_feed raw ≡ raw ∷ [] =
     ap (slice_split is_feed) (sym (append-nil raw)) ∙ split_on raw [] [] [] h refl ∙ ap (λ (p : List ℕ). p ∷ [])
     (append-nil raw) in
-    let whole : begun (raw ∷ []) ≡ raw ∷ [] = rw (ne_eqb (length raw) 0 (λ e. omega arith)) refl in
-    ap (λ (ps : List (List ℕ)). map strip_carriage_return (begun ps)) e ∙ ap (map strip_carriage_return) whole
+    let whole : begun_lines (raw ∷ []) ≡ raw ∷ [] = rw (ne_eqb (length raw) 0 (λ e. omega arith)) refl in
+    ap (λ (ps : List (List ℕ)). map strip_carriage_return (begun_lines ps)) e ∙ ap (map strip_carriage_return) whole
 
 pub lines_none : script_lines [] ≡ []
 unfolding script_lines
@@ -146,10 +146,10 @@ unfolding script_lines
 lines_long raw b rest h ne full =
     let s = split_some b rest (ne_eqb b 10 ne) in
     let e = split_on raw (b ∷ rest) (b ∷ s.0) s.1 h s.2 in
-    let f = begun-first (raw ++ (b ∷ s.0)) s.1 (omega (arith, length-append raw (b ∷ s.0))) in (
+    let f = begun_lines-first (raw ++ (b ∷ s.0)) s.1 (omega (arith, length-append raw (b ∷ s.0))) in (
       strip_carriage_return (raw ++ (b ∷ s.0)),
       map strip_carriage_return f.0,
-      ap (λ (ps : List (List ℕ)). map strip_carriage_return (begun ps)) e ∙ ap (map strip_carriage_return) f.1,
+      ap (λ (ps : List (List ℕ)). map strip_carriage_return (begun_lines ps)) e ∙ ap (map strip_carriage_return) f.1,
       long-without_room raw s.0 b full,
     )
 
@@ -228,10 +228,10 @@ lines_other : (b : ℕ) (rest : List ℕ) → is_feed b ≡ false → 0 < length
 unfolding script_lines
 lines_other b rest other =
     let s = split_some b rest other in
-    let f = begun-first (b ∷ s.0) s.1 (omega arith) in
+    let f = begun_lines-first (b ∷ s.0) s.1 (omega arith) in
     omega (
       arith,
-      ap (λ (ps : List (List ℕ)). length (map strip_carriage_return (begun ps))) s.2,
+      ap (λ (ps : List (List ℕ)). length (map strip_carriage_return (begun_lines ps))) s.2,
       ap (λ (ps : List (List ℕ)). length (map strip_carriage_return ps)) f.1,
     )
 
@@ -268,8 +268,8 @@ pub gave-more : (old mid new : Option (List ℕ)) (n m : ℕ) → GaveFeeds old 
 gave-more old mid new n m (xs, h, le) (ys, k, le') = (xs ++ ys, Consumes-trans old mid new xs ys h k, omega (arith, feeds-append xs ys))
 
 -- a line that has not ended
-pub gave-begun : (old mid new : Option (List ℕ)) (raw : List ℕ) → Begins old mid raw → Keeps mid new → GaveFeeds old new 0
-gave-begun old mid new raw s h = (raw, Consumes-kept old mid new raw s.taken h, omega (arith, feeds-none raw s.no_feed))
+pub gave-begun_lines : (old mid new : Option (List ℕ)) (raw : List ℕ) → Begins old mid raw → Keeps mid new → GaveFeeds old new 0
+gave-begun_lines old mid new raw s h = (raw, Consumes-kept old mid new raw s.taken h, omega (arith, feeds-none raw s.no_feed))
 
 pub gave-ended : (old mid new : Option (List ℕ)) (raw : List ℕ) → Begins old mid raw → Consumes mid new (10 ∷ []) → GaveFeeds old new 1
 gave-ended old mid new raw s h = gave-more old mid new 0 1 (raw, s.taken, omega (arith, feeds-none raw s.no_feed)) (10 ∷ [], h, omega arith)

@@ -6,7 +6,7 @@ use Rattle.std.specs.Str.{IsAscii}
 use Rattle.std.proofs.lemmas.Bool.{leb-true, cases_Bool}
 use Rattle.study_text.specs.Words.{is_space, words, begun_word, behind_word}
 use Rattle.study_marks.specs.Edits.{is_printable}
-use Rattle.study_command.specs.Parser.{ended, trimmed}
+use Rattle.study_command.specs.Parser.{trim_end, trim}
 
 pub both : (x y : Bool) → (x && y) ≡ true → (x ≡ true) × (y ≡ true)
 both true y e = (refl, e)
@@ -59,12 +59,12 @@ pub printable_first : (line word : List ℕ) (more : List (List ℕ)) → words 
     → list_all is_printable line ≡ true → (list_all is_printable word ≡ true) × (AllPrintable more ≡ true)
 printable_first line word more e h = both (list_all is_printable word) (AllPrintable more) (sym (ap AllPrintable e) ∙ words_printable line h)
 
-ended_printable : (xs : List ℕ) → list_all is_printable xs ≡ true → list_all is_printable (ended xs) ≡ true
+ended_printable : (xs : List ℕ) → list_all is_printable xs ≡ true → list_all is_printable (trim_end xs) ≡ true
 ended_printable [] h = refl
 ended_printable (b ∷ bs) h =
     let at = both (is_printable b) (list_all is_printable bs) h in
     elim (cases_Bool (list_all is_space (b ∷ bs))) [ inl all ↦ rw all refl | inr some ↦ rw (some, at.0) (ended_printable bs at.1) ]
 
-pub printable_trimmed : (text : List ℕ) → list_all is_printable text ≡ true → list_all is_printable (trimmed text) ≡ true
-unfolding trimmed
+pub printable_trimmed : (text : List ℕ) → list_all is_printable text ≡ true → list_all is_printable (trim text) ≡ true
+unfolding trim
 printable_trimmed text h = ended_printable (begun_word text) (list_all-drop (prefix_len is_space text) text h)

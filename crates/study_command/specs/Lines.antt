@@ -5,14 +5,14 @@ use Rattle.std.specs.Io.KnownBytes.{Consumes}
 use Rattle.std.specs.Str.Lines.{strip_carriage_return}
 
 -- the parts between line feeds; if no byte follows the last line feed, no line begins there
-abbrev pub begun : List (List ℕ) → List (List ℕ)
-begun [] = []
-begun (part ∷ []) = if length part == 0 then [] else part ∷ []
-begun (part ∷ next ∷ more) = part ∷ begun (next ∷ more)
+abbrev pub begun_lines : List (List ℕ) → List (List ℕ)
+begun_lines [] = []
+begun_lines (part ∷ []) = if length part == 0 then [] else part ∷ []
+begun_lines (part ∷ next ∷ more) = part ∷ begun_lines (next ∷ more)
 
 -- a carriage return before a line feed, or before the end, is not part of the line
 unfoldable pub script_lines : List ℕ → List (List ℕ)
-script_lines script = map strip_carriage_return (begun (slice_split (λ b. b == 10) script))
+script_lines script = map strip_carriage_return (begun_lines (slice_split (λ b. b == 10) script))
 
 -- a reader with the old bytes returned a line, or had none
 abbrev pub TakesLine : Option (List ℕ) → Option (List ℕ) → Bool → List ℕ → Type 0

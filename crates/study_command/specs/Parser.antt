@@ -49,13 +49,13 @@ Asks = Result (Option Asked) SyntaxFault
 -- ---- words and texts
 
 -- without the spaces at the end
-abbrev pub ended : List ℕ → List ℕ
-ended [] = []
-ended (b ∷ bs) = if list_all is_space (b ∷ bs) then [] else b ∷ ended bs
+abbrev pub trim_end : List ℕ → List ℕ
+trim_end [] = []
+trim_end (b ∷ bs) = if list_all is_space (b ∷ bs) then [] else b ∷ trim_end bs
 
 -- without the spaces at both ends
-unfoldable pub trimmed : List ℕ → List ℕ
-trimmed text = ended (begun_word text)
+unfoldable pub trim : List ℕ → List ℕ
+trim text = trim_end (begun_word text)
 
 -- the only word, if there is exactly one
 abbrev pub one_word : List (List ℕ) → Option (List ℕ)
@@ -71,7 +71,7 @@ two_words _ = None
 
 -- a text that is not empty
 abbrev pub text_parsed : List ℕ → Option (List ℕ)
-text_parsed rest = if length (trimmed rest) == 0 then None else Some (trimmed rest)
+text_parsed rest = if length (trim rest) == 0 then None else Some (trim rest)
 
 -- the places of a path
 abbrev pub path_of : List ℕ → Option (List ℕ)
@@ -108,14 +108,14 @@ goal_of (word ∷ []) = if bytes_eq word (codes "win") then Some Win else (if by
 goal_of (word ∷ count ∷ []) = if bytes_eq word (codes "mate") then mate_in (mate_moves_of count) else None
 goal_of _ = None
 
-abbrev pub aimed : Option Side → Option Goal → Option Stipulation
-aimed (Some hero) (Some goal) = Some (record { hero = hero; goal = goal })
-aimed _ _ = None
+abbrev pub stipulation_by : Option Side → Option Goal → Option Stipulation
+stipulation_by (Some hero) (Some goal) = Some (record { hero = hero; goal = goal })
+stipulation_by _ _ = None
 
 -- `SIDE GOAL`
 abbrev pub stipulation_of : List (List ℕ) → Option Stipulation
 stipulation_of [] = None
-stipulation_of (side ∷ goal) = aimed (side_parsed side) (goal_of goal)
+stipulation_of (side ∷ goal) = stipulation_by (side_parsed side) (goal_of goal)
 
 -- the name of a tag that can be set
 abbrev pub tag_parsed : List ℕ → Option TagName

@@ -4,7 +4,7 @@ ghost use Rattle.std.specs.Option.{option_map};
 ghost use Rattle.std.specs.List.{list_all};
 ghost use Rattle.study_text.specs.Words.{words};
 ghost use Rattle.study_marks.specs.Edits.{is_printable};
-ghost use Rattle.study_command.specs.Parser.{ended, trimmed, text_parsed, one_word, two_words};
+ghost use Rattle.study_command.specs.Parser.{trim_end, trim, text_parsed, one_word, two_words};
 
 use std::str;
 use study_text::{next_word, space_len};
@@ -22,7 +22,7 @@ pub fn as_text(bytes: &[u8]) -> &str
 
 /// The length of a text without the spaces at its end.
 fn len_without_end_spaces(text: &[u8]) -> usize
-    ensures value { take result text.now ≡ ended text.now }
+    ensures value { take result text.now ≡ trim_end text.now }
     ensures within { result ≤ length text.now }
 {
     let mut n = text.len();
@@ -33,9 +33,9 @@ fn len_without_end_spaces(text: &[u8]) -> usize
 }
 
 /// A text without the spaces at both ends.
-#[tactic(auto, unfolding(crate::specs::Parser::trimmed))]
+#[tactic(auto, unfolding(crate::specs::Parser::trim))]
 fn trim(text: &[u8]) -> &[u8]
-    ensures { result.now ≡ trimmed text.now }
+    ensures { result.now ≡ trim text.now }
 {
     let (_, begun) = text.split_at(space_len(text));
     let (ended, _) = begun.split_at(len_without_end_spaces(begun));

@@ -1,7 +1,7 @@
 -- Probes, one after the other.
 use Rattle.std.proofs.Common.{◌≡◌, List, [], ◌∷◌, ◌++◌, Result, Ok, Err, IsErrOf, inl, inr, refl, subst}
 use Rattle.study_board.specs.Position.{Position, IsValid}
-use Rattle.study_text.specs.Counts.{counted}
+use Rattle.study_text.specs.Counts.{next_count}
 use Rattle.study_material.specs.declared.class.Class.{Class}
 use Rattle.study_material.specs.Class.{IsOf}
 use Rattle.study_values.specs.declared.fault.SourceFault.{SourceFault}
@@ -40,7 +40,7 @@ module _ {V : Type 0} (source : ValueSource V) where
   asked-then old mid new (Err f) h k = fault-then old mid new f h k
 
   -- one position was probed
-  pub asked-one : (old new : V) (p : Position) (r : ProbeAnswer) → IsValid p → source.gives old p r → source.asked_of new ≡ counted (source.asked_of old)
+  pub asked-one : (old new : V) (p : Position) (r : ProbeAnswer) → IsValid p → source.gives old p r → source.asked_of new ≡ next_count (source.asked_of old)
       → ((c : Class) (f : SourceFault) → IsOf c p → IsErrOf r (probe.TableRead f) → source.may_fail old c f)
       → ((c : Class) (f : SourceFault) → source.may_fail new c f → source.may_fail old c f)
       → HasProbed source old r new

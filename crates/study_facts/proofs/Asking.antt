@@ -3,7 +3,7 @@ use Rattle.std.proofs.Common.{◌≡◌, ℕ, false, List, Result, Ok, Err, IsEr
 use Rattle.study_board.specs.Position.{Position, IsValid}
 use Rattle.study_material.specs.declared.class.Class.{Class}
 use Rattle.study_values.specs.declared.fault.SourceFault.{SourceFault}
-use Rattle.study_text.specs.Counts.{counted}
+use Rattle.study_text.specs.Counts.{next_count}
 use Rattle.study_material.specs.Class.{IsOf}
 use Rattle.study_values.specs.declared.value.Value.{Value}
 use Rattle.study_values.specs.Values.{ProbeAnswer, IsNotDamage, faults_after, ValueSource}
@@ -121,7 +121,8 @@ module _ {V : Type 0} (source : ValueSource V) where
   Answered old (Ok v) new = Reported old new
   Answered old (Err f) new = Stops old f new
 
-  pub value-answered : (old new : V) (p : Position) (r : ProbeAnswer) → IsValid p → source.gives old p r → source.asked_of new ≡ counted (source.asked_of old)
+  pub value-answered : (old new : V) (p : Position) (r : ProbeAnswer) → IsValid p → source.gives old p r → source.asked_of new
+      ≡ next_count (source.asked_of old)
       → ((c : Class) (f : SourceFault) → IsOf c p → IsErrOf r (probe.TableRead f) → source.may_fail old c f)
       → ((c : Class) (f : SourceFault) → source.may_fail new c f → source.may_fail old c f)
       → ((c : Class) → IsErrOf r (probe.NoTable c) → source.held old c ≡ false) → (source.is_honest old → IfErr r IsNotDamage)

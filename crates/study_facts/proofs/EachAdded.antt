@@ -4,7 +4,7 @@ use Rattle.std.proofs.lemmas.List.{append-nil}
 use Rattle.study_tree.specs.Forest.{Forest}
 use Rattle.study_tree.specs.Edits.{width}
 use Rattle.study_marks.specs.declared.mark.Mark.{Mark}
-use Rattle.study_marks.specs.FaultSums.{below_at, skipped}
+use Rattle.study_marks.specs.FaultSums.{below_at, siblings_from}
 use Rattle.study_marks.specs.Study.{Study}
 use Rattle.study_marks.proofs.ChildFound.{skipped-end}
 use Rattle.study_marks.proofs.PathWalks.{below_entered}
@@ -21,7 +21,7 @@ module _ {T : Type 0} (Adds : List ℕ → T → T → Type 0) where
 
   -- what the remaining nodes add from here on, all nodes add from the loop's start on
   abbrev pub AddsOn : List ℕ → Forest Mark → ℕ → T → T → Type 0
-  AddsOn path f k initial now = (end : T) → AddsEach Adds (paths_from path k (skipped k f)) now end → AddsEach Adds (paths_from path 0 f) initial end
+  AddsOn path f k initial now = (end : T) → AddsEach Adds (paths_from path k (siblings_from k f)) now end → AddsEach Adds (paths_from path 0 f) initial end
 
   pub none-added : (path : List ℕ) (f : Forest Mark) (t : T) → AddsOn path f 0 t t
   none-added path f t = λ end h. h
@@ -39,12 +39,12 @@ module _ {T : Type 0} (Adds : List ℕ → T → T → Type 0) where
       let one : AddsEach Adds (child ∷ paths_from child 0 t.below) old new =
       subst (λ (b : Forest Mark). AddsEach Adds (child ∷ paths_from child 0 b) old new) same
       (subst (λ (p : List ℕ). AddsEach Adds (p ∷ paths_from p 0 (below_at f path)) old new) e (mid, own, below)) in
-      let here : paths_from steps k (skipped k g) ≡ (child ∷ paths_from child 0 t.below) ++ paths_from steps (k + 1) (skipped (suc k) g) =
+      let here : paths_from steps k (siblings_from k g) ≡ (child ∷ paths_from child 0 t.below) ++ paths_from steps (k + 1) (siblings_from (suc k) g) =
       ap (paths_from steps k) x.2 in
       λ end left.
       h end (subst (λ (ps : List (List ℕ)). AddsEach Adds ps old end) (sym here)
-      (each-both (child ∷ paths_from child 0 t.below) (paths_from steps (k + 1) (skipped (suc k) g)) old new end one
-      (subst (λ j. AddsEach Adds (paths_from steps (k + 1) (skipped j g)) new end) (add-one k) left)))
+      (each-both (child ∷ paths_from child 0 t.below) (paths_from steps (k + 1) (siblings_from (suc k) g)) old new end one
+      (subst (λ j. AddsEach Adds (paths_from steps (k + 1) (siblings_from j g)) new end) (add-one k) left)))
 
   -- all children are added
   pub below-added : (f : Forest Mark) (steps : List ℕ) (k : ℕ) (old new : T) → width (below_at f steps) ≤ k

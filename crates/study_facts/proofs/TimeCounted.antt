@@ -10,7 +10,7 @@ use Rattle.study_marks.specs.declared.mark.Mark.{Mark}
 use Rattle.study_marks.specs.declared.mark.MoveMark.{MoveMark}
 use Rattle.study_marks.specs.declared.mark.MoveMark.TheVariants.{Only, Dual, Mistake, Idle, Reply}
 use Rattle.study_marks.specs.Bench.{played_by}
-use Rattle.study_marks.specs.FaultSums.{below_at, skipped}
+use Rattle.study_marks.specs.FaultSums.{below_at, siblings_from}
 use Rattle.study_marks.specs.Study.{Study}
 use Rattle.study_marks.proofs.ChildFound.{skipped-end}
 use Rattle.study_marks.proofs.PathWalks.{below_entered}
@@ -30,7 +30,7 @@ module _ (P : List ℕ → ℕ → Type 0) where
   abbrev pub SumGoesOn : List ℕ → Forest Mark → ℕ → ℕ → ℕ → Type 0
   SumGoesOn path f k initial now =
       (done : ℕ) × (initial + done < 2 ^ 32 → now ≡ initial + done)
-      × ((rest : ℕ) → SumOfEach P (paths_from path k (skipped k f)) rest → SumOfEach P (paths_from path 0 f) (done + rest))
+      × ((rest : ℕ) → SumOfEach P (paths_from path k (siblings_from k f)) rest → SumOfEach P (paths_from path 0 f) (done + rest))
 
   pub none-summed : (path : List ℕ) (f : Forest Mark) (n : ℕ) → SumGoesOn path f 0 n n
   none-summed path f n = (
@@ -58,15 +58,15 @@ module _ (P : List ℕ → ℕ → Type 0) where
       let one : SumOfEach P (child ∷ paths_from child 0 t.below) rose.0 =
       subst (λ (b : Forest Mark). SumOfEach P (child ∷ paths_from child 0 b) rose.0) same
       (subst (λ (p : List ℕ). SumOfEach P (p ∷ paths_from p 0 (below_at f path)) rose.0) e rose.1) in
-      let here : paths_from steps k (skipped k g) ≡ (child ∷ paths_from child 0 t.below) ++ paths_from steps (k + 1) (skipped (suc k) g) =
+      let here : paths_from steps k (siblings_from k g) ≡ (child ∷ paths_from child 0 t.below) ++ paths_from steps (k + 1) (siblings_from (suc k) g) =
       ap (paths_from steps k) x.2 in (
         h.0 + rose.0,
         rose-twice initial old new h.0 rose.0 h.1 rose.2,
         λ rest left.
             subst (λ w. SumOfEach P (paths_from steps 0 g) w) (let z : h.0 + (rose.0 + rest) ≡ h.0 + rose.0 + rest = omega arith in z)
             (h.2 (rose.0 + rest) (subst (λ (ps : List (List ℕ)). SumOfEach P ps (rose.0 + rest)) (sym here)
-            (each-sum (child ∷ paths_from child 0 t.below) (paths_from steps (k + 1) (skipped (suc k) g)) rose.0 rest one
-            (subst (λ j. SumOfEach P (paths_from steps (k + 1) (skipped j g)) rest) (add-one k) left)))),
+            (each-sum (child ∷ paths_from child 0 t.below) (paths_from steps (k + 1) (siblings_from (suc k) g)) rose.0 rest one
+            (subst (λ j. SumOfEach P (paths_from steps (k + 1) (siblings_from j g)) rest) (add-one k) left)))),
       )
 
   -- the number of a node, and the numbers of the others after it
@@ -79,7 +79,7 @@ module _ (P : List ℕ → ℕ → Type 0) where
       → SumGoesOn steps (below_at f steps) k old new → Rose (SumOfEach P (paths_from steps 0 (below_at f steps))) old new
   below-summed f steps k old new few h =
       let g = below_at f steps in
-      let end : SumOfEach P (paths_from steps k (skipped k g)) 0 =
+      let end : SumOfEach P (paths_from steps k (siblings_from k g)) 0 =
       subst (λ (r : Forest Mark). SumOfEach P (paths_from steps k r) 0) (sym (skipped-end k g few)) refl in
       (h.0, subst (λ w. SumOfEach P (paths_from steps 0 g) w) (let z : h.0 + 0 ≡ h.0 = omega arith in z) (h.2 0 end), h.1)
 

@@ -7,7 +7,7 @@ use Rattle.study_tree.specs.Forest.{Forest, none, more, Twig, nodes_in}
 use Rattle.study_tree.specs.Edits.{node_in, width}
 use Rattle.study_tree.specs.Tree.{Plain, has_spot, spot_at, twig_spot}
 use Rattle.study_marks.specs.declared.mark.Mark.{Mark}
-use Rattle.study_marks.specs.FaultSums.{below_at, skipped}
+use Rattle.study_marks.specs.FaultSums.{below_at, siblings_from}
 use Rattle.study_marks.proofs.ChildFound.{skipped-end}
 use Rattle.study_marks.proofs.PathRenewed.{there-spot}
 use Rattle.study_marks.proofs.PathWalks.{spot_last, below_entered, fewer}
@@ -19,18 +19,18 @@ use Rattle.study_facts.proofs.NodesShown.{none-counted}
 module _ {L : Type 0} where
   -- a node at a place
   pub node-here : (f : Forest L) (k : ℕ) → k < width f
-      → (t : Twig L) × (node_in f k [] ≡ Some t) × (skipped k f ≡ more t.played t.label t.below (skipped (suc k) f))
+      → (t : Twig L) × (node_in f k [] ≡ Some t) × (siblings_from k f ≡ more t.played t.label t.below (siblings_from (suc k) f))
   node-here none k h = absurd (omega (arith, h))
   node-here (more m l b r) zero h = (record { played = m; label = l; below = b }, refl, refl)
   node-here (more m l b r) (suc k) h = node-here r k (let z : k < width r = omega (arith, h) in z)
 
   -- no node from a place on has children, if the node at this place has none, nor those after it
   pub none-here : (f : Forest L) (k next n : ℕ) (b : Bool) → k < width f → n ≡ width (below_at f (k ∷ [])) → next ≡ k + 1
-      → b ≡ has_no_grandchild (skipped next f) → ((n == 0) && b) ≡ has_no_grandchild (skipped k f)
+      → b ≡ has_no_grandchild (siblings_from next f) → ((n == 0) && b) ≡ has_no_grandchild (siblings_from k f)
   none-here f k next n b lt e j h =
       let x = node-here f k lt in
       ap (λ c. c && b) (none-counted x.0.below n (sym (e ∙ ap width (below_entered f [] k x.0 x.1))))
-      ∙ ap (λ c. is_leaf x.0.below && c) (h ∙ ap (λ i. has_no_grandchild (skipped i f)) (j ∙ add-one k)) ∙ sym (ap has_no_grandchild x.2)
+      ∙ ap (λ c. is_leaf x.0.below && c) (h ∙ ap (λ i. has_no_grandchild (siblings_from i f)) (j ∙ add-one k)) ∙ sym (ap has_no_grandchild x.2)
 
   pub there-child : (t : Plain L) (steps path : List ℕ) (k : ℕ) → path ≡ steps ++ k ∷ [] → k < width (below_at t.below steps) → IsTrue (has_spot t path)
   there-child t steps path k e h =
@@ -54,7 +54,7 @@ module _ (P : List ℕ → List ℕ → Type 0) where
   abbrev pub GoesOn : List ℕ → Forest Mark → ℕ → List ℕ → List ℕ → Type 0
   GoesOn path f k initial text =
       (done : List ℕ) × (text ≡ initial ++ done)
-      × ((rest : List ℕ) → LinesOfEach P (paths_from path k (skipped k f)) rest → LinesOfEach P (paths_from path 0 f) (done ++ rest))
+      × ((rest : List ℕ) → LinesOfEach P (paths_from path k (siblings_from k f)) rest → LinesOfEach P (paths_from path 0 f) (done ++ rest))
 
   pub none-yet : (path : List ℕ) (f : Forest Mark) (text : List ℕ) → GoesOn path f 0 text text
   none-yet path f text = ([], sym (append-nil text), λ rest h. h)
@@ -72,15 +72,15 @@ module _ (P : List ℕ → List ℕ → Type 0) where
       let one : LinesOfEach P (child ∷ paths_from child 0 t.below) grew.0 =
       subst (λ (b : Forest Mark). LinesOfEach P (child ∷ paths_from child 0 b) grew.0) same
       (subst (λ (p : List ℕ). LinesOfEach P (p ∷ paths_from p 0 (below_at f path)) grew.0) e grew.1) in
-      let here : paths_from steps k (skipped k g) ≡ (child ∷ paths_from child 0 t.below) ++ paths_from steps (k + 1) (skipped (suc k) g) =
+      let here : paths_from steps k (siblings_from k g) ≡ (child ∷ paths_from child 0 t.below) ++ paths_from steps (k + 1) (siblings_from (suc k) g) =
       ap (paths_from steps k) x.2 in (
         h.0 ++ grew.0,
         grew.2 ∙ ap (λ (u : List ℕ). u ++ grew.0) h.1 ∙ append_assoc initial h.0 grew.0,
         λ rest left.
             subst (λ (u : List ℕ). LinesOfEach P (paths_from steps 0 g) u) (sym (append_assoc h.0 grew.0 rest))
             (h.2 (grew.0 ++ rest) (subst (λ (ps : List (List ℕ)). LinesOfEach P ps (grew.0 ++ rest)) (sym here)
-            (each-append (child ∷ paths_from child 0 t.below) (paths_from steps (k + 1) (skipped (suc k) g)) grew.0 rest one
-            (subst (λ j. LinesOfEach P (paths_from steps (k + 1) (skipped j g)) rest) (add-one k) left)))),
+            (each-append (child ∷ paths_from child 0 t.below) (paths_from steps (k + 1) (siblings_from (suc k) g)) grew.0 rest one
+            (subst (λ j. LinesOfEach P (paths_from steps (k + 1) (siblings_from j g)) rest) (add-one k) left)))),
       )
 
   -- all children are written, after the node's own lines
@@ -89,7 +89,7 @@ module _ (P : List ℕ → List ℕ → Type 0) where
       → Grew (LinesOfEach P (steps ∷ paths_from steps 0 (below_at f steps))) old new
   all-written f steps k old mid new few own h =
       let g = below_at f steps in
-      let end : LinesOfEach P (paths_from steps k (skipped k g)) [] =
+      let end : LinesOfEach P (paths_from steps k (siblings_from k g)) [] =
       subst (λ (r : Forest Mark). LinesOfEach P (paths_from steps k r) []) (sym (skipped-end k g few)) refl in
       let below : LinesOfEach P (paths_from steps 0 g) h.0 = subst (λ (u : List ℕ). LinesOfEach P (paths_from steps 0 g) u) (append-nil h.0) (h.2 [] end) in (
         own.0 ++ h.0,
@@ -108,6 +108,6 @@ module _ (P : List ℕ → List ℕ → Type 0) where
       → GoesOn steps (below_at f steps) k old new → Grew (LinesOfEach P (paths_from steps 0 (below_at f steps))) old new
   below-written f steps k old new few h =
       let g = below_at f steps in
-      let end : LinesOfEach P (paths_from steps k (skipped k g)) [] =
+      let end : LinesOfEach P (paths_from steps k (siblings_from k g)) [] =
       subst (λ (r : Forest Mark). LinesOfEach P (paths_from steps k r) []) (sym (skipped-end k g few)) refl in
       (h.0, subst (λ (u : List ℕ). LinesOfEach P (paths_from steps 0 g) u) (append-nil h.0) (h.2 [] end), h.1)

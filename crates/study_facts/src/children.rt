@@ -3,8 +3,8 @@ ghost use Rattle.std.specs.Prelude.{◌≡◌, ◌≤◌, ◌++◌, ◌∷◌, [
 ghost use Rattle.study_tree.specs.Edits.{children_at, width};
 ghost use Rattle.study_tree.specs.Tree.{spot_at};
 ghost use Rattle.study_marks.specs.Bench.{played_by};
-ghost use Rattle.study_marks.specs.FaultSums.{below_at, skipped};
-ghost use Rattle.study_marks.specs.BenchState.{marked};
+ghost use Rattle.study_marks.specs.FaultSums.{below_at, siblings_from};
+ghost use Rattle.study_marks.specs.BenchState.{marked_study};
 ghost use Rattle.study_facts.specs.Line.{moves_of};
 
 use arrayvec::ArrayVec;
@@ -14,9 +14,9 @@ use study_moves::Move;
 
 /// The move that led to the node, `None` if there is no such node, or it is the root.
 pub fn move_to<'b, B: Allocator>(bench: &Bench<'b, B>, steps: &[u16]) -> Option<Move>
-    ensures { result ≡ played_by (spot_at (marked bench.now).tree steps.now) }
+    ensures { result ≡ played_by (spot_at (marked_study bench.now).tree steps.now) }
 {
-    match bench.shown(steps) {
+    match bench.node_view(steps) {
         None => None,
         Some(node) => node.played,
     }
@@ -25,7 +25,7 @@ pub fn move_to<'b, B: Allocator>(bench: &Bench<'b, B>, steps: &[u16]) -> Option<
 /// The move of the node's child at this place, if there is one.
 fn child_move<'b, B: Allocator>(bench: &Bench<'b, B>, steps: &[u16], place: u16) -> Option<Move>
     requires { length steps.now ≤ 256 }
-    ensures { result ≡ played_by (spot_at (marked bench.now).tree (steps.now ++ place ∷ [])) }
+    ensures { result ≡ played_by (spot_at (marked_study bench.now).tree (steps.now ++ place ∷ [])) }
 {
     let mut child = ArrayVec::<u16, 257>::new();
     for step in steps {
@@ -55,9 +55,9 @@ fn add_children<'a, 'b, A: Allocator, B: Allocator>(
 ) -> Result<(), AllocError>
     requires short { length steps.now ≤ 256 }
     requires within { place ≤ count }
-    requires all { count ≡ children_at (marked bench.now).tree.below steps.now }
+    requires all { count ≡ children_at (marked_study bench.now).tree.below steps.now }
     ensures { OnOk result (moves.new.items ≡ moves.old.items
-        ++ moves_of (skipped place (below_at (marked bench.now).tree.below steps.now))) }
+        ++ moves_of (siblings_from place (below_at (marked_study bench.now).tree.below steps.now))) }
 {
     if place >= count {
         return Ok(());
@@ -78,11 +78,12 @@ pub fn children_in<'a, 'b, A: Allocator, B: Allocator>(
     steps: &[u16],
 ) -> Result<Option<Vec<Move, &'a A>>, AllocError>
     ensures { IfOk result (λ found.
-        MatchOption found (spot_at (marked bench.now).tree steps.now ≡ None)
-        (λ moves. moves.items ≡ moves_of (below_at (marked bench.now).tree.below steps.now))) }
+        MatchOption found (spot_at (marked_study bench.now).tree steps.now ≡ None)
+        (λ moves. moves.items ≡ moves_of
+        (below_at (marked_study bench.now).tree.below steps.now))) }
 {
     let first = bench.start();
-    match bench.shown(steps) {
+    match bench.node_view(steps) {
         None => Ok(None),
         Some(node) => {
             let mut moves = Vec::new(alloc);
@@ -95,9 +96,9 @@ pub fn children_in<'a, 'b, A: Allocator, B: Allocator>(
 /// The number of children of the node, 0 if there is no such node.
 #[inline(never)]
 pub fn child_count<'b, B: Allocator>(bench: &Bench<'b, B>, steps: &[u16]) -> u16
-    ensures { result ≡ width (below_at (marked bench.now).tree.below steps.now) }
+    ensures { result ≡ width (below_at (marked_study bench.now).tree.below steps.now) }
 {
-    match bench.shown(steps) {
+    match bench.node_view(steps) {
         None => 0,
         Some(node) => node.children,
     }

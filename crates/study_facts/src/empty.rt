@@ -2,8 +2,8 @@
 ghost use Rattle.std.specs.Prelude.{◌≡◌, ◌≤◌};
 ghost use Rattle.study_tree.specs.Edits.{width};
 ghost use Rattle.study_marks.specs.Goals.{aim_of};
-ghost use Rattle.study_marks.specs.BenchState.{marked};
-ghost use Rattle.study_marks.specs.FaultSums.{skipped};
+ghost use Rattle.study_marks.specs.BenchState.{marked_study};
+ghost use Rattle.study_marks.specs.FaultSums.{siblings_from};
 ghost use Rattle.study_facts.specs.Order.{is_empty, has_no_grandchild};
 
 use crate::children::child_count;
@@ -14,8 +14,8 @@ use study_marks::{Bench, hero_moves};
 /// Whether no child of the root from a place on has a child.
 fn has_no_grandchild<'b, B: Allocator>(bench: &Bench<'b, B>, place: u16, count: u16) -> bool
     requires within { place ≤ count }
-    requires all { count ≡ width (marked bench.now).tree.below }
-    ensures { result ≡ has_no_grandchild (skipped place (marked bench.now).tree.below) }
+    requires all { count ≡ width (marked_study bench.now).tree.below }
+    ensures { result ≡ has_no_grandchild (siblings_from place (marked_study bench.now).tree.below) }
 {
     if place >= count {
         return true;
@@ -25,8 +25,8 @@ fn has_no_grandchild<'b, B: Allocator>(bench: &Bench<'b, B>, place: u16, count: 
 
 /// Whether the solution has no move of the hero.
 pub fn is_empty<'b, B: Allocator>(bench: &Bench<'b, B>) -> bool
-    ensures { result ≡ is_empty (aim_of (marked bench.now)).hero_first
-        (marked bench.now).tree.below }
+    ensures { result ≡ is_empty (aim_of (marked_study bench.now)).hero_first
+        (marked_study bench.now).tree.below }
 {
     let aim = aim_in(bench);
     let count = child_count(bench, &[]);

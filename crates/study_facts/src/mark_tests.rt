@@ -1,7 +1,7 @@
 //! The facts of a study that follow from its marks.
 ghost use Rattle.std.specs.Prelude.{◌≡◌, ◌&&◌, ◌||◌};
 ghost use Rattle.study_marks.specs.Goals.{aim_of};
-ghost use Rattle.study_marks.specs.BenchState.{marked};
+ghost use Rattle.study_marks.specs.BenchState.{marked_study};
 ghost use Rattle.study_facts.specs.Nodes.{is_mistake, is_idle, value_at};
 
 use crate::walk_state::WalkState;
@@ -47,7 +47,7 @@ pub fn is_solution_move(made: bool, here: &WalkState) -> bool
 
 /// The stipulation's goal, and whether the hero makes the first move.
 pub fn aim_in<'b, B: Allocator>(bench: &Bench<'b, B>) -> Aim
-    ensures { result ≡ aim_of (marked bench.now) }
+    ensures { result ≡ aim_of (marked_study bench.now) }
 {
     let first = bench.start();
     let stipulation = bench.stipulation();
@@ -56,9 +56,9 @@ pub fn aim_in<'b, B: Allocator>(bench: &Bench<'b, B>) -> Aim
 
 /// The value of the node, a draw if there is no such node.
 pub fn value_at<'b, B: Allocator>(bench: &Bench<'b, B>, steps: &[u16]) -> Value
-    ensures { result ≡ value_at (marked bench.now) steps.now }
+    ensures { result ≡ value_at (marked_study bench.now) steps.now }
 {
-    match bench.shown(steps) {
+    match bench.node_view(steps) {
         None => Value::Draw,
         Some(node) => node.mark.value,
     }

@@ -2,7 +2,7 @@
 ghost use Rattle.std.specs.Prelude.{◌≡◌, []};
 ghost use Rattle.study_marks.specs.declared.mark.Mark.{Mark as AMark};
 ghost use Rattle.study_marks.specs.Goals.{aim_of};
-ghost use Rattle.study_marks.specs.BenchState.{marked};
+ghost use Rattle.study_marks.specs.BenchState.{marked_study};
 ghost use Rattle.study_marks.specs.Study.{Study};
 ghost use Rattle.study_facts.specs.Nodes.{is_defended, is_open_end};
 ghost use Rattle.study_facts.specs.StudyNode.{IsStudyNode, IsStudyMove};
@@ -79,9 +79,9 @@ pub fn root_node<'n, 'b, B: Allocator>(
     aim: &'n Aim,
     root: &'n WalkState,
 ) -> StudyNode<'n>
-    requires aim { aim.now ≡ aim_of (marked bench.now) }
-    requires root { IsStateAt (marked bench.now) [] root.now }
-    ensures node { IsStudyNode (marked bench.now) result }
+    requires aim { aim.now ≡ aim_of (marked_study bench.now) }
+    requires root { IsStateAt (marked_study bench.now) [] root.now }
+    ensures node { IsStudyNode (marked_study bench.now) result }
     ensures path { result.steps.now ≡ [] }
 {
     StudyNode {
@@ -100,9 +100,9 @@ pub fn root_node<'n, 'b, B: Allocator>(
 
 /// The node that a walk reaches by this step.
 pub fn node_after<'n, 'b, B: Allocator>(bench: &Bench<'b, B>, step: &WalkStep<'n>) -> StudyNode<'n>
-    requires { IsWalkStep (marked bench.now) step.now.steps.now step.now.aim.now
+    requires { IsWalkStep (marked_study bench.now) step.now.steps.now step.now.aim.now
         step.now.line.now step.now.before.now step.now.here.now step.now.by }
-    ensures node { IsStudyNode (marked bench.now) result }
+    ensures node { IsStudyNode (marked_study bench.now) result }
     ensures path { result.steps.now ≡ step.now.steps.now }
 {
     let depth = step.steps.len();
@@ -123,9 +123,9 @@ pub fn node_after<'n, 'b, B: Allocator>(bench: &Bench<'b, B>, step: &WalkStep<'n
 
 /// The move of this step of a walk.
 pub fn move_of<'n, 'b, B: Allocator>(bench: &Bench<'b, B>, step: &WalkStep<'n>) -> StudyMove<'n>
-    requires { IsWalkStep (marked bench.now) step.now.steps.now step.now.aim.now
+    requires { IsWalkStep (marked_study bench.now) step.now.steps.now step.now.aim.now
         step.now.line.now step.now.before.now step.now.here.now step.now.by }
-    ensures made { IsStudyMove (marked bench.now) result }
+    ensures made { IsStudyMove (marked_study bench.now) result }
     ensures path { result.steps.now ≡ step.now.steps.now }
 {
     let first = bench.start();

@@ -5,7 +5,7 @@ ghost use Rattle.study_tree.specs.Edits.{width};
 ghost use Rattle.study_tree.specs.Tree.{spot_at};
 ghost use Rattle.study_marks.specs.declared.mark.Mark.{Mark as AMark};
 ghost use Rattle.study_marks.specs.Goals.{aim_of};
-ghost use Rattle.study_marks.specs.BenchState.{marked};
+ghost use Rattle.study_marks.specs.BenchState.{marked_study};
 ghost use Rattle.study_marks.specs.FaultSums.{below_at};
 ghost use Rattle.study_marks.specs.Study.{Study};
 ghost use Rattle.study_facts.specs.Asked.{within};
@@ -51,11 +51,11 @@ pub trait Findings {
         root: &WalkState,
         values: &mut V,
     ) -> Result<(), TextFault>
-        requires aim { aim.now ≡ aim_of (marked bench.now) }
-        requires root { IsStateAt (marked bench.now) [] root.now }
+        requires aim { aim.now ≡ aim_of (marked_study bench.now) }
+        requires root { IsStateAt (marked_study bench.now) [] root.now }
         ensures adds { V.source.is_honest values.old
-            → OnOk result (adds (marked bench.now) [] self.old self.new) }
-        ensures asked { HasAsked (within (marked bench.now).start.position V.source)
+            → OnOk result (adds (marked_study bench.now) [] self.old self.new) }
+        ensures asked { HasAsked (within (marked_study bench.now).start.position V.source)
             values.old result values.new };
 
     /// Adds what is found at another node.
@@ -65,11 +65,11 @@ pub trait Findings {
         step: &WalkStep<'_>,
         values: &mut V,
     ) -> Result<(), TextFault>
-        requires { IsWalkStep (marked bench.now) step.now.steps.now step.now.aim.now
+        requires { IsWalkStep (marked_study bench.now) step.now.steps.now step.now.aim.now
             step.now.line.now step.now.before.now step.now.here.now step.now.by }
         ensures adds { V.source.is_honest values.old
-            → OnOk result (adds (marked bench.now) step.now.steps.now self.old self.new) }
-        ensures asked { HasAsked (within (marked bench.now).start.position V.source)
+            → OnOk result (adds (marked_study bench.now) step.now.steps.now self.old self.new) }
+        ensures asked { HasAsked (within (marked_study bench.now).start.position V.source)
             values.old result values.new };
 }
 
@@ -105,10 +105,11 @@ fn reached_by<'a, 'b, A: Allocator, B: Allocator>(
     bench: &Bench<'b, B>,
     aim: &Aim,
 ) -> Reached
-    requires aim { aim.now ≡ aim_of (marked bench.now) }
-    requires states { IsBefore (marked bench.now) trail.now.steps.items trail.now.states.items }
-    ensures here { IsStateAt (marked bench.now) trail.now.steps.items result.here }
-    ensures by { arrival_of (spot_at (marked bench.now).tree trail.now.steps.items)
+    requires aim { aim.now ≡ aim_of (marked_study bench.now) }
+    requires states { IsBefore (marked_study bench.now) trail.now.steps.items
+        trail.now.states.items }
+    ensures here { IsStateAt (marked_study bench.now) trail.now.steps.items result.here }
+    ensures by { arrival_of (spot_at (marked_study bench.now).tree trail.now.steps.items)
         ≡ Some result.by }
 {
     let steps = trail.steps.as_slice();
@@ -130,17 +131,18 @@ fn add_reached<'a, 'b, A: Allocator, B: Allocator, V: Values, F: Findings>(
     reached: &Reached,
     values: &mut V,
 ) -> Result<(), TextFault>
-    requires aim { aim.now ≡ aim_of (marked bench.now) }
+    requires aim { aim.now ≡ aim_of (marked_study bench.now) }
     requires line { trail.now.line.items
-        ≡ line_to (marked bench.now) (parent_path trail.now.steps.items) }
-    requires states { IsBefore (marked bench.now) trail.now.steps.items trail.now.states.items }
-    requires here { IsStateAt (marked bench.now) trail.now.steps.items reached.now.here }
-    requires by { arrival_of (spot_at (marked bench.now).tree trail.now.steps.items)
+        ≡ line_to (marked_study bench.now) (parent_path trail.now.steps.items) }
+    requires states { IsBefore (marked_study bench.now) trail.now.steps.items
+        trail.now.states.items }
+    requires here { IsStateAt (marked_study bench.now) trail.now.steps.items reached.now.here }
+    requires by { arrival_of (spot_at (marked_study bench.now).tree trail.now.steps.items)
         ≡ Some reached.now.by }
     ensures adds { V.source.is_honest values.old
         → OnOk result
-        (F.adds (marked bench.now) trail.now.steps.items findings.old findings.new) }
-    ensures asked { HasAsked (within (marked bench.now).start.position V.source)
+        (F.adds (marked_study bench.now) trail.now.steps.items findings.old findings.new) }
+    ensures asked { HasAsked (within (marked_study bench.now).start.position V.source)
         values.old result values.new }
 {
     let step = WalkStep {
@@ -165,22 +167,24 @@ fn descend<'a, 'b, A: Allocator, B: Allocator, V: Values, F: Findings>(
     place: u16,
     values: &mut V,
 ) -> Result<(), TextFault>
-    requires aim { aim.now ≡ aim_of (marked bench.now) }
-    requires line { trail.old.line.items ≡ line_to (marked bench.now) trail.old.steps.items }
-    requires states { IsAt (marked bench.now) trail.old.steps.items trail.old.states.items }
-    requires there { place < width (below_at (marked bench.now).tree.below trail.old.steps.items) }
+    // Many clauses: each list of the trail by itself, before and after.
+    requires aim { aim.now ≡ aim_of (marked_study bench.now) }
+    requires line { trail.old.line.items ≡ line_to (marked_study bench.now) trail.old.steps.items }
+    requires states { IsAt (marked_study bench.now) trail.old.steps.items trail.old.states.items }
+    requires there { place < width
+        (below_at (marked_study bench.now).tree.below trail.old.steps.items) }
     ensures steps { OnOk result (trail.new.steps.items ≡ trail.old.steps.items ++ place ∷ []) }
     ensures line { OnOk result ((p : APosition)
         × (trail.new.line.items ≡ trail.old.line.items ++ p ∷ [])) }
     ensures line_to { OnOk result
-        (trail.new.line.items ≡ line_to (marked bench.now) trail.new.steps.items) }
+        (trail.new.line.items ≡ line_to (marked_study bench.now) trail.new.steps.items) }
     ensures states { OnOk result
-        (WentTo (marked bench.now) trail.new.steps.items
+        (WentTo (marked_study bench.now) trail.new.steps.items
         trail.old.states.items trail.new.states.items) }
     ensures adds { V.source.is_honest values.old
         → OnOk result
-        (F.adds (marked bench.now) trail.new.steps.items findings.old findings.new) }
-    ensures asked { HasAsked (within (marked bench.now).start.position V.source)
+        (F.adds (marked_study bench.now) trail.new.steps.items findings.old findings.new) }
+    ensures asked { HasAsked (within (marked_study bench.now).start.position V.source)
         values.old result values.new }
 {
     let first = bench.start();
@@ -214,18 +218,18 @@ fn walk_below<'a, 'b, A: Allocator, B: Allocator, V: Values, F: Findings>(
     aim: &Aim,
     values: &mut V,
 ) -> Result<(), TextFault>
-    requires aim { aim.now ≡ aim_of (marked bench.now) }
-    requires line { trail.old.line.items ≡ line_to (marked bench.now) trail.old.steps.items }
-    requires states { IsAt (marked bench.now) trail.old.steps.items trail.old.states.items }
+    requires aim { aim.now ≡ aim_of (marked_study bench.now) }
+    requires line { trail.old.line.items ≡ line_to (marked_study bench.now) trail.old.steps.items }
+    requires states { IsAt (marked_study bench.now) trail.old.steps.items trail.old.states.items }
     ensures steps { OnOk result (trail.new.steps.items ≡ trail.old.steps.items) }
     ensures line { OnOk result (trail.new.line.items ≡ trail.old.line.items) }
     ensures states { OnOk result (trail.new.states.items ≡ trail.old.states.items) }
     ensures adds { V.source.is_honest values.old
-        → OnOk result (AddsEach (F.adds (marked bench.now))
+        → OnOk result (AddsEach (F.adds (marked_study bench.now))
         (paths_from trail.old.steps.items 0
-        (below_at (marked bench.now).tree.below trail.old.steps.items))
+        (below_at (marked_study bench.now).tree.below trail.old.steps.items))
         findings.old findings.new) }
-    ensures asked { HasAsked (within (marked bench.now).start.position V.source)
+    ensures asked { HasAsked (within (marked_study bench.now).start.position V.source)
         values.old result values.new }
 {
     for place in 0..last_state(trail).children {
@@ -264,9 +268,10 @@ pub fn walk_study<'a, 'b, A: Allocator, B: Allocator, V: Values, F: Findings>(
     values: &mut V,
 ) -> Result<(), TextFault>
     ensures adds { V.source.is_honest values.old
-        → OnOk result (AddsEach (F.adds (marked bench.now)) (written_order (marked bench.now))
+        → OnOk result (AddsEach (F.adds (marked_study bench.now))
+        (written_order (marked_study bench.now))
         findings.old findings.new) }
-    ensures asked { HasAsked (within (marked bench.now).start.position V.source)
+    ensures asked { HasAsked (within (marked_study bench.now).start.position V.source)
         values.old result values.new }
 {
     let aim = aim_in(bench);

@@ -4,7 +4,7 @@ ghost use Rattle.study_tree.specs.Edits.{width};
 ghost use Rattle.study_tree.specs.Tree.{spot_at};
 ghost use Rattle.study_marks.specs.Bench.{node_seen};
 ghost use Rattle.study_marks.specs.Goals.{aim_of, hero_moves};
-ghost use Rattle.study_marks.specs.BenchState.{marked};
+ghost use Rattle.study_marks.specs.BenchState.{marked_study};
 ghost use Rattle.study_facts.specs.Nodes.{parent_path, is_idle};
 ghost use Rattle.study_facts.specs.WalkState.{arrival_of, IsStateAt};
 
@@ -33,9 +33,9 @@ pub struct MoveToNode {
 
 /// The contents of the node at the path, `None` if there is no such node, or it is the root.
 pub fn move_to_node<'b, B: Allocator>(bench: &Bench<'b, B>, steps: &[u16]) -> Option<MoveToNode>
-    ensures { result ≡ arrival_of (spot_at (marked bench.now).tree steps.now) }
+    ensures { result ≡ arrival_of (spot_at (marked_study bench.now).tree steps.now) }
 {
-    match bench.shown(steps) {
+    match bench.node_view(steps) {
         None => None,
         Some(node) => arrival_of(&node),
     }
@@ -76,11 +76,11 @@ pub fn walk_state_after<'b, B: Allocator>(
     before: &WalkState,
     by: &MoveToNode,
 ) -> WalkState
-    requires aim { aim.now ≡ aim_of (marked bench.now) }
+    requires aim { aim.now ≡ aim_of (marked_study bench.now) }
     requires some { 0 < length steps.now }
-    requires before { IsStateAt (marked bench.now) (parent_path steps.now) before.now }
-    requires by { arrival_of (spot_at (marked bench.now).tree steps.now) ≡ Some by.now }
-    ensures { IsStateAt (marked bench.now) steps.now result }
+    requires before { IsStateAt (marked_study bench.now) (parent_path steps.now) before.now }
+    requires by { arrival_of (spot_at (marked_study bench.now).tree steps.now) ≡ Some by.now }
+    ensures { IsStateAt (marked_study bench.now) steps.now result }
 {
     let first = bench.start();
     match steps.split_last() {
@@ -96,8 +96,8 @@ pub fn walk_state_after<'b, B: Allocator>(
 
 /// The walk state at the root.
 pub fn root_walk_state<'b, B: Allocator>(bench: &Bench<'b, B>, children: u16) -> WalkState
-    requires { children ≡ width (marked bench.now).tree.below }
-    ensures { IsStateAt (marked bench.now) [] result }
+    requires { children ≡ width (marked_study bench.now).tree.below }
+    ensures { IsStateAt (marked_study bench.now) [] result }
 {
     WalkState {
         position: bench.start().position.copied(),

@@ -4,64 +4,64 @@ use Rattle.std.specs.Prelude.{codes}
 use Rattle.study_games.specs.declared.token.TokenFault.TheVariants.{OpenComment, OpenString, Byte}
 use Rattle.study_games.specs.declared.symbols.Said.TheVariants.{Number, Result, NullMove, Aside, Move}
 use Rattle.study_games.specs.declared.symbols.Outcome.TheVariants.{WhiteWins, BlackWins, Drawn}
-use Rattle.study_games.specs.Tokens.{token_at, lexed, tag_at, comment_at, ends_tag, behind_value, tag, comment, symbol, sign, blank, aside}
+use Rattle.study_games.specs.Tokens.{token_at, lexed_token, tag_at, comment_at, ends_tag, behind_value, tag, comment, symbol, sign, blank, aside}
 use Rattle.study_games.specs.Symbols.{said_of, san_in, without_passing}
 
 -- marks inside a value, as Scid writes them
 marks_inside : token_at true (codes "[Site \"A \"slip\" \\ of\" ] 1.") ≡ Some (Ok (tag (codes "Site") (codes "A \"slip\" \\ of"), codes " 1."))
-unfolding lexed tag_at ends_tag behind_value
+unfolding lexed_token tag_at ends_tag behind_value
 marks_inside = refl
 
 -- an escaped mark does not end a value
 escaped_mark : token_at true (codes "[White \"C:\\\"]") ≡ Some (Err OpenString)
-unfolding lexed tag_at ends_tag behind_value
+unfolding lexed_token tag_at ends_tag behind_value
 escaped_mark = refl
 
 braces : token_at false (codes "{a {b} c") ≡ Some (Ok (comment (codes "a {b"), codes " c"))
-unfolding lexed comment_at
+unfolding lexed_token comment_at
 braces = refl
 
 open_brace : token_at false (codes "{a") ≡ Some (Err OpenComment)
-unfolding lexed comment_at
+unfolding lexed_token comment_at
 open_brace = refl
 
 move_with_signs : token_at false (codes "c8=Q+-! x") ≡ Some (Ok (symbol (codes "c8=Q+-"), codes "! x"))
-unfolding lexed
+unfolding lexed_token
 move_with_signs = refl
 
 two_dashes : token_at false (codes "-- Kf4") ≡ Some (Ok (sign (codes "--"), codes " Kf4"))
-unfolding lexed
+unfolding lexed_token
 two_dashes = refl
 
 -- `1…Kf5`: the number ends before the dots
 number_and_dots : token_at false (49 ∷ 226 ∷ 128 ∷ 166 ∷ codes "Kf5") ≡ Some (Ok (symbol (codes "1"), 226 ∷ 128 ∷ 166 ∷ codes "Kf5"))
-unfolding lexed
+unfolding lexed_token
 number_and_dots = refl
 
 dots_and_move : token_at false (226 ∷ 128 ∷ 166 ∷ codes "Kf5") ≡ Some (Ok (blank, codes "Kf5"))
-unfolding lexed
+unfolding lexed_token
 dots_and_move = refl
 
 -- `Kd3…`
 dots_behind_move : token_at false (codes "Kd3" ++ (226 ∷ 128 ∷ 166 ∷ codes " x")) ≡ Some (Ok (symbol (codes "Kd3" ++ (226 ∷ 128 ∷ 166 ∷ [])), codes " x"))
-unfolding lexed
+unfolding lexed_token
 dots_behind_move = refl
 
 -- `+–` with an en dash
 judgement_with_dash : token_at false (43 ∷ 226 ∷ 128 ∷ 147 ∷ codes " x") ≡ Some (Ok (sign (43 ∷ 226 ∷ 128 ∷ 147 ∷ []), codes " x"))
-unfolding lexed
+unfolding lexed_token
 judgement_with_dash = refl
 
 escape_line : token_at true (codes "%( {") ≡ Some (Ok (blank, []))
-unfolding lexed
+unfolding lexed_token
 escape_line = refl
 
 percent_inside : token_at false (codes "%( {") ≡ Some (Err Byte)
-unfolding lexed
+unfolding lexed_token
 percent_inside = refl
 
 nag_without_number : token_at false (codes "$ Kf4") ≡ Some (Ok (aside, codes " Kf4"))
-unfolding lexed
+unfolding lexed_token
 nag_without_number = refl
 
 half : said_of (codes "1/2") ≡ Result Drawn

@@ -5,7 +5,7 @@ use Rattle.std.specs.Prelude.{◌&&◌, ◌||◌}
 use Rattle.std.specs.Str.{bytes_eq}
 use Rattle.std.proofs.lemmas.Bool.{cases_Bool, eq-eqb}
 use Rattle.std.proofs.lemmas.List.{take_all}
-use Rattle.study_games.specs.Symbols.{begins_figurine, has_figurine, has_letter, letter_of as letter_in, letter_at, lettered}
+use Rattle.study_games.specs.Symbols.{begins_figurine, has_figurine, has_letter, letter_of as letter_in, letter_at, with_letters}
 
 one_more : (b : ℕ) (bs : List ℕ) → has_figurine (b ∷ bs) ≡ (begins_figurine (b ∷ bs) || has_figurine bs)
 one_more b [] = refl
@@ -27,7 +27,7 @@ few_have_none (a ∷ bs) h = absurd (omega (arith, h))
 
 -- a letter is read, and the rest is shorter
 pub record Lettered (letter : ℕ) (behind text : List ℕ) : Type 0 where
-  pub same : letter ∷ lettered behind ≡ lettered text
+  pub same : letter ∷ with_letters behind ≡ with_letters text
   pub less : length behind < length text
 
 abbrev found : ℕ → List ℕ → Option (ℕ × List ℕ)
@@ -42,7 +42,7 @@ behind_of None = []
 behind_of (Some x) = x.1
 
 module _ (letter : ℕ) (behind : List ℕ) where
-  lettered_by : (b : ℕ) (bs text : List ℕ) → found letter behind ≡ found b bs → b ∷ lettered bs ≡ lettered text → length bs < length text
+  lettered_by : (b : ℕ) (bs text : List ℕ) → found letter behind ≡ found b bs → b ∷ with_letters bs ≡ with_letters text → length bs < length text
       → Lettered letter behind text
   lettered_by b bs text e same less = rw (ap letter_of e, ap behind_of e) (record { same = same; less = less })
 
@@ -58,8 +58,9 @@ module _ (letter : ℕ) (behind : List ℕ) where
 
   -- if it is the first of another text as well, the rest of both is compared
   pub letter_met : (text left : List ℕ) → found letter behind ≡ letter_at text → 1 ≤ length left → get_or left 0 0 ≡ letter
-      → bytes_eq (lettered behind) (take (length left - 1) (drop 1 left)) ≡ bytes_eq (lettered text) left
+      → bytes_eq (with_letters behind) (take (length left - 1) (drop 1 left)) ≡ bytes_eq (with_letters text) left
   letter_met text [] e some is = absurd (omega (arith, some))
   letter_met text (x ∷ xs) e some is =
-      ap (bytes_eq (lettered behind)) (take_all (length (x ∷ xs) - 1) xs (omega arith))
-      ∙ sym (ap (λ (t : List ℕ). bytes_eq t (x ∷ xs)) (sym (letter_read text e).same) ∙ ap (λ b. b && bytes_eq (lettered behind) xs) (eq-eqb letter x (sym is)))
+      ap (bytes_eq (with_letters behind)) (take_all (length (x ∷ xs) - 1) xs (omega arith))
+      ∙ sym (ap (λ (t : List ℕ). bytes_eq t (x ∷ xs)) (sym (letter_read text e).same)
+      ∙ ap (λ b. b && bytes_eq (with_letters behind) xs) (eq-eqb letter x (sym is)))

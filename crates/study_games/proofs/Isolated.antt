@@ -4,7 +4,8 @@ use Rattle.std.specs.Prelude.{◌==◌, if◌then◌else◌}
 use Rattle.std.proofs.lemmas.Bool.{cases_Bool}
 use Rattle.study_games.specs.declared.games.LineKind.{LineKind}
 use Rattle.study_games.specs.declared.games.LineKind.TheVariants.{Silent, Tag, EventTag, Moves}
-use Rattle.study_games.specs.Games.{Game, Begun, kind_of, longer, lines_behind, one_more, unmarked, first_line, taken_to, ends_before, game_at_hand}
+use Rattle.study_games.specs.Games.{Game, Begun, kind_of, with_byte, lines_behind, one_more, without_byte_order_mark, first_line, taken_to, ends_before}
+use Rattle.study_games.specs.Games.{game_at_hand}
 use Rattle.study_games.specs.Games.{games_from, games_of}
 use Rattle.study_games.specs.Laws.{number_behind, EndsWithMoves, IsTag, BeginsWithTag, lines_of, IsIsolated}
 
@@ -14,23 +15,24 @@ lines_cut : (line front b : List ℕ) → lines_behind line ((front ++ 10 ∷ []
 lines_cut line [] b = refl
 lines_cut line (x ∷ xs) b =
     elim (cases_Bool (x == 10)) [
-      | inl feed ↦ rw feed (ap (λ (ls : List (List ℕ)). longer line x ∷ ls) (lines_cut [] xs b))
-      | inr other ↦ rw other (lines_cut (longer line x) xs b)
+      | inl feed ↦ rw feed (ap (λ (ls : List (List ℕ)). with_byte line x ∷ ls) (lines_cut [] xs b))
+      | inr other ↦ rw other (lines_cut (with_byte line x) xs b)
     ]
 
 -- ---- the current game after some lines
 
 abbrev next_begun : ℕ → Option Begun → List ℕ → Option Begun
 next_begun n begun line =
-    if ends_before begun (kind_of (unmarked n line)) then first_line n (unmarked n line) (kind_of (unmarked n line))
-    else taken_to n begun (unmarked n line) (kind_of (unmarked n line))
+    if ends_before begun (kind_of (without_byte_order_mark n line)) then first_line n (without_byte_order_mark n line)
+    (kind_of (without_byte_order_mark n line))
+    else taken_to n begun (without_byte_order_mark n line) (kind_of (without_byte_order_mark n line))
 
 abbrev begun_behind : ℕ → Option Begun → List (List ℕ) → Option Begun
 begun_behind n begun [] = begun
 begun_behind n begun (line ∷ lines) = begun_behind (one_more n) (next_begun n begun line) lines
 
 abbrev ended_by : ℕ → Option Begun → List ℕ → List Game
-ended_by n begun line = if ends_before begun (kind_of (unmarked n line)) then game_at_hand begun else []
+ended_by n begun line = if ends_before begun (kind_of (without_byte_order_mark n line)) then game_at_hand begun else []
 
 abbrev ended_in : ℕ → Option Begun → List (List ℕ) → List Game
 ended_in n begun [] = []
@@ -39,7 +41,7 @@ ended_in n begun (line ∷ lines) = ended_by n begun line ++ ended_in (one_more 
 one_line : (n : ℕ) (begun : Option Begun) (line : List ℕ) (lines : List (List ℕ))
     → games_from n begun (line ∷ lines) ≡ ended_by n begun line ++ games_from (one_more n) (next_begun n begun line) lines
 one_line n begun line lines =
-    elim (cases_Bool (ends_before begun (kind_of (unmarked n line)))) [
+    elim (cases_Bool (ends_before begun (kind_of (without_byte_order_mark n line)))) [
       | inl ends ↦ rw ends refl
       | inr goes ↦ rw goes refl
     ]
@@ -66,7 +68,7 @@ moves_taken n (Some g) line kind is = rw is refl
 
 has_moves : (n : ℕ) (begun : Option Begun) (ls : List (List ℕ)) → EndsWithMoves n ls → HasMoves (begun_behind n begun ls)
 has_moves n begun [] h = absurd h
-has_moves n begun (line ∷ []) h = moves_taken n begun (unmarked n line) (kind_of (unmarked n line)) h
+has_moves n begun (line ∷ []) h = moves_taken n begun (without_byte_order_mark n line) (kind_of (without_byte_order_mark n line)) h
 has_moves n begun (line ∷ next ∷ lines) h = has_moves (one_more n) (next_begun n begun line) (next ∷ lines) h
 
 -- a line of a tag then begins a game
@@ -80,7 +82,7 @@ tag_begins n (Some g) line EventTag has is = rw has refl
 games_apart : (n : ℕ) (begun : Option Begun) (ms : List (List ℕ)) → HasMoves begun → BeginsWithTag n ms
     → games_from n begun ms ≡ game_at_hand begun ++ games_from n None ms
 games_apart n begun [] has is = absurd is
-games_apart n begun (line ∷ lines) has is = rw (tag_begins n begun (unmarked n line) (kind_of (unmarked n line)) has is) refl
+games_apart n begun (line ∷ lines) has is = rw (tag_begins n begun (without_byte_order_mark n line) (kind_of (without_byte_order_mark n line)) has is) refl
 
 whole : (n : ℕ) (begun : Option Begun) (ls : List (List ℕ)) → games_from n begun ls ≡ ended_in n begun ls ++ game_at_hand (begun_behind n begun ls)
 whole n begun [] = refl

@@ -5,7 +5,7 @@ use Rattle.std.specs.Prelude.{◌&&◌, ◌||◌, ◌==◌, nat_le}
 use Rattle.std.specs.List.{list_all, prefix_len}
 use Rattle.std.proofs.lemmas.Bool.{cases_Bool, and_parts, and_right, false≢true, ne_eqb, leb-true, lt-leb, or_cases, or_from}
 use Rattle.study_games.specs.Bytes.{is_letter, is_digit, is_high, is_sign, begins_symbol, is_symbol_byte, is_blank, is_glyph}
-use Rattle.study_games.specs.Tokens.{Lexed, token_at, lexed, run_of, begins_ellipsis, begins_number, front, behind, symbol}
+use Rattle.study_games.specs.Tokens.{Lexed, token_at, lexed_token, run_of, begins_ellipsis, begins_number, front, behind, symbol}
 
 -- a run ends at the end of the text, or before a byte of another kind
 abbrev pub Stops : (ℕ → Bool) → List ℕ → Type 0
@@ -170,8 +170,8 @@ number_ends (x ∷ xs) rest all stops =
     ]
 
 symbol_token : (fresh : Bool) (b : ℕ) (bs : List ℕ) → IsFirst b → begins_symbol b ≡ true → begins_ellipsis (b ∷ bs) ≡ false → begins_number (b ∷ bs) ≡ false
-    → lexed fresh b bs ≡ run_of symbol is_symbol_byte (b ∷ bs)
-unfolding lexed
+    → lexed_token fresh b bs ≡ run_of symbol is_symbol_byte (b ∷ bs)
+unfolding lexed_token
 symbol_token fresh b bs f begins ellipsis number =
     rw (and_right fresh (b == 37) (low b f 37 (omega arith))) (rw (no_blank b f) (rw (top b f 123 (omega arith) (omega arith))
     (rw (middle b f 59 (omega arith) (omega arith)) (rw (upper b f 91 (omega arith) (omega arith)) (rw (low b f 40 (omega arith))

@@ -14,13 +14,13 @@ use Rattle.study_games.specs.declared.gathering.Game.{Game as GameRead}
 -- ---- lines
 
 -- a line with one byte more. At most 1,048,580 bytes of a line are kept: with these its game is too large, even if three of them are a byte order mark
-abbrev pub longer : List ℕ → ℕ → List ℕ
-longer line b = if nat_le 1048580 (length line) then line else line ++ b ∷ []
+abbrev pub with_byte : List ℕ → ℕ → List ℕ
+with_byte line b = if nat_le 1048580 (length line) then line else line ++ b ∷ []
 
 -- the lines of a text, each with its line feed, after these bytes of the first one
 abbrev pub lines_behind : List ℕ → List ℕ → List (List ℕ)
 lines_behind line [] = if length line == 0 then [] else line ∷ []
-lines_behind line (b ∷ bs) = if b == 10 then longer line b ∷ lines_behind [] bs else lines_behind (longer line b) bs
+lines_behind line (b ∷ bs) = if b == 10 then with_byte line b ∷ lines_behind [] bs else lines_behind (with_byte line b) bs
 
 -- without a byte order mark in front
 abbrev pub without_mark : List ℕ → List ℕ
@@ -40,13 +40,13 @@ name_of [] = None
 name_of (b ∷ bs) =
     if is_letter b && begins_value (behind is_gap (behind is_name_byte (b ∷ bs))) then Some (front is_name_byte (b ∷ bs)) else None
 
-abbrev pub bracketed : List ℕ → Option (List ℕ)
-bracketed [] = None
-bracketed (b ∷ bs) = if b == 91 then name_of (behind is_gap bs) else None
+abbrev pub name_in_brackets : List ℕ → Option (List ℕ)
+name_in_brackets [] = None
+name_in_brackets (b ∷ bs) = if b == 91 then name_of (behind is_gap bs) else None
 
 -- the name of the tag with which a line begins
 unfoldable pub tag_name : List ℕ → Option (List ℕ)
-tag_name line = bracketed (behind is_gap line)
+tag_name line = name_in_brackets (behind is_gap line)
 
 -- an escape line, or a remark to the end of the line
 abbrev pub is_remark : List ℕ → Bool
@@ -115,8 +115,8 @@ abbrev pub one_more : ℕ → ℕ
 one_more n = min (n + 1) (2 ^ 32 - 1)
 
 -- a byte order mark in front of the first line is dropped
-abbrev pub unmarked : ℕ → List ℕ → List ℕ
-unmarked n line = if n == 1 then without_mark line else line
+abbrev pub without_byte_order_mark : ℕ → List ℕ → List ℕ
+without_byte_order_mark n line = if n == 1 then without_mark line else line
 
 -- a line is added to the current game, or begins the first one
 abbrev pub taken_to : ℕ → Option Begun → List ℕ → LineKind → Option Begun
@@ -135,9 +135,9 @@ game_at_hand (Some g) = g.game ∷ []
 abbrev pub games_from : ℕ → Option Begun → List (List ℕ) → List Game
 games_from n begun [] = game_at_hand begun
 games_from n begun (line ∷ lines) =
-    if ends_before begun (kind_of (unmarked n line))
-    then game_at_hand begun ++ games_from (one_more n) (first_line n (unmarked n line) (kind_of (unmarked n line))) lines
-    else games_from (one_more n) (taken_to n begun (unmarked n line) (kind_of (unmarked n line))) lines
+    if ends_before begun (kind_of (without_byte_order_mark n line))
+    then game_at_hand begun ++ games_from (one_more n) (first_line n (without_byte_order_mark n line) (kind_of (without_byte_order_mark n line))) lines
+    else games_from (one_more n) (taken_to n begun (without_byte_order_mark n line) (kind_of (without_byte_order_mark n line))) lines
 
 unfoldable pub games_of : List ℕ → List Game
 games_of text = games_from 1 None (lines_behind [] text)
@@ -153,10 +153,10 @@ pub record Gathered : Type 0 where
   pub next : ℕ
   pub begun : Option Begun
 
-abbrev pub gathered : ℕ → Bool → ℕ → Bool → List ℕ → Seen → Gathered
-gathered next false first large text seen = record { next = next; begun = None }
-gathered next true first true text seen = record { next = next; begun = Some (record { game = record { line = first; text = None }; seen = seen }) }
-gathered next true first false text seen = record { next = next; begun = Some (record { game = record { line = first; text = Some text }; seen = seen }) }
+abbrev pub gathered_game : ℕ → Bool → ℕ → Bool → List ℕ → Seen → Gathered
+gathered_game next false first large text seen = record { next = next; begun = None }
+gathered_game next true first true text seen = record { next = next; begun = Some (record { game = record { line = first; text = None }; seen = seen }) }
+gathered_game next true first false text seen = record { next = next; begun = Some (record { game = record { line = first; text = Some text }; seen = seen }) }
 
 abbrev pub with_next : Gathered → List ℕ → LineKind → Gathered
 with_next g line kind = record { next = one_more g.next; begun = taken_to g.next g.begun line kind }

@@ -7,7 +7,7 @@ use Rattle.study_games.specs.declared.token.TokenFault.TheVariants.{TagForm, Ope
 use Rattle.study_games.specs.declared.header.HeaderFault.{HeaderFault}
 use Rattle.study_games.specs.declared.header.HeaderStep.{HeaderStep as StepRead}
 use Rattle.study_games.specs.declared.header.HeaderStep.TheVariants as read
-use Rattle.study_games.specs.Tokens.{Lexed, lexed, begins_feed, blank, tag, comment, rest}
+use Rattle.study_games.specs.Tokens.{Lexed, lexed_token, begins_feed, blank, tag, comment, rest}
 
 -- a tag: its name, and its value with its backslashes
 abbrev pub Pair : Type 0
@@ -33,7 +33,7 @@ step_of (Err other) = ended
 -- fresh: the text begins a line
 abbrev pub step_at : Bool → List ℕ → Step
 step_at fresh [] = ended
-step_at fresh (b ∷ bs) = step_of (lexed fresh b bs)
+step_at fresh (b ∷ bs) = step_of (lexed_token fresh b bs)
 
 abbrev pub with_tags : (List ℕ → List Pair) → Step → List Pair
 with_tags next (on (Some pair) behind) = pair ∷ next behind
@@ -85,6 +85,6 @@ unescaped_at (b ∷ c ∷ bs) = if is_escaped b c then Some (c, bs) else Some (b
 unescaped_at (b ∷ []) = Some (b, [])
 unescaped_at [] = None
 
-abbrev pub unescaped : List ℕ → List ℕ
-unescaped (b ∷ c ∷ bs) = if is_escaped b c then c ∷ unescaped bs else b ∷ unescaped (c ∷ bs)
-unescaped bs = bs
+abbrev pub unescape : List ℕ → List ℕ
+unescape (b ∷ c ∷ bs) = if is_escaped b c then c ∷ unescape bs else b ∷ unescape (c ∷ bs)
+unescape bs = bs

@@ -2,7 +2,7 @@
 use Rattle.std.specs.Prelude.{◌≡◌, ℕ, List, [], ◌∷◌, ◌++◌, None}
 use Rattle.study_games.specs.declared.games.LineKind.{LineKind}
 use Rattle.study_games.specs.declared.games.LineKind.TheVariants.{Tag, EventTag, Moves}
-use Rattle.study_games.specs.Games.{kind_of, lines_behind, one_more, unmarked, games_from, games_of}
+use Rattle.study_games.specs.Games.{kind_of, lines_behind, one_more, without_byte_order_mark, games_from, games_of}
 
 -- the number of the line after so many lines, the first of which has number n
 abbrev pub number_behind : ℕ → List (List ℕ) → ℕ
@@ -12,7 +12,7 @@ number_behind n (line ∷ lines) = number_behind (one_more n) lines
 -- the last of these lines, the first of which has number n, is a line of moves
 abbrev pub EndsWithMoves : ℕ → List (List ℕ) → Type 0
 EndsWithMoves n [] = ⊥
-EndsWithMoves n (line ∷ []) = kind_of (unmarked n line) ≡ Moves
+EndsWithMoves n (line ∷ []) = kind_of (without_byte_order_mark n line) ≡ Moves
 EndsWithMoves n (line ∷ next ∷ lines) = EndsWithMoves (one_more n) (next ∷ lines)
 
 abbrev pub IsTag : LineKind → Type 0
@@ -23,7 +23,7 @@ IsTag other = ⊥
 -- the first of these lines, with number n, is a line of a tag
 abbrev pub BeginsWithTag : ℕ → List (List ℕ) → Type 0
 BeginsWithTag n [] = ⊥
-BeginsWithTag n (line ∷ lines) = IsTag (kind_of (unmarked n line))
+BeginsWithTag n (line ∷ lines) = IsTag (kind_of (without_byte_order_mark n line))
 
 abbrev pub lines_of : List ℕ → List (List ℕ)
 lines_of text = lines_behind [] text

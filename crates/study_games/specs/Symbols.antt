@@ -42,9 +42,9 @@ abbrev pub letter_of : ℕ → ℕ → ℕ → ℕ
 letter_of a b c = if is_hyphen a b c then 45 else kind_letter (figurine_kind c)
 
 -- letters in place of these characters
-abbrev pub lettered : List ℕ → List ℕ
-lettered (a ∷ b ∷ c ∷ bs) = if has_letter a b c then letter_of a b c ∷ lettered bs else a ∷ lettered (b ∷ c ∷ bs)
-lettered bs = bs
+abbrev pub with_letters : List ℕ → List ℕ
+with_letters (a ∷ b ∷ c ∷ bs) = if has_letter a b c then letter_of a b c ∷ with_letters bs else a ∷ with_letters (b ∷ c ∷ bs)
+with_letters bs = bs
 
 -- the first byte, or the letter of a character at the front, and the rest
 abbrev pub letter_at : List ℕ → Option (ℕ × List ℕ)
@@ -56,7 +56,7 @@ letter_at [] = None
 
 -- the symbol is this text, with any dash for `-`
 abbrev pub spells : List ℕ → List ℕ → Bool
-spells symbol text = bytes_eq (lettered symbol) text
+spells symbol text = bytes_eq (with_letters symbol) text
 
 -- `½`, half a point as one character in UTF-8
 abbrev pub half : List ℕ
@@ -126,8 +126,8 @@ plain_byte b = if b == 58 then 120 else (if b == 47 then 61 else b)
 abbrev pub plain_bytes : Bool → ℕ → List ℕ
 plain_bytes castling b = if not castling && b == 45 then [] else plain_byte b ∷ []
 
-abbrev pub spelled : List ℕ → List ℕ
-spelled text = flat_map (plain_bytes (begins_castling text)) text
+abbrev pub plain_spelling : List ℕ → List ℕ
+plain_spelling text = flat_map (plain_bytes (begins_castling text)) text
 
 unfoldable pub san_in : List ℕ → List ℕ
-san_in symbol = spelled (without_pawn (without_passing (without_tail (lettered symbol))))
+san_in symbol = plain_spelling (without_pawn (without_passing (without_tail (with_letters symbol))))

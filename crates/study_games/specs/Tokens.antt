@@ -30,15 +30,15 @@ behind p text = drop (prefix_len p text) text
 -- ---- comments
 
 -- up to the first `}`; braces are not counted
-abbrev pub closed : List ℕ → List ℕ → Lexed
-closed text [] = Err OpenComment
-closed text (b ∷ bs) = Ok (comment text, bs)
+abbrev pub lexed_comment : List ℕ → List ℕ → Lexed
+lexed_comment text [] = Err OpenComment
+lexed_comment text (b ∷ bs) = Ok (comment text, bs)
 
 abbrev pub is_inside : ℕ → Bool
 is_inside b = not (is_brace_end b)
 
 unfoldable pub comment_at : List ℕ → Lexed
-comment_at text = closed (front is_inside text) (behind is_inside text)
+comment_at text = lexed_comment (front is_inside text) (behind is_inside text)
 
 -- the rest of the line, without its line feed
 abbrev pub is_in_line : ℕ → Bool
@@ -71,24 +71,24 @@ without_first (b ∷ bs) = bs
 unfoldable pub behind_value : List ℕ → List ℕ
 behind_value text = without_first (behind is_gap (without_first text))
 
-abbrev pub valued : List ℕ → List ℕ → Option ℕ → Lexed
-valued name text None = Err OpenString
-valued name text (Some n) = Ok (tag name (take n text), behind_value (drop n text))
+abbrev pub lexed_value : List ℕ → List ℕ → Option ℕ → Lexed
+lexed_value name text None = Err OpenString
+lexed_value name text (Some n) = Ok (tag name (take n text), behind_value (drop n text))
 
 -- after the name: gaps and the quotation mark
-abbrev pub quoted : List ℕ → List ℕ → Lexed
-quoted name [] = Err TagForm
-quoted name (b ∷ bs) = if b == 34 then valued name bs (value_end 0 false bs) else Err TagForm
+abbrev pub lexed_quotation : List ℕ → List ℕ → Lexed
+lexed_quotation name [] = Err TagForm
+lexed_quotation name (b ∷ bs) = if b == 34 then lexed_value name bs (value_end 0 false bs) else Err TagForm
 
 -- the name: a letter, and letters, digits and `_`
-abbrev pub named : List ℕ → Lexed
-named [] = Err TagForm
-named (b ∷ bs) =
-    if is_letter b then quoted (front is_name_byte (b ∷ bs)) (behind is_gap (behind is_name_byte (b ∷ bs))) else Err TagForm
+abbrev pub lexed_name : List ℕ → Lexed
+lexed_name [] = Err TagForm
+lexed_name (b ∷ bs) =
+    if is_letter b then lexed_quotation (front is_name_byte (b ∷ bs)) (behind is_gap (behind is_name_byte (b ∷ bs))) else Err TagForm
 
 -- after `[`
 unfoldable pub tag_at : List ℕ → Lexed
-tag_at text = named (behind is_gap text)
+tag_at text = lexed_name (behind is_gap text)
 
 -- ---- signs and symbols
 
@@ -125,8 +125,8 @@ ink_at (b ∷ bs) =
 -- ---- the whole
 
 -- the token that begins with b; fresh: b is the first byte of its line
-unfoldable pub lexed : Bool → ℕ → List ℕ → Lexed
-lexed fresh b bs =
+unfoldable pub lexed_token : Bool → ℕ → List ℕ → Lexed
+lexed_token fresh b bs =
     if fresh && b == 37 then Ok (blank, behind is_in_line bs)
     else (if is_blank b || b == 46 then Ok (blank, bs)
     else (if b == 123 then comment_at bs
@@ -142,7 +142,7 @@ lexed fresh b bs =
 -- a text that is not empty
 abbrev pub token_at : Bool → List ℕ → Option Lexed
 token_at fresh [] = None
-token_at fresh (b ∷ bs) = Some (lexed fresh b bs)
+token_at fresh (b ∷ bs) = Some (lexed_token fresh b bs)
 
 -- the text begins with a line feed, so that the rest begins a line
 abbrev pub begins_feed : List ℕ → Bool

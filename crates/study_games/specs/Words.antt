@@ -24,5 +24,5 @@ abbrev pub without_spaces : List ℕ → List ℕ
 without_spaces text = behind is_space text
 
 -- without the spaces at both ends
-abbrev pub trimmed : List ℕ → List ℕ
-trimmed text = without_end is_space (without_spaces text)
+abbrev pub trim : List ℕ → List ℕ
+trim text = without_end is_space (without_spaces text)

@@ -5,7 +5,7 @@ ghost use Rattle.study_games.specs.Ascii.{spelled_out, short_text};
 ghost use Rattle.study_games.specs.Words.{first_word};
 
 use crate::characters::{is_utf8, read_at};
-use crate::words::{next_word, shortened, trim_end, trim_start};
+use crate::words::{next_word, trim_end, trim_start, truncate};
 use std::alloc::{AllocError, Allocator};
 use study_text::Text;
 
@@ -153,5 +153,5 @@ pub fn spell_out<'a, A: Allocator>(alloc: &'a A, value: &[u8]) -> Result<Text<'a
 pub fn short_text(text: &[u8]) -> &[u8]
     ensures { result.now ≡ short_text text.now }
 {
-    trim_end(shortened(trim_start(text), LONGEST_TAG))
+    trim_end(truncate(trim_start(text), LONGEST_TAG))
 }

@@ -3,7 +3,7 @@ ghost use Rattle.std.specs.Prelude.{◌≡◌, true, false};
 ghost use Rattle.std.specs.List.{list_all};
 ghost use Rattle.std.specs.Option.{option_map};
 ghost use Rattle.study_games.specs.Bytes.{is_blank};
-ghost use Rattle.study_games.specs.Games.{without_mark, unmarked, begins_value, name_of, bracketed, tag_name, is_remark, kind_of, begins_game, seen_then};
+ghost use Rattle.study_games.specs.Games.{without_mark, without_byte_order_mark, begins_value, name_of, name_in_brackets, tag_name, is_remark, kind_of, begins_game, seen_then};
 
 use crate::bytes::{is_blank, is_letter};
 use crate::runs::{Run, cut_run};
@@ -36,8 +36,8 @@ fn without_mark(text: &[u8]) -> &[u8]
 }
 
 /// The line with this number, without a byte order mark in front if it is the first.
-pub fn unmarked(number: u32, line: &[u8]) -> &[u8]
-    ensures { result.now ≡ unmarked number line.now }
+pub fn without_byte_order_mark(number: u32, line: &[u8]) -> &[u8]
+    ensures { result.now ≡ without_byte_order_mark number line.now }
 {
     if number == 1 {
         without_mark(line)
@@ -69,8 +69,8 @@ fn name_of(text: &[u8]) -> Option<&[u8]>
     }
 }
 
-fn bracketed(text: &[u8]) -> Option<&[u8]>
-    ensures { option_map (λ name. name.now) result ≡ bracketed text.now }
+fn name_in_brackets(text: &[u8]) -> Option<&[u8]>
+    ensures { option_map (λ name. name.now) result ≡ name_in_brackets text.now }
 {
     match text {
         [b'[', rest @ ..] => {
@@ -87,7 +87,7 @@ fn tag_name(line: &[u8]) -> Option<&[u8]>
     ensures { option_map (λ name. name.now) result ≡ tag_name line.now }
 {
     let (_, behind) = cut_run(Run::Gap, line);
-    bracketed(behind)
+    name_in_brackets(behind)
 }
 
 fn is_remark(line: &[u8]) -> bool

@@ -27,11 +27,11 @@ pub struct Gathering<'a, A: Allocator> {
 }
 
 impl<'a, A: Allocator> Model for Gathering<'a, A> {
-    ghost use Rattle.study_games.specs.Games.{Gathered, gathered};
+    ghost use Rattle.study_games.specs.Games.{Gathered, gathered_game};
 
     ghost Value = { Gathered };
 
-    ghost view = { λ g. gathered g.next g.has_begun g.first g.is_too_large g.text g.seen };
+    ghost view = { λ g. gathered_game g.next g.has_begun g.first g.is_too_large g.text g.seen };
 }
 
 /// The number of a game's first line, and its bytes; `None` if they are too many.

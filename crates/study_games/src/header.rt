@@ -1,7 +1,7 @@
 //! The header of a game: its tags.
 ghost use Rattle.std.specs.Prelude.{◌≡◌, Some, None, Ok, Err, length, IfOk};
 ghost use Rattle.std.specs.Option.{option_map};
-ghost use Rattle.study_games.specs.Header.{step_seen, step_at, tags_of, header_fault, value_of, unescaped_at, unescaped};
+ghost use Rattle.study_games.specs.Header.{step_seen, step_at, tags_of, header_fault, value_of, unescaped_at, unescape};
 
 use crate::token::{Token, TokenFault, begins_feed, read_token};
 use std::alloc::{AllocError, Allocator};
@@ -126,7 +126,7 @@ fn read_unescaped(text: &[u8]) -> Option<(u8, &[u8])>
 
 /// The text of a tag's value, without the backslashes that escape.
 pub fn unescape<'a, A: Allocator>(alloc: &'a A, value: &[u8]) -> Result<Text<'a, A>, AllocError>
-    ensures { IfOk result (λ text. text ≡ unescaped value.now) }
+    ensures { IfOk result (λ text. text ≡ unescape value.now) }
 {
     let mut out = Text::new(alloc);
     let mut rest = value;

@@ -21,7 +21,7 @@ mod words;
 
 pub use ascii::{LONGEST_TAG, short_text, spell_out};
 pub use characters::is_utf8;
-pub use games::{LineKind, Seen, begins_game, kind_of, seen_then, unmarked};
+pub use games::{LineKind, Seen, begins_game, kind_of, seen_then, without_byte_order_mark};
 pub use gathering::{Game, Gathering, LARGEST_GAME, LONGEST_LINE};
 pub use header::{HeaderFault, count_tags, header_fault, tag_value, unescape};
 pub use laws::games_are_isolated;
@@ -30,4 +30,4 @@ pub use runs::{Run, cut_run};
 pub use spelling::{LONGEST_SYMBOL, san_in};
 pub use symbols::{Outcome, Said, say};
 pub use token::{Cut, Token, TokenFault, begins_ellipsis, begins_feed, read_token};
-pub use words::{next_word, shortened, trim_end, trim_start};
+pub use words::{next_word, trim_end, trim_start, truncate};

@@ -1,7 +1,7 @@
 //! The SAN of a symbol for a move.
 ghost use Rattle.std.specs.Prelude.{◌≡◌, ◌≤◌, length, take};
-ghost use Rattle.study_games.specs.Symbols.{lettered, without_tail, without_passing, without_pawn};
-ghost use Rattle.study_games.specs.Symbols.{begins_castling, plain_byte, spelled, san_in};
+ghost use Rattle.study_games.specs.Symbols.{with_letters, without_tail, without_passing, without_pawn};
+ghost use Rattle.study_games.specs.Symbols.{begins_castling, plain_byte, plain_spelling, san_in};
 
 use crate::bytes::is_tail;
 use crate::letters::read_letter;
@@ -11,9 +11,9 @@ use arrayvec::ArrayVec;
 pub const LONGEST_SYMBOL: usize = 32;
 
 /// Letters in place of figurines, and `-` for dashes.
-fn lettered(symbol: &[u8]) -> ArrayVec<u8, 32>
+fn with_letters(symbol: &[u8]) -> ArrayVec<u8, 32>
     requires { length symbol.now ≤ 32 }
-    ensures { result.items ≡ lettered symbol.now }
+    ensures { result.items ≡ with_letters symbol.now }
 {
     let mut out = ArrayVec::new();
     let mut rest = symbol;
@@ -85,9 +85,9 @@ fn plain_byte(b: u8) -> u8
 }
 
 /// The text with `x` and `=` for its other signs, and without the dashes of long notation.
-fn spelled(text: &[u8]) -> ArrayVec<u8, 32>
+fn plain_spelling(text: &[u8]) -> ArrayVec<u8, 32>
     requires { length text.now ≤ 32 }
-    ensures { result.items ≡ spelled text.now }
+    ensures { result.items ≡ plain_spelling text.now }
 {
     let castling = begins_castling(text);
     let mut out = ArrayVec::new();
@@ -107,8 +107,8 @@ pub fn san_in(symbol: &[u8]) -> ArrayVec<u8, 32>
     requires { length symbol.now ≤ 32 }
     ensures { result.items ≡ san_in symbol.now }
 {
-    let letters = lettered(symbol);
+    let letters = with_letters(symbol);
     let text = letters.as_slice();
     let (front, _) = text.split_at(len_without_tail(text));
-    spelled(strip_pawn(strip_passing(front)))
+    plain_spelling(strip_pawn(strip_passing(front)))
 }

@@ -3,8 +3,8 @@ ghost use Rattle.std.specs.Prelude.{◌≡◌, ◌≤◌, ◌∷◌, Some, Ok, f
 ghost use Rattle.std.specs.Option.{option_map};
 ghost use Rattle.std.specs.List.{prefix_len};
 ghost use Rattle.study_games.specs.Bytes.{is_digit, is_tail, is_glyph};
-ghost use Rattle.study_games.specs.Tokens.{is_in_line, ends_tag, value_end, behind_value, comment_at, tag_at, lexed, token_seen, lexed_seen};
-ghost use Rattle.study_games.specs.Tokens.{valued, quoted, named, run_of, begins_ellipsis, behind_ellipsis, begins_number, symbol_at, ink_at};
+ghost use Rattle.study_games.specs.Tokens.{is_in_line, ends_tag, value_end, behind_value, comment_at, tag_at, lexed_token, token_seen, lexed_seen};
+ghost use Rattle.study_games.specs.Tokens.{lexed_value, lexed_quotation, lexed_name, run_of, begins_ellipsis, behind_ellipsis, begins_number, symbol_at, ink_at};
 ghost use Rattle.study_games.specs.Tokens.{token_at, begins_feed, blank, aside, sign, rest};
 
 use crate::bytes::{begins_symbol, is_blank, is_digit, is_glyph, is_letter, is_sign};
@@ -50,7 +50,7 @@ pub enum TokenFault {
     Byte,
 }
 
-fn found<'t>(token: Token<'t>, rest: &'t [u8]) -> Result<Cut<'t>, TokenFault>
+fn cut_of<'t>(token: Token<'t>, rest: &'t [u8]) -> Result<Cut<'t>, TokenFault>
     ensures { lexed_seen result ≡ Ok (token_seen token.entry, rest.now) }
 {
     Ok(Cut { token, rest })
@@ -108,19 +108,19 @@ fn behind_value(text: &[u8]) -> &[u8]
 
 /// The value of a tag, and the rest after the tag.
 fn read_value<'t>(name: &'t [u8], text: &'t [u8]) -> Result<Cut<'t>, TokenFault>
-    ensures { lexed_seen result ≡ valued name.now text.now (value_end 0 false text.now) }
+    ensures { lexed_seen result ≡ lexed_value name.now text.now (value_end 0 false text.now) }
 {
     match value_len(text) {
         None => Err(TokenFault::OpenString),
         Some(n) => {
             let (value, behind) = text.split_at(n);
-            found(Token::Tag(name, value), behind_value(behind))
+            cut_of(Token::Tag(name, value), behind_value(behind))
         }
     }
 }
 
 fn read_quoted<'t>(name: &'t [u8], text: &'t [u8]) -> Result<Cut<'t>, TokenFault>
-    ensures { lexed_seen result ≡ quoted name.now text.now }
+    ensures { lexed_seen result ≡ lexed_quotation name.now text.now }
 {
     match text {
         [b'"', rest @ ..] => read_value(name, rest),
@@ -130,7 +130,7 @@ fn read_quoted<'t>(name: &'t [u8], text: &'t [u8]) -> Result<Cut<'t>, TokenFault
 
 /// A tag, from its name on.
 fn read_named(text: &[u8]) -> Result<Cut<'_>, TokenFault>
-    ensures { lexed_seen result ≡ named text.now }
+    ensures { lexed_seen result ≡ lexed_name text.now }
 {
     match text {
         [first, ..] if is_letter(*first) => {
@@ -158,7 +158,7 @@ fn read_comment(text: &[u8]) -> Result<Cut<'_>, TokenFault>
 {
     let (inside, behind) = cut_run(Run::Comment, text);
     match behind {
-        [_, rest @ ..] => found(Token::Comment(inside), rest),
+        [_, rest @ ..] => cut_of(Token::Comment(inside), rest),
         [] => Err(TokenFault::OpenComment),
     }
 }
@@ -174,14 +174,14 @@ fn read_rest(text: &[u8]) -> Result<Cut<'_>, TokenFault>
     ensures { lexed_seen result ≡ run_of rest is_in_line text.now }
 {
     let (line, behind) = cut_run(Run::Line, text);
-    found(Token::Rest(line), behind)
+    cut_of(Token::Rest(line), behind)
 }
 
 fn read_sign(text: &[u8]) -> Result<Cut<'_>, TokenFault>
     ensures { lexed_seen result ≡ run_of sign is_tail text.now }
 {
     let (signs, behind) = cut_run(Run::Signs, text);
-    found(Token::Sign(signs), behind)
+    cut_of(Token::Sign(signs), behind)
 }
 
 /// Whether the text begins with `…`, the three dots as one character in UTF-8.
@@ -198,8 +198,8 @@ fn read_ellipsis(text: &[u8]) -> Result<Cut<'_>, TokenFault>
     ensures { lexed_seen result ≡ Ok (blank, behind_ellipsis text.now) }
 {
     match text {
-        [_, _, _, rest @ ..] => found(Token::Blank, rest),
-        _ => found(Token::Blank, b""),
+        [_, _, _, rest @ ..] => cut_of(Token::Blank, rest),
+        _ => cut_of(Token::Blank, b""),
     }
 }
 
@@ -222,24 +222,24 @@ fn read_symbol(text: &[u8]) -> Result<Cut<'_>, TokenFault>
 {
     if begins_number(text) {
         let (digits, behind) = cut_run(Run::Digits, text);
-        return found(Token::Symbol(digits), behind);
+        return cut_of(Token::Symbol(digits), behind);
     }
     let (bytes, behind) = cut_run(Run::Symbol, text);
-    found(Token::Symbol(bytes), behind)
+    cut_of(Token::Symbol(bytes), behind)
 }
 
 fn read_nag(text: &[u8]) -> Result<Cut<'_>, TokenFault>
     ensures { lexed_seen result ≡ Ok (aside, drop (prefix_len is_digit text.now) text.now) }
 {
     let (_, behind) = cut_run(Run::Digits, text);
-    found(Token::Aside, behind)
+    cut_of(Token::Aside, behind)
 }
 
 fn read_glyphs(text: &[u8]) -> Result<Cut<'_>, TokenFault>
     ensures { lexed_seen result ≡ Ok (aside, drop (prefix_len is_glyph text.now) text.now) }
 {
     let (_, behind) = cut_run(Run::Glyphs, text);
-    found(Token::Aside, behind)
+    cut_of(Token::Aside, behind)
 }
 
 /// Signs, a symbol, or `…`.
@@ -265,7 +265,7 @@ pub fn read_token(text: &[u8], fresh: bool) -> Option<Result<Cut<'_>, TokenFault
 }
 
 /// The token that begins with the byte, before the rest.
-#[tactic(auto, unfolding(crate::specs::Tokens::lexed))]
+#[tactic(auto, unfolding(crate::specs::Tokens::lexed_token))]
 fn read_begun<'t>(
     text: &'t [u8],
     first: u8,
@@ -273,12 +273,12 @@ fn read_begun<'t>(
     fresh: bool,
 ) -> Result<Cut<'t>, TokenFault>
     requires { text.now ≡ first ∷ rest.now }
-    ensures { lexed_seen result ≡ lexed fresh first rest.now }
+    ensures { lexed_seen result ≡ lexed_token fresh first rest.now }
 {
     if fresh && first == b'%' {
-        found(Token::Blank, without_line(rest))
+        cut_of(Token::Blank, without_line(rest))
     } else if is_blank(first) || first == b'.' {
-        found(Token::Blank, rest)
+        cut_of(Token::Blank, rest)
     } else if first == b'{' {
         read_comment(rest)
     } else if first == b';' {
@@ -286,11 +286,11 @@ fn read_begun<'t>(
     } else if first == b'[' {
         read_tag(rest)
     } else if first == b'(' {
-        found(Token::Open, rest)
+        cut_of(Token::Open, rest)
     } else if first == b')' {
-        found(Token::Close, rest)
+        cut_of(Token::Close, rest)
     } else if first == b'*' {
-        found(Token::Star, rest)
+        cut_of(Token::Star, rest)
     } else if first == b'$' {
         read_nag(rest)
     } else if is_glyph(first) {

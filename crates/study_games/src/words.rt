@@ -54,7 +54,7 @@ pub fn trim_start(text: &[u8]) -> &[u8]
 }
 
 /// At most so many bytes of the text, from its front.
-pub fn shortened(text: &[u8], most: usize) -> &[u8]
+pub fn truncate(text: &[u8], most: usize) -> &[u8]
     ensures { result.now ≡ take most text.now }
 {
     if text.len() <= most {

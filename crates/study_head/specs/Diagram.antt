@@ -13,22 +13,22 @@ use Rattle.study_board.specs.Position.{Position}
 use Rattle.study_pgn.specs.Values.{side_name}
 use Rattle.study_html.specs.declared.element.Element.TheVariants as element
 use Rattle.study_html.specs.declared.drawing.Drawing.TheVariants.{Squares, Coordinates}
-use Rattle.study_html.specs.Escape.{said}
-use Rattle.study_html.specs.Elements.{inside}
-use Rattle.study_html.specs.Drawings.{standing, drawn}
+use Rattle.study_html.specs.Escape.{escaped_text}
+use Rattle.study_html.specs.Elements.{element_text}
+use Rattle.study_html.specs.Drawings.{man_drawing, drawing_text}
 
 -- ` Kb6`
 abbrev pub man_words : Man → List ℕ
 man_words m = 32 ∷ letter m.kind ∷ (97 + file_of m.at) ∷ (49 + rank_of m.at) ∷ []
 
-abbrev pub listed : Side → Kind → Man → List ℕ
-listed side kind m = if is_man side kind m then man_words m else []
+abbrev pub listed_man : Side → Kind → Man → List ℕ
+listed_man side kind m = if is_man side kind m then man_words m else []
 
 -- ` Kb6 Pc6`: the men of a side, from the king to the pawns
 unfoldable pub control : Side → List Man → List ℕ
 control side men =
-    flat_map (listed side King) men ++ (flat_map (listed side Queen) men ++ (flat_map (listed side Rook) men
-    ++ (flat_map (listed side Bishop) men ++ (flat_map (listed side Knight) men ++ flat_map (listed side Pawn) men))))
+    flat_map (listed_man side King) men ++ (flat_map (listed_man side Queen) men ++ (flat_map (listed_man side Rook) men
+    ++ (flat_map (listed_man side Bishop) men ++ (flat_map (listed_man side Knight) men ++ flat_map (listed_man side Pawn) men))))
 
 -- `White Kb6 Pc6; Black Ka1 Rd5; White to move`
 unfoldable pub heard_words : Position → List ℕ
@@ -39,8 +39,9 @@ heard_words p =
 -- the position in words, the empty board, and on it each man of the position, once, on its square
 unfoldable pub board : Position → List ℕ
 board p =
-    inside element.Board (inside element.Said (said (heard_words p)) ++ (drawn Squares ++ (drawn Coordinates ++ flat_map standing p.men)))
+    element_text element.Board (element_text element.Said (escaped_text (heard_words p))
+    ++ (drawing_text Squares ++ (drawing_text Coordinates ++ flat_map man_drawing p.men)))
 
 -- the same, small and without coordinates
 unfoldable pub mini : Position → List ℕ
-mini p = inside element.Mini (inside element.Said (said (heard_words p)) ++ (drawn Squares ++ flat_map standing p.men))
+mini p = element_text element.Mini (element_text element.Said (escaped_text (heard_words p)) ++ (drawing_text Squares ++ flat_map man_drawing p.men))

@@ -11,11 +11,11 @@ use Rattle.study_marks.specs.Study.{tag_of}
 use Rattle.study_pgn.specs.Pgn.{stipulation_text}
 use Rattle.study_html.specs.declared.element.Element.TheVariants.{Header, Title, Byline, Figure, Caption, Strong, Count, Code}
 use Rattle.study_html.specs.declared.drawing.Drawing.TheVariants.{Break, Dot}
-use Rattle.study_html.specs.Escape.{said}
-use Rattle.study_html.specs.Elements.{inside}
-use Rattle.study_html.specs.Drawings.{drawn}
+use Rattle.study_html.specs.Escape.{escaped_text}
+use Rattle.study_html.specs.Elements.{element_text}
+use Rattle.study_html.specs.Drawings.{drawing_text}
 use Rattle.study_head.specs.Diagram.{board, control}
-use Rattle.study_head.specs.Known.{known, date_words}
+use Rattle.study_head.specs.Known.{known_words, date_words}
 use Rattle.study_head.specs.Counts.{counts_words}
 
 -- the title is the tag Event, if it is known
@@ -24,11 +24,11 @@ title_words event = if length event == 0 then codes "Untitled" else event
 
 -- a dot after what is there
 abbrev pub behind : List ℕ → List ℕ
-behind line = if length line == 0 then line else line ++ drawn Dot
+behind line = if length line == 0 then line else line ++ drawing_text Dot
 
 -- what is known, after what is known before it
 abbrev pub byline_item : List ℕ → List ℕ → List ℕ
-byline_item words line = if length words == 0 then line else behind line ++ said words
+byline_item words line = if length words == 0 then line else behind line ++ escaped_text words
 
 -- `entry 5`
 abbrev pub round_words : List ℕ → List ℕ
@@ -37,11 +37,11 @@ round_words round = if length round == 0 then [] else codes "entry " ++ round
 -- author, place, date and entry, those that are known
 abbrev pub byline : List (Option (List ℕ)) → List ℕ
 byline tags =
-    byline_item (round_words (known (tag_of tags Round))) (byline_item (date_words (known (tag_of tags Date)))
-    (byline_item (known (tag_of tags Site)) (byline_item (known (tag_of tags White)) [])))
+    byline_item (round_words (known_words (tag_of tags Round))) (byline_item (date_words (known_words (tag_of tags Date)))
+    (byline_item (known_words (tag_of tags Site)) (byline_item (known_words (tag_of tags White)) [])))
 
 unfoldable pub head : List (Option (List ℕ)) → List ℕ
-head tags = inside Header (inside Title (said (title_words (known (tag_of tags Event)))) ++ inside Byline (byline tags))
+head tags = element_text Header (element_text Title (escaped_text (title_words (known_words (tag_of tags Event)))) ++ element_text Byline (byline tags))
 
 abbrev pub moves_first : Side → List ℕ
 moves_first side.White = []
@@ -54,10 +54,10 @@ men_words men = control side.White men ++ (codes " /" ++ control side.Black men)
 -- the stipulation, the counts of men, the men of both sides, and the FEN
 unfoldable pub caption : Stipulation → Start → List ℕ
 caption stipulation start =
-    inside Caption (inside Strong (said (stipulation_text stipulation)) ++ (said (moves_first start.position.to_move)
-    ++ (inside Count (said (counts_words start.position.men)) ++ (drawn Break ++ (said (men_words start.position.men)
-    ++ (drawn Break ++ inside Code (said (fen_text start))))))))
+    element_text Caption (element_text Strong (escaped_text (stipulation_text stipulation)) ++ (escaped_text (moves_first start.position.to_move)
+    ++ (element_text Count (escaped_text (counts_words start.position.men)) ++ (drawing_text Break ++ (escaped_text (men_words start.position.men)
+    ++ (drawing_text Break ++ element_text Code (escaped_text (fen_text start))))))))
 
 -- the diagram of the start, with what is below it
 unfoldable pub figure : Stipulation → Start → List ℕ
-figure stipulation start = inside Figure (board start.position ++ caption stipulation start)
+figure stipulation start = element_text Figure (board start.position ++ caption stipulation start)

@@ -8,9 +8,9 @@ abbrev pub says_nothing : ℕ → Bool
 says_nothing b = (b == 63) || (b == 46)
 
 -- what a tag says; where it is not known PGN has `?`, and `????.??.??` for a date
-abbrev pub known : Option (List ℕ) → List ℕ
-known None = []
-known (Some words) = if list_all says_nothing words then [] else words
+abbrev pub known_words : Option (List ℕ) → List ℕ
+known_words None = []
+known_words (Some words) = if list_all says_nothing words then [] else words
 
 -- a date without its last part, if that is not known
 unfoldable pub without_part : List ℕ → List ℕ

@@ -87,10 +87,10 @@ judgement_of s time = record {
 }
 
 -- no verdict is given on a study of which a line was refused, and it is not said of it that it has no solution
-abbrev pub stamped : Judgement → Option ℕ → Judgement
-stamped j None = j
-stamped j (Some line) = record { stamp = NotRead line; empty = false; first = j.first; value = j.value }
+abbrev pub with_unread_line : Judgement → Option ℕ → Judgement
+with_unread_line j None = j
+with_unread_line j (Some line) = record { stamp = NotRead line; empty = false; first = j.first; value = j.value }
 
 -- the same of an entry, of which this line was refused, if one was
 abbrev pub entry_judgement : Study Mark → ℕ → Option ℕ → Judgement
-entry_judgement s time unread = stamped (judgement_of s time) unread
+entry_judgement s time unread = with_unread_line (judgement_of s time) unread

@@ -2,8 +2,8 @@
 ghost use Rattle.std.specs.Prelude.{◌≡◌, ◌+◌, ◌++◌, OnOk};
 ghost use Rattle.std.specs.List.{flat_map};
 ghost use Rattle.study_board.specs.Letters.{letter};
-ghost use Rattle.study_html.specs.Drawings.{standing};
-ghost use Rattle.study_head.specs.Diagram.{man_words, listed, control, heard_words, board, mini};
+ghost use Rattle.study_html.specs.Drawings.{man_drawing};
+ghost use Rattle.study_head.specs.Diagram.{man_words, listed_man, control, heard_words, board, mini};
 
 use std::alloc::{AllocError, Allocator};
 use study_board::{Kind, Man, Position, Side};
@@ -40,7 +40,7 @@ fn add_listed<A: Allocator>(
     kind: Kind,
     man: &Man,
 ) -> Result<(), AllocError>
-    ensures { OnOk result (text.new ≡ text.old ++ listed side kind man.now) }
+    ensures { OnOk result (text.new ≡ text.old ++ listed_man side kind man.now) }
 {
     if man.is(side, kind) {
         return add_man_words(text, man);
@@ -55,7 +55,7 @@ fn add_kind<A: Allocator>(
     kind: Kind,
     men: &[Man],
 ) -> Result<(), AllocError>
-    ensures { OnOk result (text.new ≡ text.old ++ flat_map (listed side kind) men.now) }
+    ensures { OnOk result (text.new ≡ text.old ++ flat_map (listed_man side kind) men.now) }
 {
     for man in men {
         add_listed(text, side, kind, man)?;
@@ -96,7 +96,7 @@ fn add_spoken_position<A: Allocator>(text: &mut Text<'_, A>, p: &Position) -> Re
 
 /// Each man on its square.
 fn draw_men<A: Allocator>(html: &mut Html<'_, A>, men: &[Man]) -> Result<(), AllocError>
-    ensures { OnOk result (html.new ≡ html.old ++ flat_map standing men.now) }
+    ensures { OnOk result (html.new ≡ html.old ++ flat_map man_drawing men.now) }
 {
     for man in men {
         html.draw(&Drawing::Standing(*man))?;

@@ -1,16 +1,16 @@
 //! The head of a page, and the diagram with what is below it.
 ghost use Rattle.std.specs.Prelude.{◌≡◌, ◌++◌, OnOk};
-ghost use Rattle.study_marks.specs.BenchState.{marked};
+ghost use Rattle.study_marks.specs.BenchState.{marked_study};
 ghost use Rattle.study_marks.specs.Study.{tag_of};
 ghost use Rattle.study_marks.specs.declared.tag.TagName.TheVariants as tag;
-ghost use Rattle.study_html.specs.Elements.{inside};
-ghost use Rattle.study_html.specs.Escape.{said};
-ghost use Rattle.study_head.specs.Known.{known, date_words};
+ghost use Rattle.study_html.specs.Elements.{element_text};
+ghost use Rattle.study_html.specs.Escape.{escaped_text};
+ghost use Rattle.study_head.specs.Known.{known_words, date_words};
 ghost use Rattle.study_head.specs.Head.{title_words, behind, byline_item, round_words, byline, head, moves_first, men_words, caption, figure};
 
 use crate::diagram::{add_control, draw_board};
 use crate::gbr_code::add_counts;
-use crate::known::{date_words, known_tag};
+use crate::known_tags::{date_words, known_tag};
 use std::alloc::{AllocError, Allocator};
 use study_board::{Man, Side};
 use study_html::{Drawing, Element, Html, put_words};
@@ -26,8 +26,8 @@ fn put_title<'a, 'b, A: Allocator, B: Allocator>(
     bench: &Bench<'b, B>,
 ) -> Result<(), AllocError>
     ensures { OnOk result (html.new ≡ html.old
-        ++ inside Element.Title
-        (said (title_words (known (tag_of (marked bench.now).tags tag.Event))))) }
+        ++ element_text Element.Title
+        (escaped_text (title_words (known_words (tag_of (marked_study bench.now).tags tag.Event))))) }
 {
     put_words(
         alloc,
@@ -83,7 +83,7 @@ pub fn put_head<'a, 'b, A: Allocator, B: Allocator>(
     html: &mut Html<'_, A>,
     bench: &Bench<'b, B>,
 ) -> Result<(), AllocError>
-    ensures { OnOk result (html.new ≡ html.old ++ head (marked bench.now).tags) }
+    ensures { OnOk result (html.new ≡ html.old ++ head (marked_study bench.now).tags) }
 {
     let mut within = Html::new(alloc);
     let mut byline = Html::new(alloc);
@@ -126,7 +126,7 @@ fn put_caption<'a, 'b, A: Allocator, B: Allocator>(
     bench: &Bench<'b, B>,
 ) -> Result<(), AllocError>
     ensures { OnOk result (html.new ≡ html.old
-        ++ caption (marked bench.now).stipulation (marked bench.now).start) }
+        ++ caption (marked_study bench.now).stipulation (marked_study bench.now).start) }
 {
     let start = bench.start();
     let fen = write_fen(start);
@@ -155,7 +155,7 @@ pub fn put_figure<'a, 'b, A: Allocator, B: Allocator>(
     bench: &Bench<'b, B>,
 ) -> Result<(), AllocError>
     ensures { OnOk result (html.new ≡ html.old
-        ++ figure (marked bench.now).stipulation (marked bench.now).start) }
+        ++ figure (marked_study bench.now).stipulation (marked_study bench.now).start) }
 {
     let start = bench.start();
     let mut within = Html::new(alloc);

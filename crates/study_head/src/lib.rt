@@ -4,14 +4,14 @@
 mod diagram;
 mod gbr_code;
 mod head;
-mod known;
+mod known_tags;
 mod verdict;
 mod words;
 
 pub use diagram::{draw_board, draw_mini};
 pub use gbr_code::add_counts;
 pub use head::{moves_first, put_figure, put_head, title_words};
-pub use known::known_tag;
+pub use known_tags::known_tag;
 pub use verdict::{
     Judgement, Stamp, add_sentence, add_stamp_words, add_start_value, add_verdict_words,
     entry_judgement, judgement_of,

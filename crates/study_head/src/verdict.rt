@@ -1,6 +1,6 @@
 //! The words of a verdict.
 ghost use Rattle.std.specs.Prelude.{◌≡◌, ◌++◌, OnOk};
-ghost use Rattle.study_marks.specs.BenchState.{marked};
+ghost use Rattle.study_marks.specs.BenchState.{marked_study};
 ghost use Rattle.study_marks.specs.Verdict.{verdict};
 ghost use Rattle.study_marks.specs.Study.{Study};
 ghost use Rattle.study_marks.specs.declared.mark.Mark.{Mark as AMark};
@@ -212,8 +212,8 @@ pub fn add_verdict_words<A: Allocator>(
 }
 
 fn stamp_in<'b, B: Allocator>(bench: &Bench<'b, B>, root: &Mark, empty: bool, time: u32) -> Stamp
-    requires { root.now ≡ (marked bench.now).tree.label }
-    ensures { result ≡ stamp_of (verdict (marked bench.now)) empty time }
+    requires { root.now ≡ (marked_study bench.now).tree.label }
+    ensures { result ≡ stamp_of (verdict (marked_study bench.now)) empty time }
 {
     stamp_of(
         &bench.stipulation(),
@@ -225,8 +225,8 @@ fn stamp_in<'b, B: Allocator>(bench: &Bench<'b, B>, root: &Mark, empty: bool, ti
 }
 
 fn judgement_at<'b, B: Allocator>(bench: &Bench<'b, B>, root: &Mark, time: u32) -> Judgement
-    requires { root.now ≡ (marked bench.now).tree.label }
-    ensures { result ≡ judgement_of (marked bench.now) time }
+    requires { root.now ≡ (marked_study bench.now).tree.label }
+    ensures { result ≡ judgement_of (marked_study bench.now) time }
 {
     let first = bench.start().position.to_move();
     let empty = is_empty(bench);
@@ -240,7 +240,7 @@ fn judgement_at<'b, B: Allocator>(bench: &Bench<'b, B>, root: &Mark, time: u32) 
 
 /// What a judge reads of the study, of whose faults so many lose time alone.
 pub fn judgement_of<'b, B: Allocator>(bench: &Bench<'b, B>, time: u32) -> Judgement
-    ensures { result ≡ judgement_of (marked bench.now) time }
+    ensures { result ≡ judgement_of (marked_study bench.now) time }
 {
     judgement_at(bench, &root_mark(bench), time)
 }
@@ -252,7 +252,7 @@ pub fn entry_judgement<'b, B: Allocator>(
     time: u32,
     unread: Option<u32>,
 ) -> Judgement
-    ensures { result ≡ entry_judgement (marked bench.now) time unread }
+    ensures { result ≡ entry_judgement (marked_study bench.now) time unread }
 {
     let judgement = judgement_of(bench, time);
     match unread {

@@ -4,7 +4,7 @@ use Rattle.std.specs.Prelude.{codes, nat_lt}
 use Rattle.std.proofs.Common.{eqb}
 use Rattle.std.proofs.lemmas.Bool.{cases_Bool, eqb-false, ltb-true, ltb-false}
 use Rattle.std.specs.List.{flat_map}
-use Rattle.study_html.specs.Escape.{entity, said, shown, hex_digit, IsClean, IsPlainByte}
+use Rattle.study_html.specs.Escape.{entity, escaped_text, visible_byte, hex_digit, IsClean, IsPlainByte}
 
 -- a byte other than these
 other : (b : ℕ) (xs : List ℕ) → 32 ≤ b → b ≤ 126 → (b ≡ 60 → ⊥) → (b ≡ 62 → ⊥) → (b ≡ 34 → ⊥) → (b ≡ 39 → ⊥) → (b ≡ 38 → ⊥)
@@ -87,9 +87,9 @@ numbered b xs h =
     letter 92 _ (omega arith) (omega arith) (letter 120 _ (omega arith) (omega arith)
     (hex (b / 16 % 16) _ (omega arith) (hex (b % 16) xs (omega arith) h)))
 
-shown-clean : (b : ℕ) (xs : List ℕ) → (b ≡ 60 → ⊥) → (b ≡ 62 → ⊥) → (b ≡ 34 → ⊥) → (b ≡ 39 → ⊥) → (b ≡ 38 → ⊥)
-    → IsClean xs → IsClean (shown b ++ xs)
-shown-clean b xs lt gt quote mark amp h = elim (cases_Bool (nat_lt b 32)) [
+visible_byte-clean : (b : ℕ) (xs : List ℕ) → (b ≡ 60 → ⊥) → (b ≡ 62 → ⊥) → (b ≡ 34 → ⊥) → (b ≡ 39 → ⊥) → (b ≡ 38 → ⊥)
+    → IsClean xs → IsClean (visible_byte b ++ xs)
+visible_byte-clean b xs lt gt quote mark amp h = elim (cases_Bool (nat_lt b 32)) [
   | inl low ↦ rw low (numbered b xs h)
   | inr nlow ↦ elim (cases_Bool (nat_lt 126 b)) [
     | inl high ↦ rw (nlow, high) (numbered b xs h)
@@ -109,7 +109,7 @@ one b xs h = elim (cases_Bool (eqb b 38)) [
         | inr nq ↦ elim (cases_Bool (eqb b 39)) [
           | inl m ↦ rw (na, nl, ng, nq, m) (apostrophe xs h)
           | inr nm ↦ rw (na, nl, ng, nq, nm)
-              (shown-clean b xs (eqb-false _ _ nl) (eqb-false _ _ ng) (eqb-false _ _ nq) (eqb-false _ _ nm) (eqb-false _ _ na) h)
+              (visible_byte-clean b xs (eqb-false _ _ nl) (eqb-false _ _ ng) (eqb-false _ _ nq) (eqb-false _ _ nm) (eqb-false _ _ na) h)
         ]
       ]
     ]
@@ -120,6 +120,6 @@ clean-each : (text : List ℕ) → IsClean (flat_map entity text)
 clean-each [] = tt
 clean-each (b ∷ text) = one b (flat_map entity text) (clean-each text)
 
-pub clean : (text : List ℕ) → IsClean (said text)
-unfolding said
+pub clean : (text : List ℕ) → IsClean (escaped_text text)
+unfolding escaped_text
 clean text = clean-each text

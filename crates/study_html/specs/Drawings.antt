@@ -29,14 +29,14 @@ unfoldable pub size : List ℕ
 size = codes " width=\"4" ++ (codes "5\" height" ++ codes "=\"45\"")
 
 -- the man's shape, in the colour of its side, on its square
-unfoldable pub standing : Man → List ℕ
-standing m =
+unfoldable pub man_drawing : Man → List ℕ
+man_drawing m =
     codes "<use" ++ (colour m.side ++ (shape m.kind ++ (cell_of m.at ++ (size ++ codes "/>"))))
 
-abbrev pub drawn : Drawing → List ℕ
-drawn Break = codes "<br>"
-drawn Squares = codes "<use href=\"#board\"/>"
-drawn Coordinates = codes "<use href=\"#coordinates\"/>"
-drawn Dot = codes " &#183; "
-drawn Dash = codes "&#8211;"
-drawn (Standing m) = standing m
+abbrev pub drawing_text : Drawing → List ℕ
+drawing_text Break = codes "<br>"
+drawing_text Squares = codes "<use href=\"#board\"/>"
+drawing_text Coordinates = codes "<use href=\"#coordinates\"/>"
+drawing_text Dot = codes " &#183; "
+drawing_text Dash = codes "&#8211;"
+drawing_text (Standing m) = man_drawing m

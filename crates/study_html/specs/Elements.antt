@@ -58,71 +58,71 @@ name (element.Entry n) = codes "article"
 name (element.Link n) = codes "a"
 
 -- the attributes of an element without a number
-abbrev pub fixed : Element → List ℕ
-fixed element.Header = []
-fixed element.Title = []
-fixed element.Byline = codes " class=\"by\""
-fixed element.Top = codes " class=\"top\""
-fixed element.Figure = []
-fixed element.Caption = []
-fixed element.Strong = []
-fixed element.Count = codes " class=\"cnt\""
-fixed element.Code = []
-fixed element.Verdict = codes " class=\"verdict\""
-fixed element.Heading = []
-fixed element.Sound = codes " class=\"stamp sound\""
-fixed element.Unsound = codes " class=\"stamp unsound\""
-fixed element.Wrong = codes " class=\"stamp wrong\""
-fixed element.Paragraph = []
-fixed element.Warning = codes " class=\"warn\""
-fixed element.Note = codes " class=\"note\""
-fixed element.Part = []
-fixed element.Tree = codes " class=\"tree\""
-fixed element.Only = codes " class=\"m only\""
-fixed element.Dual = codes " class=\"m dual\""
-fixed element.Mistake = codes " class=\"m mistake\""
-fixed element.Idle = codes " class=\"m idle\""
-fixed element.Reply = codes " class=\"m reply\""
-fixed element.Sign = codes " class=\"s\""
-fixed element.Small = []
-fixed element.Below = []
-fixed element.List = []
-fixed element.Item = []
-fixed element.Faults = codes " class=\"faults\""
-fixed element.Cards = codes " class=\"cards\""
-fixed element.Card = codes " class=\"card\""
-fixed element.Beside = []
-fixed element.CardTitle = []
-fixed element.Label = codes " class=\"tag\""
-fixed element.Also = codes " class=\"also\""
-fixed element.Table = []
-fixed element.Heads = []
-fixed element.Rows = []
-fixed element.Row = []
-fixed element.Head = []
-fixed element.Cell = []
-fixed element.Whole = codes " class=\"nb\""
-fixed element.Group = []
-fixed element.Answer = []
-fixed element.Foot = []
-fixed element.Said = []
-fixed element.Summary = codes " class=\"sum\""
-fixed element.Board = codes " class=\"board\" role=\"img\" viewBox=\"-14 -3 377 380\""
-fixed element.Mini = codes " class=\"mini\" role=\"img\" viewBox=\"-3 -3 366 366\""
-fixed (element.Entry n) = []
-fixed (element.Link n) = []
+abbrev pub fixed_attributes : Element → List ℕ
+fixed_attributes element.Header = []
+fixed_attributes element.Title = []
+fixed_attributes element.Byline = codes " class=\"by\""
+fixed_attributes element.Top = codes " class=\"top\""
+fixed_attributes element.Figure = []
+fixed_attributes element.Caption = []
+fixed_attributes element.Strong = []
+fixed_attributes element.Count = codes " class=\"cnt\""
+fixed_attributes element.Code = []
+fixed_attributes element.Verdict = codes " class=\"verdict\""
+fixed_attributes element.Heading = []
+fixed_attributes element.Sound = codes " class=\"stamp sound\""
+fixed_attributes element.Unsound = codes " class=\"stamp unsound\""
+fixed_attributes element.Wrong = codes " class=\"stamp wrong\""
+fixed_attributes element.Paragraph = []
+fixed_attributes element.Warning = codes " class=\"warn\""
+fixed_attributes element.Note = codes " class=\"note\""
+fixed_attributes element.Part = []
+fixed_attributes element.Tree = codes " class=\"tree\""
+fixed_attributes element.Only = codes " class=\"m only\""
+fixed_attributes element.Dual = codes " class=\"m dual\""
+fixed_attributes element.Mistake = codes " class=\"m mistake\""
+fixed_attributes element.Idle = codes " class=\"m idle\""
+fixed_attributes element.Reply = codes " class=\"m reply\""
+fixed_attributes element.Sign = codes " class=\"s\""
+fixed_attributes element.Small = []
+fixed_attributes element.Below = []
+fixed_attributes element.List = []
+fixed_attributes element.Item = []
+fixed_attributes element.Faults = codes " class=\"faults\""
+fixed_attributes element.Cards = codes " class=\"cards\""
+fixed_attributes element.Card = codes " class=\"card\""
+fixed_attributes element.Beside = []
+fixed_attributes element.CardTitle = []
+fixed_attributes element.Label = codes " class=\"tag\""
+fixed_attributes element.Also = codes " class=\"also\""
+fixed_attributes element.Table = []
+fixed_attributes element.Heads = []
+fixed_attributes element.Rows = []
+fixed_attributes element.Row = []
+fixed_attributes element.Head = []
+fixed_attributes element.Cell = []
+fixed_attributes element.Whole = codes " class=\"nb\""
+fixed_attributes element.Group = []
+fixed_attributes element.Answer = []
+fixed_attributes element.Foot = []
+fixed_attributes element.Said = []
+fixed_attributes element.Summary = codes " class=\"sum\""
+fixed_attributes element.Board = codes " class=\"board\" role=\"img\" viewBox=\"-14 -3 377 380\""
+fixed_attributes element.Mini = codes " class=\"mini\" role=\"img\" viewBox=\"-3 -3 366 366\""
+fixed_attributes (element.Entry n) = []
+fixed_attributes (element.Link n) = []
 
 abbrev pub attributes : Element → List ℕ
 attributes (element.Entry n) = codes " id=\"e" ++ (decimal n ++ codes "\"")
 attributes (element.Link n) = codes " href=\"#e" ++ (decimal n ++ codes "\"")
-attributes e = fixed e
+attributes e = fixed_attributes e
 
-unfoldable pub opening : Element → List ℕ
-opening e = codes "<" ++ (name e ++ (attributes e ++ codes ">"))
+unfoldable pub start_tag : Element → List ℕ
+start_tag e = codes "<" ++ (name e ++ (attributes e ++ codes ">"))
 
-unfoldable pub closing : Element → List ℕ
-closing e = codes "</" ++ (name e ++ codes ">")
+unfoldable pub end_tag : Element → List ℕ
+end_tag e = codes "</" ++ (name e ++ codes ">")
 
 -- an element with its contents
-unfoldable pub inside : Element → List ℕ → List ℕ
-inside e text = opening e ++ (text ++ closing e)
+unfoldable pub element_text : Element → List ℕ → List ℕ
+element_text e text = start_tag e ++ (text ++ end_tag e)

@@ -7,18 +7,18 @@ abbrev pub hex_digit : ℕ → ℕ
 hex_digit d = if nat_lt d 10 then 48 + d else 55 + d
 
 -- printable ASCII as it is, and any other byte by its number: `\xE9`
-abbrev pub shown : ℕ → List ℕ
-shown b = if nat_lt b 32 || nat_lt 126 b then 92 ∷ 120 ∷ hex_digit (b / 16 % 16) ∷ hex_digit (b % 16) ∷ [] else b ∷ []
+abbrev pub visible_byte : ℕ → List ℕ
+visible_byte b = if nat_lt b 32 || nat_lt 126 b then 92 ∷ 120 ∷ hex_digit (b / 16 % 16) ∷ hex_digit (b % 16) ∷ [] else b ∷ []
 
 -- the text for a byte: `&`, `<`, `>` and both quotation marks become entities
 abbrev pub entity : ℕ → List ℕ
 entity b =
     if b == 38 then codes "&amp;"
     else (if b == 60 then codes "&lt;" else (if b == 62 then codes "&gt;"
-    else (if b == 34 then codes "&quot;" else (if b == 39 then codes "&#39;" else shown b))))
+    else (if b == 34 then codes "&quot;" else (if b == 39 then codes "&#39;" else visible_byte b))))
 
-unfoldable pub said : List ℕ → List ℕ
-said text = flat_map entity text
+unfoldable pub escaped_text : List ℕ → List ℕ
+escaped_text text = flat_map entity text
 
 -- the bytes begin with one of the five entities
 abbrev pub BeginsEntity : List ℕ → Type 0
@@ -43,4 +43,4 @@ IsClean (b ∷ text) = IsPlainByte b × (b ≡ 38 → BeginsEntity (b ∷ text))
 
 -- whatever the words are, their HTML is clean
 abbrev pub WordsAreClean : Type 0
-WordsAreClean = (words : List ℕ) → IsClean (said words)
+WordsAreClean = (words : List ℕ) → IsClean (escaped_text words)

@@ -65,8 +65,8 @@ back =
     ++ (codes "t><text x=\"-8\" y=\"72\">7</text><text x=\"-8\" y=\"27\">8</text></g></defs></svg>\n")))))))))))))))))))))))))
 
 -- the opening of pages
-unfoldable pub opening : List ℕ
-opening = front ++ back
+unfoldable pub page_opening : List ℕ
+page_opening = front ++ back
 
 -- the additional style of a sheet: twelve diagrams per page
 unfoldable pub sheet_style : List ℕ
@@ -78,5 +78,5 @@ sheet_style =
 unfoldable pub sheet_opening : List ℕ
 sheet_opening = front ++ (sheet_style ++ back)
 
-unfoldable pub closing : List ℕ
-closing = codes "</body></html>\n"
+unfoldable pub page_closing : List ℕ
+page_closing = codes "</body></html>\n"

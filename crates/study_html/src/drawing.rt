@@ -1,7 +1,7 @@
 //! The drawings: boards, men and signs.
 ghost use Rattle.std.specs.Prelude.{◌≡◌, ◌++◌, ◌∷◌, [], OnOk};
 ghost use Rattle.study_board.specs.Letters.{letter};
-ghost use Rattle.study_html.specs.Drawings.{side_class, colour, shape, size, cell_of, standing, drawn};
+ghost use Rattle.study_html.specs.Drawings.{side_class, colour, shape, size, cell_of, man_drawing, drawing_text};
 
 use std::alloc::{AllocError, Allocator};
 use study_board::{Kind, Man, Side, Square};
@@ -88,9 +88,9 @@ fn add_size<A: Allocator>(text: &mut Text<'_, A>) -> Result<(), AllocError>
     text.add(b"=\"45\"")
 }
 
-#[tactic(auto, unfolding(crate::specs::Drawings::standing))]
-fn add_standing<A: Allocator>(text: &mut Text<'_, A>, man: &Man) -> Result<(), AllocError>
-    ensures { OnOk result (text.new ≡ text.old ++ standing man.now) }
+#[tactic(auto, unfolding(crate::specs::Drawings::man_drawing))]
+fn add_man<A: Allocator>(text: &mut Text<'_, A>, man: &Man) -> Result<(), AllocError>
+    ensures { OnOk result (text.new ≡ text.old ++ man_drawing man.now) }
 {
     text.add(b"<use")?;
     add_colour(text, man.side)?;
@@ -101,8 +101,11 @@ fn add_standing<A: Allocator>(text: &mut Text<'_, A>, man: &Man) -> Result<(), A
 }
 
 /// Adds the drawing.
-pub fn add_drawn<A: Allocator>(text: &mut Text<'_, A>, drawing: &Drawing) -> Result<(), AllocError>
-    ensures { OnOk result (text.new ≡ text.old ++ drawn drawing.now) }
+pub fn add_drawing<A: Allocator>(
+    text: &mut Text<'_, A>,
+    drawing: &Drawing,
+) -> Result<(), AllocError>
+    ensures { OnOk result (text.new ≡ text.old ++ drawing_text drawing.now) }
 {
     match drawing {
         Drawing::Break => text.add(b"<br>"),
@@ -110,6 +113,6 @@ pub fn add_drawn<A: Allocator>(text: &mut Text<'_, A>, drawing: &Drawing) -> Res
         Drawing::Coordinates => text.add(b"<use href=\"#coordinates\"/>"),
         Drawing::Dot => text.add(b" &#183; "),
         Drawing::Dash => text.add(b"&#8211;"),
-        Drawing::Standing(man) => add_standing(text, man),
+        Drawing::Standing(man) => add_man(text, man),
     }
 }

@@ -1,6 +1,6 @@
 //! The elements of a page.
 ghost use Rattle.std.specs.Prelude.{◌≡◌, ◌++◌, OnOk};
-ghost use Rattle.study_html.specs.Elements.{name, fixed, attributes, opening, closing, inside};
+ghost use Rattle.study_html.specs.Elements.{name, fixed_attributes, attributes, start_tag, end_tag, element_text};
 
 use std::alloc::{AllocError, Allocator};
 use study_text::Text;
@@ -156,8 +156,8 @@ fn name(element: Element) -> &'static [u8]
 }
 
 /// The attributes of an element without a number, each after a space.
-fn fixed(element: Element) -> &'static [u8]
-    ensures { result.now ≡ fixed element }
+fn fixed_attributes(element: Element) -> &'static [u8]
+    ensures { result.now ≡ fixed_attributes element }
 {
     match element {
         Element::Byline => b" class=\"by\"",
@@ -204,13 +204,13 @@ fn add_attributes<A: Allocator>(text: &mut Text<'_, A>, element: Element) -> Res
             text.add_number(number)?;
             text.add(b"\"")
         }
-        _ => text.add(fixed(element)),
+        _ => text.add(fixed_attributes(element)),
     }
 }
 
-#[tactic(auto, unfolding(crate::specs::Elements::opening))]
-fn add_opening<A: Allocator>(text: &mut Text<'_, A>, element: Element) -> Result<(), AllocError>
-    ensures { OnOk result (text.new ≡ text.old ++ opening element) }
+#[tactic(auto, unfolding(crate::specs::Elements::start_tag))]
+fn add_start_tag<A: Allocator>(text: &mut Text<'_, A>, element: Element) -> Result<(), AllocError>
+    ensures { OnOk result (text.new ≡ text.old ++ start_tag element) }
 {
     text.add(b"<")?;
     text.add(name(element))?;
@@ -218,9 +218,9 @@ fn add_opening<A: Allocator>(text: &mut Text<'_, A>, element: Element) -> Result
     text.add(b">")
 }
 
-#[tactic(auto, unfolding(crate::specs::Elements::closing))]
-fn add_closing<A: Allocator>(text: &mut Text<'_, A>, element: Element) -> Result<(), AllocError>
-    ensures { OnOk result (text.new ≡ text.old ++ closing element) }
+#[tactic(auto, unfolding(crate::specs::Elements::end_tag))]
+fn add_end_tag<A: Allocator>(text: &mut Text<'_, A>, element: Element) -> Result<(), AllocError>
+    ensures { OnOk result (text.new ≡ text.old ++ end_tag element) }
 {
     text.add(b"</")?;
     text.add(name(element))?;
@@ -228,15 +228,15 @@ fn add_closing<A: Allocator>(text: &mut Text<'_, A>, element: Element) -> Result
 }
 
 /// Adds the element with its contents.
-#[tactic(auto, unfolding(crate::specs::Elements::inside))]
-pub fn add_inside<A: Allocator>(
+#[tactic(auto, unfolding(crate::specs::Elements::element_text))]
+pub fn add_element<A: Allocator>(
     text: &mut Text<'_, A>,
     element: Element,
     inner: &[u8],
 ) -> Result<(), AllocError>
-    ensures { OnOk result (text.new ≡ text.old ++ inside element inner.now) }
+    ensures { OnOk result (text.new ≡ text.old ++ element_text element inner.now) }
 {
-    add_opening(text, element)?;
+    add_start_tag(text, element)?;
     text.add(inner)?;
-    add_closing(text, element)
+    add_end_tag(text, element)
 }

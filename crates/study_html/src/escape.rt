@@ -1,6 +1,6 @@
 //! Words as HTML.
 ghost use Rattle.std.specs.Prelude.{◌≡◌, ◌<◌, ◌++◌, OnOk};
-ghost use Rattle.study_html.specs.Escape.{entity, hex_digit, shown, said};
+ghost use Rattle.study_html.specs.Escape.{entity, hex_digit, visible_byte, escaped_text};
 
 use std::alloc::{AllocError, Allocator};
 use study_text::Text;
@@ -14,8 +14,8 @@ fn hex_digit(digit: u8) -> u8
 }
 
 /// Adds a printable byte as it is, and any other by its number.
-fn add_shown<A: Allocator>(text: &mut Text<'_, A>, byte: u8) -> Result<(), AllocError>
-    ensures { OnOk result (text.new ≡ text.old ++ shown byte) }
+fn add_visible<A: Allocator>(text: &mut Text<'_, A>, byte: u8) -> Result<(), AllocError>
+    ensures { OnOk result (text.new ≡ text.old ++ visible_byte byte) }
 {
     if byte < 32 || 126 < byte {
         text.add(&[92, 120, hex_digit(byte / 16 % 16), hex_digit(byte % 16)])
@@ -39,14 +39,14 @@ fn add_entity<A: Allocator>(text: &mut Text<'_, A>, byte: u8) -> Result<(), Allo
     } else if byte == 39 {
         text.add(b"&#39;")
     } else {
-        add_shown(text, byte)
+        add_visible(text, byte)
     }
 }
 
 /// Adds words as HTML: `&`, `<`, `>` and the quotation marks as entities, and bytes that are not printable by their numbers.
-#[tactic(auto, unfolding(crate::specs::Escape::said))]
-pub fn add_said<A: Allocator>(text: &mut Text<'_, A>, bytes: &[u8]) -> Result<(), AllocError>
-    ensures { OnOk result (text.new ≡ text.old ++ said bytes.now) }
+#[tactic(auto, unfolding(crate::specs::Escape::escaped_text))]
+pub fn add_escaped<A: Allocator>(text: &mut Text<'_, A>, bytes: &[u8]) -> Result<(), AllocError>
+    ensures { OnOk result (text.new ≡ text.old ++ escaped_text bytes.now) }
 {
     for byte in bytes {
         add_entity(text, *byte)?;

@@ -2,7 +2,7 @@
 ghost use Rattle.std.specs.Prelude.{◌≡◌, ◌++◌, OnOk, OnErr};
 ghost use Rattle.std.specs.Io.KnownBytes.{Appends};
 ghost use Rattle.study_text.specs.Taken.{TakesPrefix};
-ghost use Rattle.study_html.specs.Frame.{front, back, opening, sheet_style, sheet_opening, closing};
+ghost use Rattle.study_html.specs.Frame.{front, back, page_opening, sheet_style, sheet_opening, page_closing};
 
 use std::io::Write;
 use study_text::{DeviceFailed, write_text};
@@ -80,9 +80,9 @@ fn sheet_style() -> &'static [u8]
 .defs{display:block}\n"
 }
 
-#[tactic(auto, unfolding(crate::specs::Frame::closing))]
-fn closing() -> &'static [u8]
-    ensures { result.now ≡ closing }
+#[tactic(auto, unfolding(crate::specs::Frame::page_closing))]
+fn page_closing() -> &'static [u8]
+    ensures { result.now ≡ page_closing }
 {
     b"</body></html>\n"
 }
@@ -99,10 +99,11 @@ fn write_both<W: Write>(out: &mut W, first: &[u8], second: &[u8]) -> Result<(), 
 }
 
 /// Writes the text before the first page.
-#[tactic(auto, unfolding(crate::specs::Frame::opening))]
+#[tactic(auto, unfolding(crate::specs::Frame::page_opening))]
 pub fn write_opening<W: Write>(out: &mut W) -> Result<(), DeviceFailed>
-    ensures ok { OnOk result (Appends (W.contents out.old) (W.contents out.new) opening) }
-    ensures prefix { OnErr result (TakesPrefix (W.contents out.old) (W.contents out.new) opening) }
+    ensures ok { OnOk result (Appends (W.contents out.old) (W.contents out.new) page_opening) }
+    ensures prefix { OnErr result (TakesPrefix (W.contents out.old)
+        (W.contents out.new) page_opening) }
 {
     write_both(out, front(), back())
 }
@@ -120,8 +121,9 @@ pub fn write_sheet_opening<W: Write>(out: &mut W) -> Result<(), DeviceFailed>
 
 /// Writes the text after the last page.
 pub fn write_closing<W: Write>(out: &mut W) -> Result<(), DeviceFailed>
-    ensures ok { OnOk result (Appends (W.contents out.old) (W.contents out.new) closing) }
-    ensures prefix { OnErr result (TakesPrefix (W.contents out.old) (W.contents out.new) closing) }
+    ensures ok { OnOk result (Appends (W.contents out.old) (W.contents out.new) page_closing) }
+    ensures prefix { OnErr result (TakesPrefix (W.contents out.old)
+        (W.contents out.new) page_closing) }
 {
-    write_text(out, closing())
+    write_text(out, page_closing())
 }

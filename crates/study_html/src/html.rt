@@ -1,13 +1,13 @@
 //! Markup that grows.
 ghost use Rattle.std.specs.Prelude.{◌≡◌, ◌++◌, ◌==◌, [], length, OnOk};
-ghost use Rattle.study_html.specs.Escape.{said};
-ghost use Rattle.study_html.specs.Elements.{inside};
-ghost use Rattle.study_html.specs.Drawings.{drawn};
+ghost use Rattle.study_html.specs.Escape.{escaped_text};
+ghost use Rattle.study_html.specs.Elements.{element_text};
+ghost use Rattle.study_html.specs.Drawings.{drawing_text};
 ghost use Rattle.study_html.specs.Markup.{IsWellNested};
 
-use crate::drawing::{Drawing, add_drawn};
-use crate::element::{Element, add_inside};
-use crate::escape::add_said;
+use crate::drawing::{Drawing, add_drawing};
+use crate::element::{Element, add_element};
+use crate::escape::add_escaped;
 use std::alloc::{AllocError, Allocator};
 use std::marker::Model;
 use study_text::Text;
@@ -59,9 +59,9 @@ impl<'a, A: Allocator> Html<'a, A> {
     /// Adds words, which are never read as markup.
     #[tactic(auto, using(crate::proofs::MarkupGrows::said_nested, crate::proofs::MarkupGrows::none_nested))]
     pub fn say(&mut self, words: &[u8]) -> Result<(), AllocError>
-        ensures { OnOk result (self.new ≡ self.old ++ said words.now) }
+        ensures { OnOk result (self.new ≡ self.old ++ escaped_text words.now) }
     {
-        match add_said(&mut self.text, words) {
+        match add_escaped(&mut self.text, words) {
             Ok(_) => Ok(()),
             Err(fault) => {
                 self.text = Text::new(self.alloc);
@@ -77,9 +77,9 @@ impl<'a, A: Allocator> Html<'a, A> {
         element: Element,
         within: &Html<'b, B>,
     ) -> Result<(), AllocError>
-        ensures { OnOk result (self.new ≡ self.old ++ inside element within.now) }
+        ensures { OnOk result (self.new ≡ self.old ++ element_text element within.now) }
     {
-        match add_inside(&mut self.text, element, within.text.as_slice()) {
+        match add_element(&mut self.text, element, within.text.as_slice()) {
             Ok(_) => Ok(()),
             Err(fault) => {
                 self.text = Text::new(self.alloc);
@@ -91,9 +91,9 @@ impl<'a, A: Allocator> Html<'a, A> {
     /// Adds a drawing.
     #[tactic(auto, using(crate::proofs::MarkupGrows::drawn_nested, crate::proofs::MarkupGrows::none_nested))]
     pub fn draw(&mut self, drawing: &Drawing) -> Result<(), AllocError>
-        ensures { OnOk result (self.new ≡ self.old ++ drawn drawing.now) }
+        ensures { OnOk result (self.new ≡ self.old ++ drawing_text drawing.now) }
     {
-        match add_drawn(&mut self.text, drawing) {
+        match add_drawing(&mut self.text, drawing) {
             Ok(_) => Ok(()),
             Err(fault) => {
                 self.text = Text::new(self.alloc);
@@ -124,7 +124,7 @@ pub fn put_words<'a, A: Allocator>(
     element: Element,
     words: &[u8],
 ) -> Result<(), AllocError>
-    ensures { OnOk result (html.new ≡ html.old ++ inside element (said words.now)) }
+    ensures { OnOk result (html.new ≡ html.old ++ element_text element (escaped_text words.now)) }
 {
     let mut within = Html::new(alloc);
     within.say(words)?;

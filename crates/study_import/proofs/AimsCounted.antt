@@ -9,23 +9,23 @@ use Rattle.study_marks.specs.declared.stipulation.Goal.TheVariants.{Win, Draw}
 use Rattle.study_marks.specs.declared.stipulation.Stipulation.{Stipulation}
 use Rattle.study_command.specs.Paths.{place_parsed}
 use Rattle.study_command.specs.Parser.{few_moves, mate_moves_of}
-use Rattle.study_games.specs.Words.{first_word, trimmed}
-use Rattle.study_games.specs.Header.{Pair, value_of, unescaped}
+use Rattle.study_games.specs.Words.{first_word, trim}
+use Rattle.study_games.specs.Header.{Pair, value_of, unescape}
 use Rattle.study_games.specs.Symbols.{said_of}
 use Rattle.study_games.specs.Tokens.{Token, blank, aside, opening, closing, star, tag, comment, rest, sign, symbol}
 use Rattle.study_games.specs.declared.symbols.Outcome.{Outcome}
 use Rattle.study_games.specs.declared.symbols.Outcome.TheVariants.{WhiteWins, BlackWins, Drawn}
 use Rattle.study_games.specs.declared.symbols.Said.{Said}
 use Rattle.study_games.specs.declared.symbols.Said.TheVariants as say
-use Rattle.study_import.specs.declared.aims.Aim.{Aim}
-use Rattle.study_import.specs.declared.aims.AimSource.{AimSource}
-use Rattle.study_import.specs.declared.aims.AimSource.TheVariants.{Comment, StipulationTag, ResultTag, Result as EndResult, Given}
-use Rattle.study_import.specs.declared.notes.Notes.{Notes}
+use Rattle.study_import.specs.declared.game.aims.Aim.{Aim}
+use Rattle.study_import.specs.declared.game.aims.AimSource.{AimSource}
+use Rattle.study_import.specs.declared.game.aims.AimSource.TheVariants.{Comment, StipulationTag, ResultTag, Result as EndResult, Given}
+use Rattle.study_import.specs.declared.game.notes.Notes.{Notes}
 use Rattle.study_import.specs.Aims.{Found, last_of_phrase, hero_of, goal_named, moves_named, moves_in, moves_behind_in, mate_goal, goal_or_mate}
 use Rattle.study_import.specs.Aims.{goal_in, goal_behind_and, goal_behind_play, or_goal, goal_after_to, goal_behind_to, goal_of_verb, verb_or_mate}
-use Rattle.study_import.specs.Aims.{goal_by_verb, goal_behind_hero, aimed, aim_by, aim_in, mate_by, mate_tag, or_words, says_win, says_draw}
+use Rattle.study_import.specs.Aims.{goal_by_verb, goal_behind_hero, stipulation_by, aim_by, aim_in, mate_by, mate_tag, or_words, says_win, says_draw}
 use Rattle.study_import.specs.Aims.{aim_of_text, aim_of_tag, aim_of_outcome, from_source, or_aim, aim_of_result}
-use Rattle.study_import.specs.Notes.{with_said, with_sign, noted}
+use Rattle.study_import.specs.Notes.{with_said, with_sign, with_token}
 use Rattle.study_import.specs.Blocks.{tag_aim, result_of, aim_of_game}
 use Rattle.study_import.specs.Laws.{IsCounted, IsGiven}
 
@@ -131,7 +131,7 @@ counted_hero x = counted_either (goal_behind_to x) (goal_by_verb x) (counted_to 
 
 -- ---- stipulations
 
-given_aimed : (side : Option Side) (goal : Option Goal) → Counted goal → IsGiven (aimed side goal)
+given_aimed : (side : Option Side) (goal : Option Goal) → Counted goal → IsGiven (stipulation_by side goal)
 given_aimed (Some side) (Some goal) h = h
 given_aimed (Some side) None h = tt
 given_aimed None (Some goal) h = tt
@@ -173,7 +173,7 @@ given_text text side =
 
 given_tag : (value : List ℕ) (side : Side) → IsGiven (aim_of_tag value side)
 unfolding aim_of_tag
-given_tag value side = given_text (trimmed value) side
+given_tag value side = given_text (trim value) side
 
 -- ---- the first stipulation that is stated
 
@@ -200,7 +200,7 @@ aimed_result s (Some o) = outcome_counted o
 
 aimed_tag : (side : Side) (value : Option (List ℕ)) → Aimed (tag_aim side value)
 aimed_tag side None = tt
-aimed_tag side (Some value) = aimed_source StipulationTag (aim_of_tag (unescaped value) side) (given_tag (unescaped value) side)
+aimed_tag side (Some value) = aimed_source StipulationTag (aim_of_tag (unescape value) side) (given_tag (unescape value) side)
 
 pub game_aimed : (given : Option Stipulation) (tags : List Pair) (side : Side) (n : Notes) → IsGiven given → IsGiven n.opening
     → (o : Option Aim) → aim_of_game given tags side n ≡ o → Aimed o
@@ -233,7 +233,7 @@ opening_sign : (n : Notes) (cut is_null : Bool) → IsGiven n.opening → IsGive
 opening_sign n cut true h = h
 opening_sign n cut false h = h
 
-pub opening_noted : (n : Notes) (cut waits : Bool) (token : Token) → IsGiven n.opening → IsGiven (noted n cut waits token).opening
+pub opening_noted : (n : Notes) (cut waits : Bool) (token : Token) → IsGiven n.opening → IsGiven (with_token n cut waits token).opening
 opening_noted n cut waits blank h = h
 opening_noted n cut waits (tag name value) h = h
 opening_noted n cut waits (comment text) h =

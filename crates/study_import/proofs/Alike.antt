@@ -7,8 +7,8 @@ use Rattle.study_notation.specs.Fen.{start_of}
 use Rattle.study_marks.specs.declared.stipulation.Stipulation.{Stipulation}
 use Rattle.study_games.specs.Header.{tags_of, header_fault, value_of}
 use Rattle.study_games.specs.declared.header.HeaderFault.{HeaderFault}
-use Rattle.study_import.specs.declared.aims.Aim.{Aim}
-use Rattle.study_import.specs.declared.movetext.MovesFault.{MovesFault}
+use Rattle.study_import.specs.declared.game.aims.Aim.{Aim}
+use Rattle.study_import.specs.declared.game.movetext.MovesFault.{MovesFault}
 use Rattle.study_import.specs.Movetext.{Ended}
 use Rattle.study_import.specs.Blocks.{Block, Reported, reported_of, block_lines, no_study, left_out, aim_of_game, aimed_block, read_block, game_read}
 use Rattle.study_import.specs.Blocks.{fen_in, start_block, fen_block, header_block, block_of, tail_of, tail_line, under_remark, block_or_tail}

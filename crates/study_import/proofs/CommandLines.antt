@@ -18,7 +18,7 @@ use Rattle.study_command.specs.declared.command.Keyword.{Keyword}
 use Rattle.study_command.specs.declared.command.Keyword.TheVariants.{FromFen, Stipulate, Insert, Tag}
 use Rattle.study_command.specs.declared.command.FenCommand.TheVariants.{Position}
 use Rattle.study_command.specs.Paths.{place_parsed}
-use Rattle.study_command.specs.Parser.{Asks, fen_command, stipulate, insert, tag, pgn, ended, trimmed, text_parsed, path_of, side_parsed, tag_parsed}
+use Rattle.study_command.specs.Parser.{Asks, fen_command, stipulate, insert, tag, pgn, trim_end, trim, text_parsed, path_of, side_parsed, tag_parsed}
 use Rattle.study_command.specs.Parser.{begins_comment, line_asked, word_asked, word_of, command_of}
 use Rattle.study_import.specs.Laws.{IsCounted}
 use Rattle.study_import.proofs.Ink.{Ink, Print, ink_of, ink_prints, print_append, all_print, decimal_ink, words_more, words_last, words_spaced}
@@ -32,16 +32,16 @@ use Rattle.std.proofs.lemmas.Fmt.{decimal_nonempty}
 not_spaces : (xs ys : List ℕ) → list_all is_space ys ≡ false → list_all is_space (xs ++ ys) ≡ false
 not_spaces xs ys h = list_all-append is_space xs ys ∙ and_right (list_all is_space xs) (list_all is_space ys) h
 
-ended-behind : (xs ys : List ℕ) → list_all is_space ys ≡ false → ended ys ≡ ys → ended (xs ++ ys) ≡ xs ++ ys
-ended-behind [] ys h e = e
-ended-behind (x ∷ xs) ys h e = rw (not_spaces (x ∷ xs) ys h) (ap (λ (t : List ℕ). x ∷ t) (ended-behind xs ys h e))
+trim_end-behind : (xs ys : List ℕ) → list_all is_space ys ≡ false → trim_end ys ≡ ys → trim_end (xs ++ ys) ≡ xs ++ ys
+trim_end-behind [] ys h e = e
+trim_end-behind (x ∷ xs) ys h e = rw (not_spaces (x ∷ xs) ys h) (ap (λ (t : List ℕ). x ∷ t) (trim_end-behind xs ys h e))
 
 no_space : (b : ℕ) → 32 < b → is_space b ≡ false
 no_space b lt = ne_eqb b 32 (λ e. omega arith)
 
-ended-ink : (w : List ℕ) → Ink w → ended w ≡ w
-ended-ink [] h = refl
-ended-ink (b ∷ w) h = rw (no_space b h.0) (ap (λ (t : List ℕ). b ∷ t) (ended-ink w h.2))
+trim_end-ink : (w : List ℕ) → Ink w → trim_end w ≡ w
+trim_end-ink [] h = refl
+trim_end-ink (b ∷ w) h = rw (no_space b h.0) (ap (λ (t : List ℕ). b ∷ t) (trim_end-ink w h.2))
 
 ink_not_spaces : (w : List ℕ) → Ink w → 0 < length w → list_all is_space w ≡ false
 ink_not_spaces [] h some = absurd (omega arith)
@@ -52,15 +52,15 @@ pub record IsTrimmed (t : List ℕ) : Type 0 where
   pub rest : List ℕ
   pub begins : t ≡ first ∷ rest
   pub inked : is_space first ≡ false
-  pub ends : ended t ≡ t
+  pub ends : trim_end t ≡ t
 
 begun_trimmed : (b : ℕ) (bs : List ℕ) → is_space b ≡ false → begun_word (32 ∷ b ∷ bs) ≡ b ∷ bs
 begun_trimmed b bs h = rw h refl
 
-trimmed_again : (t : List ℕ) → IsTrimmed t → trimmed (32 ∷ t) ≡ t
-unfolding trimmed
+trimmed_again : (t : List ℕ) → IsTrimmed t → trim (32 ∷ t) ≡ t
+unfolding trim
 trimmed_again t h =
-    ap (λ (x : List ℕ). ended (begun_word (32 ∷ x))) h.begins ∙ ap ended (begun_trimmed h.first h.rest h.inked ∙ sym h.begins) ∙ h.ends
+    ap (λ (x : List ℕ). trim_end (begun_word (32 ∷ x))) h.begins ∙ ap trim_end (begun_trimmed h.first h.rest h.inked ∙ sym h.begins) ∙ h.ends
 
 some_of : (t : List ℕ) → IsTrimmed t → (length t == 0) ≡ false
 some_of t h = ap (λ (x : List ℕ). length x == 0) h.begins ∙ ne_eqb (length (h.first ∷ h.rest)) 0 (λ e. omega arith)
@@ -74,7 +74,7 @@ fen_trimmed t h = record {
   rest = h.rest;
   begins = h.begins;
   inked = no_space h.first h.no_space;
-  ends = ap ended h.ends ∙ ended-behind h.front h.last (ink_not_spaces h.last h.inked h.some) (ended-ink h.last h.inked) ∙ sym h.ends;
+  ends = ap trim_end h.ends ∙ trim_end-behind h.front h.last (ink_not_spaces h.last h.inked h.some) (trim_end-ink h.last h.inked) ∙ sym h.ends;
 }
 
 -- ---- a keyword

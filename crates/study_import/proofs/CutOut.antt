@@ -18,7 +18,7 @@ use Rattle.study_marks.specs.declared.tag.TagName.TheVariants as name_of
 use Rattle.study_marks.specs.Study.{Study, tag_of}
 use Rattle.study_marks.specs.Edits.{PlainStudy, is_printable}
 use Rattle.study_pgn.specs.Values.{win_of, result_text}
-use Rattle.study_pgn.specs.Tags.{escaped, tag_line, text_or_unknown}
+use Rattle.study_pgn.specs.Tags.{with_backslash, tag_line, text_or_unknown}
 use Rattle.study_pgn.specs.Pgn.{movetext, pgn_text}
 use Rattle.study_pgn.specs.Wrap.{lines_text}
 use Rattle.study_games.specs.Bytes.{is_blank, is_gap, is_letter, is_name_byte}
@@ -26,8 +26,9 @@ use Rattle.study_games.specs.Tokens.{front, behind}
 use Rattle.study_games.specs.declared.games.LineKind.{LineKind}
 use Rattle.study_games.specs.declared.games.LineKind.TheVariants.{Silent, Tag, EventTag, Moves}
 use Rattle.study_games.specs.declared.games.Seen.{Seen}
-use Rattle.study_games.specs.Games.{Game, Begun, longer, lines_behind, begins_value, name_of as name_in, bracketed, tag_name, is_remark, kind_named}
-use Rattle.study_games.specs.Games.{kind_of, begins_game, seen_then, with_bytes, with_line, begun_by, first_line, one_more, without_mark, unmarked}
+use Rattle.study_games.specs.Games.{Game, Begun, with_byte, lines_behind, begins_value, name_of as name_in, name_in_brackets, tag_name, is_remark, kind_named}
+use Rattle.study_games.specs.Games.{kind_of, begins_game, seen_then, with_bytes, with_line, begun_by, first_line, one_more, without_mark}
+use Rattle.study_games.specs.Games.{without_byte_order_mark}
 use Rattle.study_games.specs.Games.{taken_to, game_at_hand, games_from, games_of}
 use Rattle.study_import.specs.Meant.{study_of_game}
 use Rattle.study_import.specs.Written.{CanBeMade, unmarked_study, AreFilesReadBack}
@@ -39,7 +40,7 @@ use Rattle.study_import.proofs.RoundTrip.{Prints, tag_texts_are, start_read, res
 
 -- ---- lines
 
-longer_is : (line : List ℕ) (b : ℕ) → length line ≤ 1048579 → longer line b ≡ line ++ b ∷ []
+longer_is : (line : List ℕ) (b : ℕ) → length line ≤ 1048579 → with_byte line b ≡ line ++ b ∷ []
 longer_is line b le = rw (lt-leb 1048580 (length line) (omega (arith, le))) refl
 
 abbrev no_feed : ℕ → Bool
@@ -90,7 +91,7 @@ no_name (b ∷ bs) h =
     by true y name e = rw e refl
     by false y name e = refl
 
-no_bracket : (xs : List ℕ) → list_all is_plain xs ≡ true → bracketed xs ≡ None
+no_bracket : (xs : List ℕ) → list_all is_plain xs ≡ true → name_in_brackets xs ≡ None
 no_bracket [] h = refl
 no_bracket (b ∷ bs) h = by (b == 91) (name_in (behind is_gap bs))
     (no_name (behind is_gap bs) (plain_drop (prefix_len is_gap bs) bs (and_parts (is_plain b) (list_all is_plain bs) h).1))
@@ -125,7 +126,7 @@ behind_one n le = at_most (n + 1) 4294967295 (omega (arith, le)) (omega arith)
     at_most : (m k : ℕ) → 2 ≤ m → 2 ≤ k → 2 ≤ min m k
     at_most m k h e = omega (arith, h, e)
 
-no_mark : (n : ℕ) (line : List ℕ) → 2 ≤ n → unmarked n line ≡ line
+no_mark : (n : ℕ) (line : List ℕ) → 2 ≤ n → without_byte_order_mark n line ≡ line
 no_mark n line le = rw (ne_eqb n 1 (λ e. omega (arith, le, e))) refl
 
 -- a line that does not begin a game is added to the current game
@@ -138,7 +139,7 @@ line_added n g line lines le e =
     ap (λ (l : List ℕ). next l (begins_game g.seen (kind_of l))) (no_mark n line le) ∙ ap (next line) e
 
 -- a line of a tag Event begins the first game
-game_begun : (n : ℕ) (line : List ℕ) (lines : List (List ℕ)) → unmarked n line ≡ line → kind_of line ≡ EventTag
+game_begun : (n : ℕ) (line : List ℕ) (lines : List (List ℕ)) → without_byte_order_mark n line ≡ line → kind_of line ≡ EventTag
     → games_from n None (line ∷ lines) ≡ games_from (one_more n) (Some (begun_by n line EventTag)) lines
 game_begun n line lines e k =
     ap (λ (l : List ℕ). games_from (one_more n) (first_line n l (kind_of l)) lines) e
@@ -261,19 +262,19 @@ feeds_append xs ys h k = list_all-append no_feed xs ys ∙ and_from (list_all no
 printed_feed : (b : ℕ) → is_printable b ≡ true → no_feed b ≡ true
 printed_feed b h = let low : 32 ≤ b = leb-true 32 b (and_parts (nat_le 32 b) (nat_le b 126) h).0 in rw (ne_eqb b 10 (λ e. omega (arith, e, low))) refl
 
-escaped_feeds : (t : List ℕ) → Prints t → list_all no_feed (flat_map escaped t) ≡ true
+escaped_feeds : (t : List ℕ) → Prints t → list_all no_feed (flat_map with_backslash t) ≡ true
 escaped_feeds [] h = refl
 escaped_feeds (b ∷ t) h =
     let a = and_parts (is_printable b) (list_all is_printable t) h in
-    feeds_append (escaped b) (flat_map escaped t) (by (b == 34 || b == 92) b (printed_feed b a.0)) (escaped_feeds t a.1)
+    feeds_append (with_backslash b) (flat_map with_backslash t) (by (b == 34 || b == 92) b (printed_feed b a.0)) (escaped_feeds t a.1)
   where
     by : (x : Bool) (b : ℕ) → no_feed b ≡ true → list_all no_feed (if x then 92 ∷ b ∷ [] else b ∷ []) ≡ true
     by true b e = rw e refl
     by false b e = rw e refl
 
-escaped_few : (t : List ℕ) → length (flat_map escaped t) ≤ 2 * length t
+escaped_few : (t : List ℕ) → length (flat_map with_backslash t) ≤ 2 * length t
 escaped_few [] = omega arith
-escaped_few (b ∷ t) = omega (arith, by (b == 34 || b == 92) b, length-append (escaped b) (flat_map escaped t), escaped_few t)
+escaped_few (b ∷ t) = omega (arith, by (b == 34 || b == 92) b, length-append (with_backslash b) (flat_map with_backslash t), escaped_few t)
   where
     by : (x : Bool) (b : ℕ) → length (if x then 92 ∷ b ∷ [] else b ∷ []) ≤ 2
     by true b = omega arith
@@ -282,7 +283,7 @@ escaped_few (b ∷ t) = omega (arith, by (b == 34 || b == 92) b, length-append (
 tag_line_is : (name t : List ℕ) → list_all no_feed name ≡ true → nat_le (length name) 6 ≡ true → Prints t → length t ≤ 60 → IsTagLine (name, t)
 unfolding tag_line
 tag_line_is name t feeds six prints few =
-    let v = flat_map escaped t in record {
+    let v = flat_map with_backslash t in record {
       line = codes "[" ++ (name ++ (codes " \"" ++ (v ++ codes "\"]")));
       text = regroup name v;
       feeds = feeds_append (codes "[") (name ++ (codes " \"" ++ (v ++ codes "\"]"))) refl
@@ -454,7 +455,7 @@ followed_is s rest =
     ∙ ap (λ (x : List ℕ). tag_line (codes "Event") (event_of s) ++ x)
     (sym (written_append (others s) behind rest) ∙ ap (λ (x : List ℕ). written (others s) (10 ∷ x)) (append_assoc (moves_of s) (10 ∷ []) rest))
 
-mark_kept : (n : ℕ) (t : List ℕ) → unmarked n (tag_line (codes "Event") t) ≡ tag_line (codes "Event") t
+mark_kept : (n : ℕ) (t : List ℕ) → without_byte_order_mark n (tag_line (codes "Event") t) ≡ tag_line (codes "Event") t
 unfolding tag_line
 mark_kept n t = by (n == 1)
   where

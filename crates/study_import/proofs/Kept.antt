@@ -1,14 +1,14 @@
 -- Invariants of reading the moves of a game.
 use Rattle.std.proofs.Common.{◌≡◌, ℕ, zero, suc, Bool, true, false, List, [], ◌∷◌, length, Option, Some, None, Result, Ok, Err, refl, subst}
 use Rattle.std.specs.Prelude.{◌==◌, if◌then◌else◌}
-use Rattle.study_games.specs.Tokens.{Token, Lexed, lexed}
+use Rattle.study_games.specs.Tokens.{Token, Lexed, lexed_token}
 use Rattle.study_games.specs.declared.token.TokenFault.{TokenFault}
-use Rattle.study_import.specs.declared.taking.Reason.{Reason}
-use Rattle.study_import.specs.declared.movetext.MovesFault.{MovesFault}
-use Rattle.study_import.specs.declared.movetext.Stop.{Stop}
-use Rattle.study_import.specs.declared.movetext.Stop.TheVariants as stop
+use Rattle.study_import.specs.declared.game.token_effects.Reason.{Reason}
+use Rattle.study_import.specs.declared.game.movetext.MovesFault.{MovesFault}
+use Rattle.study_import.specs.declared.game.movetext.Stop.{Stop}
+use Rattle.study_import.specs.declared.game.movetext.Stop.TheVariants as stop
 use Rattle.study_import.specs.Notes.{GameRead, GameTaken, game_taken}
-use Rattle.study_import.specs.declared.numbering.Numbering.{Numbering}
+use Rattle.study_import.specs.declared.game.numbering.Numbering.{Numbering}
 use Rattle.study_import.specs.Movetext.{Ended, goes_on, game_numbered, with_numbering, on_numbered, on_token, fault_at, read_moves}
 
 module _ (P : GameRead → Type 0) (numbers : (g : GameRead) (s : Numbering) → P g → P (with_numbering g s))
@@ -44,7 +44,7 @@ module _ (P : GameRead → Type 0) (numbers : (g : GameRead) (s : Numbering) →
   kept zero fresh text g x h e = kept_end g x (length g.reading.lines.waiting == 0) h e
   kept (suc n) fresh [] g x h e = kept_end g x (length g.reading.lines.waiting == 0) h e
   kept (suc n) fresh (b ∷ bs) g x h e =
-      kept_lexed (read_moves n (b == 10)) g (length (b ∷ bs)) x (lexed fresh b bs) h (λ rest k l is. kept n (b == 10) rest k x l is) e
+      kept_lexed (read_moves n (b == 10)) g (length (b ∷ bs)) x (lexed_token fresh b bs) h (λ rest k l is. kept n (b == 10) rest k x l is) e
 
   -- ---- why a reading stops
 
@@ -92,4 +92,4 @@ module _ (P : GameRead → Type 0) (numbers : (g : GameRead) (s : Numbering) →
     stops zero fresh text g fault h e = stops_end g fault (length g.reading.lines.waiting == 0) e
     stops (suc n) fresh [] g fault h e = stops_end g fault (length g.reading.lines.waiting == 0) e
     stops (suc n) fresh (b ∷ bs) g fault h e =
-        stops_lexed (read_moves n (b == 10)) g (length (b ∷ bs)) fault (lexed fresh b bs) h (λ rest k l is. stops n (b == 10) rest k fault l is) e
+        stops_lexed (read_moves n (b == 10)) g (length (b ∷ bs)) fault (lexed_token fresh b bs) h (λ rest k l is. stops n (b == 10) rest k fault l is) e

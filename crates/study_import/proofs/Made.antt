@@ -14,7 +14,7 @@ use Rattle.study_notation.specs.declared.san.San.{San}
 use Rattle.study_notation.specs.declared.fault.SanFault.{SanFault}
 use Rattle.study_notation.specs.declared.fault.SanFault.TheVariants.{NotSan}
 use Rattle.study_notation.specs.SanParts.{san_of}
-use Rattle.study_notation.specs.Matching.{matches, meant, picked, move_of}
+use Rattle.study_notation.specs.Matching.{matches, move_meant, only_match, move_of}
 use Rattle.study_notation.proofs.MeansLegal.{picked_legal}
 use Rattle.study_tree.specs.Edits.{children_at}
 use Rattle.study_tree.specs.Tree.{has_spot, size_of}
@@ -23,21 +23,21 @@ use Rattle.study_marks.specs.Edits.{PlainStudy, with_insertion, insert_refusal, 
 use Rattle.study_games.specs.declared.symbols.Said.{Said}
 use Rattle.study_games.specs.declared.symbols.Said.TheVariants as say
 use Rattle.study_games.specs.Symbols.{said_of, san_in}
-use Rattle.study_games.specs.Tokens.{Token, Lexed, blank, aside, opening, closing, star, tag, comment, rest, sign, symbol, lexed}
-use Rattle.study_import.specs.declared.lines.LineFault.{LineFault}
-use Rattle.study_import.specs.declared.moves.MoveFault.{MoveFault}
-use Rattle.study_import.specs.declared.moves.MoveFault.TheVariants.{San as SanRefused, NoSuchNode}
-use Rattle.study_import.specs.declared.taking.Reason.{Reason}
-use Rattle.study_import.specs.declared.taking.Reason.TheVariants as reason
-use Rattle.study_import.specs.declared.movetext.MovesFault.{MovesFault}
-use Rattle.study_import.specs.declared.movetext.Stop.TheVariants as stop
+use Rattle.study_games.specs.Tokens.{Token, Lexed, blank, aside, opening, closing, star, tag, comment, rest, sign, symbol, lexed_token}
+use Rattle.study_import.specs.declared.game.lines.LineFault.{LineFault}
+use Rattle.study_import.specs.declared.game.moves.MoveFault.{MoveFault}
+use Rattle.study_import.specs.declared.game.moves.MoveFault.TheVariants.{San as SanRefused, NoSuchNode}
+use Rattle.study_import.specs.declared.game.token_effects.Reason.{Reason}
+use Rattle.study_import.specs.declared.game.token_effects.Reason.TheVariants as reason
+use Rattle.study_import.specs.declared.game.movetext.MovesFault.{MovesFault}
+use Rattle.study_import.specs.declared.game.movetext.Stop.TheVariants as stop
 use Rattle.study_import.specs.Lines.{Lines, begin_line, end_line}
-use Rattle.study_import.specs.Moves.{After, stepped, moved_by, met, moved}
-use Rattle.study_import.specs.Reading.{Reading, insert_line, gone_on, read_on, played, symbol_played}
-use Rattle.study_import.specs.Taken.{Taken, going_on, on_line, at_result, cut_line, at_null_move, on_move, taken_symbol, taken_sign, taken}
-use Rattle.study_import.specs.declared.notes.Notes.{Notes}
+use Rattle.study_import.specs.Moves.{After, child_or_added, moved_by, after_san, after_move_text}
+use Rattle.study_import.specs.Reading.{Reading, insert_line, gone_on, read_on, after_move, symbol_played}
+use Rattle.study_import.specs.Taken.{Taken, going_on, on_line, at_result, cut_line, at_null_move, on_move, taken_symbol, taken_sign, after_token}
+use Rattle.study_import.specs.declared.game.notes.Notes.{Notes}
 use Rattle.study_import.specs.Notes.{GameRead, GameTaken, is_header_tag, noted_on, game_taken}
-use Rattle.study_import.specs.declared.numbering.Numbering.{Numbering}
+use Rattle.study_import.specs.declared.game.numbering.Numbering.{Numbering}
 use Rattle.study_import.specs.Movetext.{Ended, at_end, goes_on, game_numbered, with_numbering, on_numbered, on_token, fault_at, read_moves}
 use Rattle.study_import.specs.Insertions.{Insertion, made_by, AllAccepted, lines_for, Leads}
 
@@ -84,11 +84,11 @@ module _ (A : Type 0) where
       → insert_refusal {A = A} s at m ≡ None
   refused_none s at m here legal new deep full = rw here (rw legal (rw new (rw deep (rw full refl))))
 
-  legal_picked : (p : Position) (text : List ℕ) (m : Move) (o : Option San) → meant p text o ≡ Ok m → is_legal p m ≡ true
+  legal_picked : (p : Position) (text : List ℕ) (m : Move) (o : Option San) → move_meant p text o ≡ Ok m → is_legal p m ≡ true
   legal_picked p text m None e = absurd cc
   legal_picked p text m (Some s) e =
       subst (λ (x : Result Move SanFault). IfOk x (λ n. is_legal p n ≡ true)) e
-      (picked_legal p s (legal_list p) (legal_list p) (picked (filter (matches p s) (legal_list p))) refl refl refl)
+      (picked_legal p s (legal_list p) (legal_list p) (only_match (filter (matches p s) (legal_list p))) refl refl refl)
 
   legal_meant : (p : Position) (text : List ℕ) (m : Move) → move_of p text ≡ Ok m → is_legal p m ≡ true
   unfolding move_of
@@ -97,7 +97,7 @@ module _ (A : Type 0) where
   stepped_leads : (r : Reading) (m : Move) (place : Option ℕ) (deep full : Bool) (a : After)
       → has_spot r.study.tree r.lines.path ≡ true → is_legal (position_at r.study r.lines.path) m ≡ true
       → place_at r.study.tree.below r.lines.path m ≡ place → nat_le 256 (length r.lines.path) ≡ deep → nat_le 4096 (size_of r.study.tree) ≡ full
-      → stepped r.study r.lines.path m place deep full ≡ Ok a → Leads A r (gone_on r a)
+      → child_or_added r.study r.lines.path m place deep full ≡ Ok a → Leads A r (gone_on r a)
   stepped_leads r m (Some k) deep full a here legal ep ed ef e =
       let is : record { study = r.study; step = record { place = k; added = None } } ≡ a = cc in
       stays r (gone_on r a) (ap (λ (x : After). x.study) (sym is))
@@ -124,29 +124,30 @@ module _ (A : Type 0) where
 
   met_leads : (r : Reading) (x : Result Move SanFault) (a : After) → has_spot r.study.tree r.lines.path ≡ true
       → ((m : Move) → x ≡ Ok m → is_legal (position_at r.study r.lines.path) m ≡ true)
-      → met r.study r.lines.path x ≡ Ok a → Leads A r (gone_on r a)
+      → after_san r.study r.lines.path x ≡ Ok a → Leads A r (gone_on r a)
   met_leads r (Err fault) a here legal e = absurd cc
   met_leads r (Ok m) a here legal e = by_leads r m a here (legal m refl) e
 
   at_spot : (r : Reading) (san : List ℕ) (b : Bool) (a : After) → has_spot r.study.tree r.lines.path ≡ b
-      → (if b then met r.study r.lines.path (move_of (position_at r.study r.lines.path) san) else Err NoSuchNode) ≡ Ok a → Leads A r (gone_on r a)
+      → (if b then after_san r.study r.lines.path (move_of (position_at r.study r.lines.path) san) else Err NoSuchNode) ≡ Ok a → Leads A r (gone_on r a)
   at_spot r san false a is e = absurd cc
   at_spot r san true a is e = met_leads r (move_of (position_at r.study r.lines.path) san) a is (legal_meant (position_at r.study r.lines.path) san) e
 
-  moved_leads : (r : Reading) (san : List ℕ) (a : After) → moved r.study r.lines.path san ≡ Ok a → Leads A r (gone_on r a)
-  unfolding moved
+  moved_leads : (r : Reading) (san : List ℕ) (a : After) → after_move_text r.study r.lines.path san ≡ Ok a → Leads A r (gone_on r a)
+  unfolding after_move_text
   moved_leads r san a e = at_spot r san (has_spot r.study.tree r.lines.path) a refl e
 
   read_leads : (r now : Reading) (x : Result After MoveFault) → ((a : After) → x ≡ Ok a → Leads A r (gone_on r a)) → read_on r x ≡ Ok now → Leads A r now
   read_leads r now (Err fault) f e = absurd cc
   read_leads r now (Ok a) f e = let is : gone_on r a ≡ now = cc in subst (λ (z : Reading). Leads A r z) is (f a refl)
 
-  played_leads : (r now : Reading) (san : List ℕ) → played r san ≡ Ok now → Leads A r now
-  unfolding played
-  played_leads r now san e = read_leads r now (moved r.study r.lines.path san) (moved_leads r san) e
+  played_leads : (r now : Reading) (san : List ℕ) → after_move r san ≡ Ok now → Leads A r now
+  unfolding after_move
+  played_leads r now san e = read_leads r now (after_move_text r.study r.lines.path san) (moved_leads r san) e
 
   symbol_by : (r now : Reading) (san : List ℕ) (cut long prints : Bool)
-      → (if cut then Ok r else (if long then Err (SanRefused NotSan) else (if prints then played r san else Err (SanRefused NotSan)))) ≡ Ok now → Leads A r now
+      → (if cut then Ok r else (if long then Err (SanRefused NotSan) else (if prints then after_move r san else Err (SanRefused NotSan)))) ≡ Ok now
+      → Leads A r now
   symbol_by r now san true long prints e = let is : r ≡ now = cc in same r now (sym is)
   symbol_by r now san false true prints e = absurd cc
   symbol_by r now san false false true e = played_leads r now san e
@@ -200,7 +201,7 @@ module _ (A : Type 0) where
   said_leads r t text say.Aside e = going r t e
   said_leads r t text say.Move e = move_leads r t (symbol_played r text) (λ now is. symbol_leads r now text is) e
 
-  token_leads : (r : Reading) (t : Taken) (token : Token) → taken r token ≡ Ok t → Leads A r t.reading
+  token_leads : (r : Reading) (t : Taken) (token : Token) → after_token r token ≡ Ok t → Leads A r t.reading
   token_leads r t blank e = going r t e
   token_leads r t aside e = going r t e
   token_leads r t (comment text) e = going r t e
@@ -220,10 +221,10 @@ module _ (A : Type 0) where
       subst (λ (z : GameTaken). Leads A r z.game.reading) is (f u refl)
 
   header_or : (g : GameRead) (t : GameTaken) (n : Notes) (token : Token) (in_header : Bool)
-      → (if in_header then Ok (record { game = g; ended = false }) else noted_on n (taken g.reading token)) ≡ Ok t → Leads A g.reading t.game.reading
+      → (if in_header then Ok (record { game = g; ended = false }) else noted_on n (after_token g.reading token)) ≡ Ok t → Leads A g.reading t.game.reading
   header_or g t n token true e =
       let is : record { game = g; ended = false } ≡ t = cc in same g.reading t.game.reading (sym (ap (λ (x : GameTaken). x.game.reading) is))
-  header_or g t n token false e = noted_leads g.reading n t (taken g.reading token) (λ u is. token_leads g.reading u token is) e
+  header_or g t n token false e = noted_leads g.reading n t (after_token g.reading token) (λ u is. token_leads g.reading u token is) e
 
   game_leads : (g : GameRead) (t : GameTaken) (token : Token) → game_taken g token ≡ Ok t → Leads A g.reading t.game.reading
   game_leads g t token e = header_or g t _ token (is_header_tag g.notes token) e
@@ -267,4 +268,4 @@ module _ (A : Type 0) where
   moves_lead zero fresh text g x e = end_leads g x e
   moves_lead (suc n) fresh [] g x e = end_leads g x e
   moves_lead (suc n) fresh (b ∷ bs) g x e =
-      lexed_leads (read_moves n (b == 10)) g (length (b ∷ bs)) x (lexed fresh b bs) (λ rest h is. moves_lead n (b == 10) rest h x is) e
+      lexed_leads (read_moves n (b == 10)) g (length (b ∷ bs)) x (lexed_token fresh b bs) (λ rest h is. moves_lead n (b == 10) rest h x is) e

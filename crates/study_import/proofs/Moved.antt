@@ -14,11 +14,11 @@ use Rattle.study_marks.specs.declared.refusal.Refusal.{Refusal}
 use Rattle.study_marks.specs.declared.refusal.Refusal.TheVariants as refusal
 use Rattle.study_marks.specs.Queries.{IsOutside}
 use Rattle.study_marks.specs.Edits.{PlainStudy, with_insertion, insert_refusal, there}
-use Rattle.study_import.specs.declared.moves.MoveFault.{MoveFault}
-use Rattle.study_import.specs.declared.moves.MoveFault.TheVariants.{TooDeep, TreeFull}
-use Rattle.study_import.specs.declared.moves.MoveFault.TheVariants.{San, NoSuchNode}
-use Rattle.study_import.specs.declared.moves.Step.{Step}
-use Rattle.study_import.specs.Moves.{After, stepped, moved_by, moved, met, Comes}
+use Rattle.study_import.specs.declared.game.moves.MoveFault.{MoveFault}
+use Rattle.study_import.specs.declared.game.moves.MoveFault.TheVariants.{TooDeep, TreeFull}
+use Rattle.study_import.specs.declared.game.moves.MoveFault.TheVariants.{San, NoSuchNode}
+use Rattle.study_import.specs.declared.game.moves.Step.{Step}
+use Rattle.study_import.specs.Moves.{After, child_or_added, moved_by, after_move_text, after_san, Comes}
 use Rattle.study_notation.specs.declared.fault.SanFault.{SanFault}
 use Rattle.study_notation.specs.Matching.{move_of}
 use Rattle.study_notation.specs.StartAfter.{start_after}
@@ -85,26 +85,28 @@ module _ {A : Type 0} where
     Reported place deep full = MatchOption (limits place deep full) (IfErr r (IsOutside held asked)) (λ f. r ≡ Err f)
 
     ok_steps : (place : Option ℕ) (deep full : Bool) (v : ℕ) → Reported place deep full → r ≡ Ok v → v ≡ children_at s.tree.below at
-        → stepped s at m place deep full ≡ Ok (record { study = with_insertion s at m; step = record { place = v; added = Some m } })
+        → child_or_added s at m place deep full ≡ Ok (record { study = with_insertion s at m; step = record { place = v; added = Some m } })
     ok_steps (Some k) deep full v reported is e = absurd (ok_not_err r v _ is reported)
     ok_steps None true full v reported is e = absurd (ok_not_err r v _ is reported)
     ok_steps None false true v reported is e = absurd (ok_not_err r v _ is reported)
     ok_steps None false false v reported is e = rw e refl
 
     there_steps : (place : Option ℕ) (deep full : Bool) (k : ℕ) → Reported place deep full → r ≡ Err (refusal.AlreadyThere k)
-        → stepped s at m place deep full ≡ Ok (record { study = s; step = record { place = k; added = None } })
+        → child_or_added s at m place deep full ≡ Ok (record { study = s; step = record { place = k; added = None } })
     there_steps (Some j) deep full k reported is = let same = err_is r _ _ reported is in let e : j ≡ k = cc in rw e refl
     there_steps None true full k reported is = let same = err_is r _ _ reported is in absurd cc
     there_steps None false true k reported is = let same = err_is r _ _ reported is in absurd cc
     there_steps None false false k reported is = absurd (subst (λ (z : Result ℕ (Refusal A)). IfErr z (IsOutside held asked)) is reported)
 
-    deep_steps : (place : Option ℕ) (deep full : Bool) → Reported place deep full → r ≡ Err refusal.TooDeep → stepped s at m place deep full ≡ Err TooDeep
+    deep_steps : (place : Option ℕ) (deep full : Bool) → Reported place deep full → r ≡ Err refusal.TooDeep → child_or_added s at m place deep full
+        ≡ Err TooDeep
     deep_steps (Some j) deep full reported is = let same = err_is r _ _ reported is in absurd cc
     deep_steps None true full reported is = refl
     deep_steps None false true reported is = let same = err_is r _ _ reported is in absurd cc
     deep_steps None false false reported is = absurd (subst (λ (z : Result ℕ (Refusal A)). IfErr z (IsOutside held asked)) is reported)
 
-    full_steps : (place : Option ℕ) (deep full : Bool) → Reported place deep full → r ≡ Err refusal.TreeFull → stepped s at m place deep full ≡ Err TreeFull
+    full_steps : (place : Option ℕ) (deep full : Bool) → Reported place deep full → r ≡ Err refusal.TreeFull → child_or_added s at m place deep full
+        ≡ Err TreeFull
     full_steps (Some j) deep full reported is = let same = err_is r _ _ reported is in absurd cc
     full_steps None true full reported is = let same = err_is r _ _ reported is in absurd cc
     full_steps None false true reported is = refl
@@ -168,26 +170,26 @@ module _ {L : Type 0} where
   gone_at s ks true e = absurd cc
   gone_at s ks false e = refl
 
-  pub nowhere : (s : Study L) (ks san : List ℕ) → None ≡ start_at s ks → moved (plain_study s) ks san ≡ Err NoSuchNode
-  unfolding moved
+  pub nowhere : (s : Study L) (ks san : List ℕ) → None ≡ start_at s ks → after_move_text (plain_study s) ks san ≡ Err NoSuchNode
+  unfolding after_move_text
   nowhere s ks san e = rw (has_spot-plain s ks ∙ gone_at s ks (has_spot s.tree ks) e) refl
 
   moved_is : (s : Study L) (ks san : List ℕ) (st : Start) (x : Result Move SanFault) → has_spot s.tree ks ≡ true → st.position ≡ position_at s ks
       → x ≡ move_of st.position san
-      → moved (plain_study s) ks san ≡ met (plain_study s) ks x
-  unfolding moved
-  moved_is s ks san st x is at e = rw (has_spot-plain s ks ∙ is) (ap (λ (p : Position). met (plain_study s) ks (move_of p san)) (position_at-plain s ks
-      ∙ sym at) ∙ ap (met (plain_study s) ks) (sym e))
+      → after_move_text (plain_study s) ks san ≡ after_san (plain_study s) ks x
+  unfolding after_move_text
+  moved_is s ks san st x is at e = rw (has_spot-plain s ks ∙ is) (ap (λ (p : Position). after_san (plain_study s) ks (move_of p san)) (position_at-plain s ks
+      ∙ sym at) ∙ ap (after_san (plain_study s) ks) (sym e))
 
   pub read_at : (s : Study L) (ks san : List ℕ) (m : Move) (st : Start) → has_spot s.tree ks ≡ true → st.position ≡ position_at s ks
       → Ok m ≡ move_of st.position san
       → (r : Result Step MoveFault) (new : PlainStudy) → Comes r (plain_study s) new (moved_by (plain_study s) ks m)
-      → Comes r (plain_study s) new (moved (plain_study s) ks san)
+      → Comes r (plain_study s) new (after_move_text (plain_study s) ks san)
   read_at s ks san m st is at e r new h = subst (λ (x : Result After MoveFault). Comes r (plain_study s) new x) (sym (moved_is s ks san st (Ok m) is at e)) h
 
   pub unread_at : (s : Study L) (ks san : List ℕ) (fault : SanFault) (st : Start) → has_spot s.tree ks ≡ true → st.position ≡ position_at s ks
       → Err fault ≡ move_of st.position san
-      → moved (plain_study s) ks san ≡ Err (San fault)
+      → after_move_text (plain_study s) ks san ≡ Err (San fault)
   unread_at s ks san fault st is at e = moved_is s ks san st (Err fault) is at e
 
 -- ---- new moves are legal

@@ -3,13 +3,13 @@ use Rattle.std.proofs.Common.{◌≡◌, ℕ, zero, suc, ◌≤◌, Bool, false,
 use Rattle.std.specs.Prelude.{◌==◌, unwrap_or, if◌then◌else◌}
 use Rattle.study_games.specs.declared.token.TokenFault.{TokenFault}
 use Rattle.study_games.specs.declared.token.TokenFault.TheVariants as token_fault
-use Rattle.study_games.specs.Tokens.{Token, Lexed, lexed, token_at, begins_feed, behind, is_in_line}
-use Rattle.study_import.specs.declared.lines.LineFault.TheVariants as line_fault
-use Rattle.study_import.specs.declared.moves.MoveFault.TheVariants as move_fault
-use Rattle.study_import.specs.declared.taking.Reason.TheVariants as reason
-use Rattle.study_import.specs.declared.movetext.MovesFault.{MovesFault}
-use Rattle.study_import.specs.declared.movetext.Stop.{Stop}
-use Rattle.study_import.specs.declared.movetext.Stop.TheVariants as stop
+use Rattle.study_games.specs.Tokens.{Token, Lexed, lexed_token, token_at, begins_feed, behind, is_in_line}
+use Rattle.study_import.specs.declared.game.lines.LineFault.TheVariants as line_fault
+use Rattle.study_import.specs.declared.game.moves.MoveFault.TheVariants as move_fault
+use Rattle.study_import.specs.declared.game.token_effects.Reason.TheVariants as reason
+use Rattle.study_import.specs.declared.game.movetext.MovesFault.{MovesFault}
+use Rattle.study_import.specs.declared.game.movetext.Stop.{Stop}
+use Rattle.study_import.specs.declared.game.movetext.Stop.TheVariants as stop
 use Rattle.study_import.specs.Movetext.{Ended}
 use Rattle.study_import.specs.MovesRead.{IsReported}
 use Rattle.study_import.specs.Behind.{is_of_moves, behind_fault, moves_or, moves_left, moves_in, ended_unless, to_the_end}
@@ -24,7 +24,7 @@ left_on : (n m : ℕ) (fresh : Bool) (rest : List ℕ) (x : Lexed) → n ≡ suc
     → moves_left n fresh rest ≡ moves_or (moves_left m (begins_feed rest)) rest x
 left_on n m fresh [] x e k = absurd cc
 left_on n m fresh (b ∷ bs) x e k =
-    let l : lexed fresh b bs ≡ x = ap lexed_or k in
+    let l : lexed_token fresh b bs ≡ x = ap lexed_or k in
     ap (λ (i : ℕ). moves_left i fresh (b ∷ bs)) e ∙ ap (moves_or (moves_left m (b == 10)) (b ∷ bs)) l
 
 -- behind a place where no token begins, and behind a token that is not a move, the search goes on
@@ -58,7 +58,7 @@ left_same (suc n) zero fresh [] h k = refl
 left_same (suc n) zero fresh (b ∷ bs) h k = absurd (omega arith)
 left_same (suc n) (suc m) fresh [] h k = refl
 left_same (suc n) (suc m) fresh (b ∷ bs) h k =
-    same_or (moves_left n (b == 10)) (moves_left m (b == 10)) b bs (lexed fresh b bs) (within_lexed fresh b bs)
+    same_or (moves_left n (b == 10)) (moves_left m (b == 10)) b bs (lexed_token fresh b bs) (within_lexed fresh b bs)
     (λ rest le. left_same n m (b == 10) rest (omega arith) (omega arith))
 
 -- ---- a game

@@ -21,10 +21,10 @@ use Rattle.study_notation.specs.Fen.{is_digit, digits_parsed}
 use Rattle.study_notation.specs.StartAfter.{number_after, start_after}
 use Rattle.study_pgn.specs.Moves.{move_dots}
 use Rattle.study_games.specs.Bytes.{is_blank, begins_symbol}
-use Rattle.study_import.specs.declared.numbering.MoveNumber.{MoveNumber}
-use Rattle.study_import.specs.declared.numbering.Numbering.{Numbering}
+use Rattle.study_import.specs.declared.game.numbering.MoveNumber.{MoveNumber}
+use Rattle.study_import.specs.declared.game.numbering.Numbering.{Numbering}
 use Rattle.study_games.proofs.Lexing.{no_ellipsis}
-use Rattle.study_import.specs.Numbering.{has_dot, has_dots, black_moves, is_black_to_move, fit, numbered, digits_numbered}
+use Rattle.study_import.specs.Numbering.{has_dot, has_dots, black_moves, is_black_to_move, numbers_fit, with_number, digits_numbered}
 use Rattle.study_import.proofs.Blanks.{IsGap}
 
 -- ---- digits
@@ -177,14 +177,14 @@ Fits start d s digits rest =
     (next : Numbering) × (digits_numbered start.position.to_move d s digits rest ≡ Some next) × IsFirst start next.first
 
 fit_again : (start : Start) (first n : MoveNumber) → first.number ≡ start.number + black_moves start.position.to_move first.depth
-    → n.number ≡ start.number + black_moves start.position.to_move n.depth → fit start.position.to_move first n ≡ true
+    → n.number ≡ start.number + black_moves start.position.to_move n.depth → numbers_fit start.position.to_move first n ≡ true
 fit_again start first n h k =
     let side = start.position.to_move in
     rw (eq-eqb (first.number + black_moves side n.depth) (n.number + black_moves side first.depth) (omega (arith, h, k))) refl
 
 numbered_again : (start : Start) (o : Option MoveNumber) (dots : Bool) (n : MoveNumber) → IsFirst start o
     → n.number ≡ start.number + black_moves start.position.to_move n.depth → (is_black_to_move start.position.to_move n.depth || not dots) ≡ true
-    → (next : Numbering) × (numbered start.position.to_move (record { first = o }) dots n ≡ Some next) × IsFirst start next.first
+    → (next : Numbering) × (with_number start.position.to_move (record { first = o }) dots n ≡ Some next) × IsFirst start next.first
 numbered_again start None dots n h k marked = (record { first = Some n }, rw marked refl, k)
 numbered_again start (Some first) dots n h k marked = (record { first = Some first }, rw (marked, fit_again start first n h k) refl, h)
 

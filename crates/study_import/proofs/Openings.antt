@@ -2,10 +2,10 @@
 use Rattle.std.proofs.Common.{◌≡◌, ℕ, Bool, true, false, List, length, Result, Ok, Err, subst}
 use Rattle.std.specs.Prelude.{◌==◌, not, nat_le, if◌then◌else◌}
 use Rattle.study_games.specs.Tokens.{Token}
-use Rattle.study_import.specs.declared.taking.Reason.{Reason}
-use Rattle.study_import.specs.declared.notes.Notes.{Notes}
-use Rattle.study_import.specs.Taken.{Taken, taken}
-use Rattle.study_import.specs.Notes.{GameRead, GameTaken, noted, noted_on, is_header_tag, game_taken}
+use Rattle.study_import.specs.declared.game.token_effects.Reason.{Reason}
+use Rattle.study_import.specs.declared.game.notes.Notes.{Notes}
+use Rattle.study_import.specs.Taken.{Taken, after_token}
+use Rattle.study_import.specs.Notes.{GameRead, GameTaken, with_token, noted_on, is_header_tag, game_taken}
 use Rattle.study_import.specs.Movetext.{Ended, read_moves}
 use Rattle.study_import.specs.Laws.{IsGiven}
 use Rattle.study_import.proofs.AimsCounted.{opening_noted}
@@ -26,7 +26,7 @@ opening_or g n x t false h k e = noted_opening n x t k e
 
 opening_taken : (g : GameRead) (token : Token) (t : GameTaken) → HasOpening g → game_taken g token ≡ Ok t → HasOpening t.game
 opening_taken g token t h e =
-    opening_or g (noted g.notes (nat_le 1 g.reading.lines.cut) (not (length g.reading.lines.waiting == 0)) token) (taken g.reading token) t
+    opening_or g (with_token g.notes (nat_le 1 g.reading.lines.cut) (not (length g.reading.lines.waiting == 0)) token) (after_token g.reading token) t
     (is_header_tag g.notes token) h
     (opening_noted g.notes (nat_le 1 g.reading.lines.cut) (not (length g.reading.lines.waiting == 0)) token h) e
 

@@ -20,20 +20,20 @@ use Rattle.study_games.specs.declared.symbols.Said.{Said}
 use Rattle.study_games.specs.declared.symbols.Said.TheVariants as say
 use Rattle.study_games.specs.Symbols.{said_of, san_in}
 use Rattle.study_games.specs.Tokens.{Token, blank, aside, opening, closing, star, tag, comment, rest, sign, symbol}
-use Rattle.study_import.specs.declared.lines.Waiting.{Waiting}
-use Rattle.study_import.specs.declared.lines.LineFault.{LineFault}
-use Rattle.study_import.specs.declared.lines.LineFault.TheVariants as line_fault
-use Rattle.study_import.specs.declared.moves.MoveFault.{MoveFault}
-use Rattle.study_import.specs.declared.moves.MoveFault.TheVariants as move_fault
-use Rattle.study_import.specs.declared.notes.Notes.{Notes}
-use Rattle.study_import.specs.declared.taking.Reason.{Reason}
-use Rattle.study_import.specs.declared.taking.Reason.TheVariants as reason
-use Rattle.study_import.specs.declared.movetext.Stop.TheVariants as stop
-use Rattle.study_import.specs.Lines.{Lines, varied, begin_line, resumed, end_line}
-use Rattle.study_import.specs.Moves.{After, stepped, moved_by, met, moved}
-use Rattle.study_import.specs.Reading.{Reading, gone_on, read_on, played, symbol_played}
-use Rattle.study_import.specs.Taken.{Taken, going_on, on_line, cut_line, on_move, taken_symbol, taken_sign, taken}
-use Rattle.study_import.specs.Notes.{GameRead, GameTaken, is_header_tag, noted, noted_on, game_taken}
+use Rattle.study_import.specs.declared.game.lines.Waiting.{Waiting}
+use Rattle.study_import.specs.declared.game.lines.LineFault.{LineFault}
+use Rattle.study_import.specs.declared.game.lines.LineFault.TheVariants as line_fault
+use Rattle.study_import.specs.declared.game.moves.MoveFault.{MoveFault}
+use Rattle.study_import.specs.declared.game.moves.MoveFault.TheVariants as move_fault
+use Rattle.study_import.specs.declared.game.notes.Notes.{Notes}
+use Rattle.study_import.specs.declared.game.token_effects.Reason.{Reason}
+use Rattle.study_import.specs.declared.game.token_effects.Reason.TheVariants as reason
+use Rattle.study_import.specs.declared.game.movetext.Stop.TheVariants as stop
+use Rattle.study_import.specs.Lines.{Lines, lines_in_variation, begin_line, lines_after_variation, end_line}
+use Rattle.study_import.specs.Moves.{After, child_or_added, moved_by, after_san, after_move_text}
+use Rattle.study_import.specs.Reading.{Reading, gone_on, read_on, after_move, symbol_played}
+use Rattle.study_import.specs.Taken.{Taken, going_on, on_line, cut_line, on_move, taken_symbol, taken_sign, after_token}
+use Rattle.study_import.specs.Notes.{GameRead, GameTaken, is_header_tag, with_token, noted_on, game_taken}
 use Rattle.study_import.specs.Blocks.{no_moves, game_read}
 use Rattle.study_import.specs.Laws.{IsListed, AreListed}
 use Rattle.study_import.specs.Movetext.{read_moves}
@@ -133,7 +133,7 @@ IsPlaced r = Known r.study.tree.below r.lines.path r.lines.begun r.lines.waiting
 -- ---- moves
 
 stepped_placed : (r : Reading) (m : Move) (place : Option ℕ) (deep full : Bool) (a : After) → IsPlaced r → place_at r.study.tree.below r.lines.path m ≡ place
-    → stepped r.study r.lines.path m place deep full ≡ Ok a → IsPlaced (gone_on r a)
+    → child_or_added r.study r.lines.path m place deep full ≡ Ok a → IsPlaced (gone_on r a)
 unfolding IsPlaced
 stepped_placed r m (Some k) deep full a h p e =
     let is : record { study = r.study; step = record { place = k; added = None } } ≡ a = cc in
@@ -157,21 +157,21 @@ MoveOk r (Ok a) = IsPlaced (gone_on r a)
 MoveOk r (Err fault) = IsListed (stop.Taking (reason.Move fault))
 
 stepped_ok : (r : Reading) (m : Move) (place : Option ℕ) (deep full : Bool) → IsPlaced r → place_at r.study.tree.below r.lines.path m ≡ place
-    → MoveOk r (stepped r.study r.lines.path m place deep full)
+    → MoveOk r (child_or_added r.study r.lines.path m place deep full)
 unfolding MoveOk
 stepped_ok r m (Some k) deep full h p = stepped_placed r m (Some k) deep full _ h p refl
 stepped_ok r m None true full h p = tt
 stepped_ok r m None false true h p = tt
 stepped_ok r m None false false h p = stepped_placed r m None false false _ h p refl
 
-met_ok : (r : Reading) (x : Result Move SanFault) → IsPlaced r → MoveOk r (met r.study r.lines.path x)
+met_ok : (r : Reading) (x : Result Move SanFault) → IsPlaced r → MoveOk r (after_san r.study r.lines.path x)
 unfolding MoveOk moved_by
 met_ok r (Err fault) h = tt
 met_ok r (Ok m) h =
     stepped_ok r m (place_at r.study.tree.below r.lines.path m) (nat_le 256 (length r.lines.path)) (nat_le 4096 (size_of r.study.tree)) h refl
 
-moved_ok : (r : Reading) (san : List ℕ) → IsPlaced r → MoveOk r (moved r.study r.lines.path san)
-unfolding moved IsPlaced
+moved_ok : (r : Reading) (san : List ℕ) → IsPlaced r → MoveOk r (after_move_text r.study r.lines.path san)
+unfolding after_move_text IsPlaced
 moved_ok r san h = rw (here r.study.tree.below r.lines.path r.lines.begun r.lines.waiting h).0 (met_ok r (move_of (position_at r.study r.lines.path) san) h)
 
 -- the result of a symbol
@@ -184,12 +184,12 @@ unfolding MoveOk ReadOk
 on_ok r (Ok a) h = h
 on_ok r (Err fault) h = h
 
-played_ok : (r : Reading) (san : List ℕ) → IsPlaced r → ReadOk (played r san)
-unfolding played
-played_ok r san h = on_ok r (moved r.study r.lines.path san) (moved_ok r san h)
+played_ok : (r : Reading) (san : List ℕ) → IsPlaced r → ReadOk (after_move r san)
+unfolding after_move
+played_ok r san h = on_ok r (after_move_text r.study r.lines.path san) (moved_ok r san h)
 
 symbol_by : (r : Reading) (san : List ℕ) (cut long prints : Bool) → IsPlaced r
-    → ReadOk (if cut then Ok r else (if long then Err (move_fault.San NotSan) else (if prints then played r san else Err (move_fault.San NotSan))))
+    → ReadOk (if cut then Ok r else (if long then Err (move_fault.San NotSan) else (if prints then after_move r san else Err (move_fault.San NotSan))))
 unfolding ReadOk
 symbol_by r san true long prints h = h
 symbol_by r san false true prints h = tt
@@ -212,7 +212,7 @@ whole_path path some =
     ap (λ (t : List ℕ). t ++ slice_index path (length path - 1) ∷ []) (take-take (length path - 1) (length path - 1) path (omega arith))
     ∙ sym (take_more path (length path - 1) 0 (omega arith)) ∙ ap (λ n. take n path) up ∙ take_all (length path) path (omega arith)
 
-varied_ok : (f : Plain) (l : Lines) → l.begun < length l.path → Known f l.path l.begun l.waiting → LineOk f (Ok (varied l))
+varied_ok : (f : Plain) (l : Lines) → l.begun < length l.path → Known f l.path l.begun l.waiting → LineOk f (Ok (lines_in_variation l))
 unfolding LineOk Known
 varied_ok f l lt h =
     let known = here f l.path l.begun l.waiting h in
@@ -224,7 +224,8 @@ varied_ok f l lt h =
 
 begin_by : (f : Plain) (l : Lines) (cut bare full : Bool) (cut_on : Lines) → nat_le (length l.path) l.begun ≡ bare → Known f l.path l.begun l.waiting
     → Known f cut_on.path cut_on.begun cut_on.waiting
-    → LineOk f (if cut then Ok cut_on else (if bare then Err line_fault.NoMoveBefore else (if full then Err line_fault.TooNested else Ok (varied l))))
+    → LineOk f (if cut then Ok cut_on else (if bare then Err line_fault.NoMoveBefore else
+    (if full then Err line_fault.TooNested else Ok (lines_in_variation l))))
 unfolding LineOk
 begin_by f l true bare full cut_on e h k = k
 begin_by f l false true full cut_on e h k = tt
@@ -235,7 +236,7 @@ begin_ok : (f : Plain) (l : Lines) → Known f l.path l.begun l.waiting → Line
 unfolding begin_line
 begin_ok f l h = begin_by f l (nat_le 1 l.cut) (nat_le (length l.path) l.begun) (nat_le 256 (length l.waiting)) _ refl h h
 
-resumed_ok : (f : Plain) (l : Lines) (ws : List Waiting) → Known f l.path l.begun ws → LineOk f (resumed l ws)
+resumed_ok : (f : Plain) (l : Lines) (ws : List Waiting) → Known f l.path l.begun ws → LineOk f (lines_after_variation l ws)
 unfolding LineOk Known
 resumed_ok f l [] h = tt
 resumed_ok f l (w ∷ ws) h = h.2
@@ -246,7 +247,7 @@ end_by f false x y h k = k
 
 end_ok : (f : Plain) (l : Lines) → Known f l.path l.begun l.waiting → LineOk f (end_line l)
 unfolding end_line LineOk
-end_ok f l h = end_by f (nat_le 2 l.cut) _ (resumed l l.waiting) h (resumed_ok f l l.waiting h)
+end_ok f l h = end_by f (nat_le 2 l.cut) _ (lines_after_variation l l.waiting) h (resumed_ok f l l.waiting h)
 
 -- ---- tokens
 
@@ -284,7 +285,7 @@ unfolding TakenOk IsPlaced
 sign_taken r true h = null_taken r (length r.lines.waiting == 0) h
 sign_taken r false h = h
 
-token_taken : (r : Reading) (token : Token) → IsPlaced r → TakenOk (taken r token)
+token_taken : (r : Reading) (token : Token) → IsPlaced r → TakenOk (after_token r token)
 unfolding TakenOk IsPlaced
 token_taken r blank h = h
 token_taken r aside h = h
@@ -314,9 +315,9 @@ game_by g x false h k = k
 
 game_ok : (g : GameRead) (token : Token) → IsPlaced g.reading → GameOk (game_taken g token)
 game_ok g token h =
-    game_by g (noted_on (noted g.notes (nat_le 1 g.reading.lines.cut) (not (length g.reading.lines.waiting == 0)) token) (taken g.reading token))
+    game_by g (noted_on (with_token g.notes (nat_le 1 g.reading.lines.cut) (not (length g.reading.lines.waiting == 0)) token) (after_token g.reading token))
     (is_header_tag g.notes token) h
-    (noted_ok (noted g.notes (nat_le 1 g.reading.lines.cut) (not (length g.reading.lines.waiting == 0)) token) (taken g.reading token)
+    (noted_ok (with_token g.notes (nat_le 1 g.reading.lines.cut) (not (length g.reading.lines.waiting == 0)) token) (after_token g.reading token)
     (token_taken g.reading token h))
 
 -- ---- a game

@@ -26,12 +26,12 @@ use Rattle.study_marks.specs.declared.stipulation.Goal.TheVariants as goal
 use Rattle.study_marks.specs.Verdict.{Verdict, wrong, sound, unsound, verdict}
 use Rattle.study_marks.specs.Study.{Study, IsPlayable}
 use Rattle.study_pgn.specs.Values.{side_name, mates_text, value_text, win_of, result_text}
-use Rattle.study_pgn.specs.Moves.{move_dots, number_text, glyph_text, dual_text, comment_text, words_of_move, following, variations}
+use Rattle.study_pgn.specs.Moves.{move_dots, number_text, glyph_text, dual_text, comment_text, words_of_move, continuation_text, variations}
 use Rattle.study_pgn.specs.Pgn.{goal_text, stipulation_text, verdict_text, opening_words, opening_text, movetext}
 use Rattle.study_pgn.specs.Wrap.{lines_text}
 use Rattle.study_games.specs.Bytes.{is_digit}
 use Rattle.study_games.proofs.Lexing.{is_plain_symbol}
-use Rattle.study_import.specs.Written.{plainly, CanBeMade}
+use Rattle.study_import.specs.Written.{without_marks, CanBeMade}
 use Rattle.study_import.proofs.Ink.{decimal_few}
 use Rattle.study_import.proofs.Spelling.{move_short}
 use Rattle.study_import.proofs.Blanks.{Same, lines_same, same_all}
@@ -145,9 +145,9 @@ move_piece st m mark valid legal =
 -- ---- the tree: at most 240 bytes a node
 
 abbrev nodes : Forest Mark → ℕ
-nodes f = nodes_in (plainly f)
+nodes f = nodes_in (without_marks f)
 
-forest_pieces : (f : Forest Mark) (st : Start) → IsValid st.position → IsPlayable st.position (plainly f) → Piece (240 * nodes f) (following st f)
+forest_pieces : (f : Forest Mark) (st : Start) → IsValid st.position → IsPlayable st.position (without_marks f) → Piece (240 * nodes f) (continuation_text st f)
     × Piece (240 * nodes f) (variations st f)
 forest_pieces none st valid h = (spelled 0 [] refl refl, spelled 0 [] refl refl)
 forest_pieces (more m mark b r) st valid h =
@@ -159,14 +159,14 @@ forest_pieces (more m mark b r) st valid h =
     let y = nodes r in
     let first = move_piece st m mark valid h.0 in (
       wider (1 + (233 + (240 * y + 240 * x))) (240 * (1 + x + y)) _ (omega arith)
-          (joined 1 (233 + (240 * y + 240 * x)) (codes " ") (w ++ (variations st r ++ following next b)) (spelled 1 (codes " ") refl refl)
-          (joined 233 (240 * y + 240 * x) w (variations st r ++ following next b) first
-          (joined (240 * y) (240 * x) (variations st r) (following next b) others.1 below.0))),
+          (joined 1 (233 + (240 * y + 240 * x)) (codes " ") (w ++ (variations st r ++ continuation_text next b)) (spelled 1 (codes " ") refl refl)
+          (joined 233 (240 * y + 240 * x) w (variations st r ++ continuation_text next b) first
+          (joined (240 * y) (240 * x) (variations st r) (continuation_text next b) others.1 below.0))),
       wider (2 + (233 + (240 * x + (1 + 240 * y)))) (240 * (1 + x + y)) _ (omega arith)
-          (joined 2 (233 + (240 * x + (1 + 240 * y))) (codes " (") (w ++ (following next b ++ (codes ")" ++ variations st r)))
+          (joined 2 (233 + (240 * x + (1 + 240 * y))) (codes " (") (w ++ (continuation_text next b ++ (codes ")" ++ variations st r)))
           (spelled 2 (codes " (") refl refl)
-          (joined 233 (240 * x + (1 + 240 * y)) w (following next b ++ (codes ")" ++ variations st r)) first
-          (joined (240 * x) (1 + 240 * y) (following next b) (codes ")" ++ variations st r) below.0
+          (joined 233 (240 * x + (1 + 240 * y)) w (continuation_text next b ++ (codes ")" ++ variations st r)) first
+          (joined (240 * x) (1 + 240 * y) (continuation_text next b) (codes ")" ++ variations st r) below.0
           (joined 1 (240 * y) (codes ")") (variations st r) (spelled 1 (codes ")") refl refl) others.1)))),
     )
 
@@ -205,7 +205,7 @@ movetext_piece : (s : Study Mark) → CanBeMade s → Piece (240 * nodes s.tree.
 unfolding movetext opening_text
 movetext_piece s c =
     let x = nodes s.tree.below in
-    let fo = following s.start s.tree.below in
+    let fo = continuation_text s.start s.tree.below in
     let result = result_text s.start.position.to_move s.tree.label.value in
     wider ((1 + (236 + 1)) + (240 * x + (1 + 7))) (240 * x + 246) _ (omega arith)
     (joined (1 + (236 + 1)) (240 * x + (1 + 7)) (codes "{" ++ (opening_words s ++ codes "}")) (fo ++ (codes " " ++ result))

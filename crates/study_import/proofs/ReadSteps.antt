@@ -18,21 +18,21 @@ use Rattle.study_games.specs.Bytes.{is_digit, begins_symbol, is_symbol_byte}
 use Rattle.study_games.specs.declared.symbols.Said.{Said}
 use Rattle.study_games.specs.declared.symbols.Said.TheVariants as say
 use Rattle.study_games.specs.Symbols.{said_of, san_in}
-use Rattle.study_games.specs.Tokens.{Token, Lexed, lexed, behind, is_inside, closed, comment_at, blank, aside, opening, closing, comment, symbol}
+use Rattle.study_games.specs.Tokens.{Token, Lexed, lexed_token, behind, is_inside, lexed_comment, comment_at, blank, aside, opening, closing, comment, symbol}
 use Rattle.study_games.proofs.Lexing.{Stops, run_cut, is_plain_symbol, symbol_read}
-use Rattle.study_import.specs.declared.lines.Waiting.{Waiting}
-use Rattle.study_import.specs.declared.lines.LineFault.{LineFault}
-use Rattle.study_import.specs.declared.moves.MoveFault.{MoveFault}
-use Rattle.study_import.specs.declared.notes.Notes.{Notes}
-use Rattle.study_import.specs.declared.taking.Reason.{Reason}
-use Rattle.study_import.specs.declared.movetext.MovesFault.{MovesFault}
+use Rattle.study_import.specs.declared.game.lines.Waiting.{Waiting}
+use Rattle.study_import.specs.declared.game.lines.LineFault.{LineFault}
+use Rattle.study_import.specs.declared.game.moves.MoveFault.{MoveFault}
+use Rattle.study_import.specs.declared.game.notes.Notes.{Notes}
+use Rattle.study_import.specs.declared.game.token_effects.Reason.{Reason}
+use Rattle.study_import.specs.declared.game.movetext.MovesFault.{MovesFault}
 use Rattle.study_import.specs.Lines.{Lines, begin_line, end_line}
-use Rattle.study_import.specs.Moves.{moved, moved_by}
-use Rattle.study_import.specs.Reading.{Reading, played, symbol_played}
+use Rattle.study_import.specs.Moves.{after_move_text, moved_by}
+use Rattle.study_import.specs.Reading.{Reading, after_move, symbol_played}
 use Rattle.study_import.specs.Taken.{on_line, on_move, taken_symbol}
 use Rattle.study_import.specs.Aims.{aim_in}
-use Rattle.study_import.specs.Notes.{GameRead, GameTaken, begun, with_aside, with_comment, with_move, with_said, noted_on, game_taken}
-use Rattle.study_import.specs.declared.numbering.Numbering.{Numbering}
+use Rattle.study_import.specs.Notes.{GameRead, GameTaken, after_header, with_aside, with_comment, with_move, with_said, noted_on, game_taken}
+use Rattle.study_import.specs.declared.game.numbering.Numbering.{Numbering}
 use Rattle.study_import.specs.Numbering.{digits_numbered, said_numbered, token_numbered}
 use Rattle.study_import.specs.Movetext.{Ended, goes_on, game_numbered, with_numbering, on_numbered, on_token, read_moves}
 use Rattle.study_import.proofs.Whole.{same_token, within_lexed, moves_same}
@@ -48,13 +48,14 @@ abbrev pub reads : Bool → List ℕ → GameRead → Result Ended MovesFault
 reads fresh text g = read_moves (length text) fresh text g
 
 pub on_reads : (fresh : Bool) (b : ℕ) (bs : List ℕ) (g : GameRead)
-    → reads fresh (b ∷ bs) g ≡ on_token (λ rest h. reads (b == 10) rest h) (length (b ∷ bs)) g (lexed fresh b bs)
+    → reads fresh (b ∷ bs) g ≡ on_token (λ rest h. reads (b == 10) rest h) (length (b ∷ bs)) g (lexed_token fresh b bs)
 on_reads fresh b bs g =
-    same_token (read_moves (length bs) (b == 10)) (λ rest h. reads (b == 10) rest h) (length (b ∷ bs)) (length bs) g (lexed fresh b bs)
+    same_token (read_moves (length bs) (b == 10)) (λ rest h. reads (b == 10) rest h) (length (b ∷ bs)) (length bs) g (lexed_token fresh b bs)
     (within_lexed fresh b bs)
     (λ rest h le. moves_same (length bs) (length rest) (b == 10) rest h le (omega arith))
 
-pub on_number : (fresh : Bool) (b : ℕ) (bs : List ℕ) (g : GameRead) (t : Token) (rest : List ℕ) (s : Numbering) (h : GameRead) → lexed fresh b bs ≡ Ok (t, rest)
+pub on_number : (fresh : Bool) (b : ℕ) (bs : List ℕ) (g : GameRead) (t : Token) (rest : List ℕ) (s : Numbering) (h : GameRead)
+    → lexed_token fresh b bs ≡ Ok (t, rest)
     → game_numbered g t rest ≡ Some s → game_taken (with_numbering g s) t ≡ Ok (record { game = h; ended = false })
     → reads fresh (b ∷ bs) g ≡ reads (b == 10) rest h
 on_number fresh b bs g t rest s h l i k =
@@ -74,7 +75,7 @@ quiet_numbered g t rest q =
     same true x y e = refl
     same false x y e = e
 
-pub on_step : (fresh : Bool) (b : ℕ) (bs : List ℕ) (g : GameRead) (t : Token) (rest : List ℕ) (h : GameRead) → lexed fresh b bs ≡ Ok (t, rest)
+pub on_step : (fresh : Bool) (b : ℕ) (bs : List ℕ) (g : GameRead) (t : Token) (rest : List ℕ) (h : GameRead) → lexed_token fresh b bs ≡ Ok (t, rest)
     → IsQuiet t rest → game_taken g t ≡ Ok (record { game = h; ended = false }) → reads fresh (b ∷ bs) g ≡ reads (b == 10) rest h
 on_step fresh b bs g t rest h l q k = on_number fresh b bs g t rest g.notes.numbering h l (quiet_numbered g t rest q) k
 
@@ -103,8 +104,8 @@ reached_on text mid rest s u p q b c ws vs o g r f =
     let k = f r.next r.at in
     record { next = k.next; goes = λ fresh. let x = r.goes fresh in let y = k.goes x.0 in (y.0, x.1 ∙ y.1); at = k.at }
 
-pub lexed_brace : (bs : List ℕ) (fresh : Bool) → lexed fresh 123 bs ≡ comment_at bs
-unfolding lexed
+pub lexed_brace : (bs : List ℕ) (fresh : Bool) → lexed_token fresh 123 bs ≡ comment_at bs
+unfolding lexed_token
 lexed_brace bs true = refl
 lexed_brace bs false = refl
 
@@ -112,11 +113,11 @@ pub comment_is : (text rest : List ℕ) → list_all is_inside text ≡ true →
 unfolding comment_at
 comment_is text rest all =
     let cut = run_cut is_inside text (125 ∷ rest) all refl in
-    ap (λ (x : List ℕ). closed x (behind is_inside (text ++ (125 ∷ rest)))) cut.0 ∙ ap (closed text) cut.1
+    ap (λ (x : List ℕ). lexed_comment x (behind is_inside (text ++ (125 ∷ rest)))) cut.0 ∙ ap (lexed_comment text) cut.1
 
 module _ (s : PlainStudy) (path : List ℕ) (from : ℕ) (ws : List Waiting) (o : Option Stipulation) (g : GameRead) (at : At s path from ws o g) where
   -- a token that changes only the notes
-  noted_step : (b : ℕ) (bs rest : List ℕ) (t : Token) (n : Notes) → ((fresh : Bool) → lexed fresh b bs ≡ Ok (t, rest))
+  noted_step : (b : ℕ) (bs rest : List ℕ) (t : Token) (n : Notes) → ((fresh : Bool) → lexed_token fresh b bs ≡ Ok (t, rest))
       → IsQuiet t rest → game_taken g t ≡ Ok (record { game = record { reading = g.reading; notes = n }; ended = false }) → n.opening ≡ g.notes.opening
       → n.has_comment ≡ true → n.numbering ≡ g.notes.numbering → Reached (b ∷ bs) rest s path from ws o g
   noted_step b bs rest t n l q k e h i = record {
@@ -132,24 +133,24 @@ module _ (s : PlainStudy) (path : List ℕ) (from : ℕ) (ws : List Waiting) (o 
     };
   }
 
-  lexed_space : (bs : List ℕ) (fresh : Bool) → lexed fresh 32 bs ≡ Ok (blank, bs)
-  unfolding lexed
+  lexed_space : (bs : List ℕ) (fresh : Bool) → lexed_token fresh 32 bs ≡ Ok (blank, bs)
+  unfolding lexed_token
   lexed_space bs true = refl
   lexed_space bs false = refl
 
-  lexed_feed : (bs : List ℕ) (fresh : Bool) → lexed fresh 10 bs ≡ Ok (blank, bs)
-  unfolding lexed
+  lexed_feed : (bs : List ℕ) (fresh : Bool) → lexed_token fresh 10 bs ≡ Ok (blank, bs)
+  unfolding lexed_token
   lexed_feed bs true = refl
   lexed_feed bs false = refl
 
-  lexed_dot : (bs : List ℕ) (fresh : Bool) → lexed fresh 46 bs ≡ Ok (blank, bs)
-  unfolding lexed
+  lexed_dot : (bs : List ℕ) (fresh : Bool) → lexed_token fresh 46 bs ≡ Ok (blank, bs)
+  unfolding lexed_token
   lexed_dot bs true = refl
   lexed_dot bs false = refl
 
-  gap_lexed : (b : ℕ) (bs : List ℕ) → IsGap b → (fresh : Bool) → lexed fresh b bs ≡ Ok (blank, bs)
-  gap_lexed b bs (inl e) fresh = subst (λ (x : ℕ). lexed fresh x bs ≡ Ok (blank, bs)) (sym e) (lexed_space bs fresh)
-  gap_lexed b bs (inr e) fresh = subst (λ (x : ℕ). lexed fresh x bs ≡ Ok (blank, bs)) (sym e) (lexed_feed bs fresh)
+  gap_lexed : (b : ℕ) (bs : List ℕ) → IsGap b → (fresh : Bool) → lexed_token fresh b bs ≡ Ok (blank, bs)
+  gap_lexed b bs (inl e) fresh = subst (λ (x : ℕ). lexed_token fresh x bs ≡ Ok (blank, bs)) (sym e) (lexed_space bs fresh)
+  gap_lexed b bs (inr e) fresh = subst (λ (x : ℕ). lexed_token fresh x bs ≡ Ok (blank, bs)) (sym e) (lexed_feed bs fresh)
 
   pub gap_step : (b : ℕ) (bs : List ℕ) → IsGap b → Reached (b ∷ bs) bs s path from ws o g
   gap_step b bs gap = noted_step b bs bs blank g.notes (gap_lexed b bs gap) (λ _ _ _. refl) refl refl at.had refl
@@ -160,9 +161,9 @@ module _ (s : PlainStudy) (path : List ℕ) (from : ℕ) (ws : List Waiting) (o 
   -- ---- numbers
 
   symbol_lexed : (w : List ℕ) (b : ℕ) (bs rest : List ℕ) → begins_symbol b ≡ true → list_all is_plain_symbol (b ∷ bs) ≡ true → Stops is_symbol_byte rest
-      → (fresh : Bool) → lexed fresh b (bs ++ rest) ≡ Ok (symbol (b ∷ bs), rest)
+      → (fresh : Bool) → lexed_token fresh b (bs ++ rest) ≡ Ok (symbol (b ∷ bs), rest)
   symbol_lexed w b bs rest begins all stops fresh =
-      some_is (lexed fresh b (bs ++ rest)) (Ok (symbol (b ∷ bs), rest)) (symbol_read fresh b bs rest begins all stops)
+      some_is (lexed_token fresh b (bs ++ rest)) (Ok (symbol (b ∷ bs), rest)) (symbol_read fresh b bs rest begins all stops)
 
   same_reading : g.reading ≡ record { study = s; lines = record { path = path; begun = from; waiting = ws; cut = 0 }; inserts = g.reading.inserts }
   same_reading =
@@ -177,7 +178,7 @@ module _ (s : PlainStudy) (path : List ℕ) (from : ℕ) (ws : List Waiting) (o 
   number_step b bs rest begins all said stops next is first =
       let t = symbol (b ∷ bs) in
       let notes : Notes = record g.notes { numbering = next } in
-      let h : GameRead = record { reading = g.reading; notes = begun notes } in
+      let h : GameRead = record { reading = g.reading; notes = after_header notes } in
       let fits : game_numbered g t rest ≡ Some next =
       ap (λ (r : Reading). if nat_le 1 r.lines.cut then Some g.notes.numbering else token_numbered r.study.start.position.to_move (length r.lines.path)
       g.notes.numbering t rest) same_reading
@@ -193,8 +194,8 @@ module _ (s : PlainStudy) (path : List ℕ) (from : ℕ) (ws : List Waiting) (o 
 
   -- ---- NAGs
 
-  lexed_dollar : (bs : List ℕ) (fresh : Bool) → lexed fresh 36 bs ≡ Ok (aside, behind is_digit bs)
-  unfolding lexed
+  lexed_dollar : (bs : List ℕ) (fresh : Bool) → lexed_token fresh 36 bs ≡ Ok (aside, behind is_digit bs)
+  unfolding lexed_token
   lexed_dollar bs true = refl
   lexed_dollar bs false = refl
 
@@ -239,7 +240,7 @@ module _ (s : PlainStudy) (path : List ℕ) (from : ℕ) (ws : List Waiting) (o 
 
   plays : (inserts text : List ℕ) (m : Move) → IsNew text m
       → Played (symbol_played (record { study = s; lines = record { path = path; begun = from; waiting = ws; cut = 0 }; inserts = inserts }) text) m
-  unfolding symbol_played played moved moved_by
+  unfolding symbol_played after_move after_move_text moved_by
   plays inserts text m h =
       rw (le-ltb 32 (length text) h.few, h.prints, h.found, h.means, h.place, lt-leb 256 (length path) h.depth, lt-leb 4096 (size_of s.tree) h.room)
       (record { reading = _; is = refl; study = refl; lines = refl })
@@ -268,22 +269,22 @@ module _ (s : PlainStudy) (path : List ℕ) (from : ℕ) (ws : List Waiting) (o 
 
   -- ---- variations
 
-  lexed_open : (bs : List ℕ) (fresh : Bool) → lexed fresh 40 bs ≡ Ok (opening, bs)
-  unfolding lexed
+  lexed_open : (bs : List ℕ) (fresh : Bool) → lexed_token fresh 40 bs ≡ Ok (opening, bs)
+  unfolding lexed_token
   lexed_open bs true = refl
   lexed_open bs false = refl
 
-  lexed_close : (bs : List ℕ) (fresh : Bool) → lexed fresh 41 bs ≡ Ok (closing, bs)
-  unfolding lexed
+  lexed_close : (bs : List ℕ) (fresh : Bool) → lexed_token fresh 41 bs ≡ Ok (closing, bs)
+  unfolding lexed_token
   lexed_close bs true = refl
   lexed_close bs false = refl
 
-  line_step : (b : ℕ) (bs : List ℕ) (t : Token) (x : Result Lines LineFault) (l : Lines) → ((fresh : Bool) → lexed fresh b bs ≡ Ok (t, bs)) → IsQuiet t bs
-      → game_taken g t ≡ noted_on (begun g.notes) (on_line g.reading x) → x ≡ Ok l → l.cut ≡ 0 → Reached (b ∷ bs) bs s l.path l.begun l.waiting o g
+  line_step : (b : ℕ) (bs : List ℕ) (t : Token) (x : Result Lines LineFault) (l : Lines) → ((fresh : Bool) → lexed_token fresh b bs ≡ Ok (t, bs)) → IsQuiet t bs
+      → game_taken g t ≡ noted_on (after_header g.notes) (on_line g.reading x) → x ≡ Ok l → l.cut ≡ 0 → Reached (b ∷ bs) bs s l.path l.begun l.waiting o g
   line_step b bs t x l lex q k e cut =
-      let next : GameRead = record { reading = record { study = g.reading.study; lines = l; inserts = g.reading.inserts }; notes = begun g.notes } in
+      let next : GameRead = record { reading = record { study = g.reading.study; lines = l; inserts = g.reading.inserts }; notes = after_header g.notes } in
       let takes : game_taken g t ≡ Ok (record { game = next; ended = false }) = k
-      ∙ ap (λ (y : Result Lines LineFault). noted_on (begun g.notes) (on_line g.reading y)) e in
+      ∙ ap (λ (y : Result Lines LineFault). noted_on (after_header g.notes) (on_line g.reading y)) e in
       record {
         next = next;
         goes = λ fresh. (b == 10, on_step fresh b bs g t bs next (lex fresh) q takes);

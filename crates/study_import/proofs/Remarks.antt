@@ -20,28 +20,28 @@ use Rattle.study_command.specs.Parser.{Asks, command_of}
 use Rattle.study_reply.specs.Names.{fen_name, san_name}
 use Rattle.study_games.specs.Bytes.{is_blank, is_digit, is_symbol_byte}
 use Rattle.study_games.specs.Tokens.{front, behind}
-use Rattle.study_games.specs.Words.{first_word, trimmed}
-use Rattle.study_games.specs.Header.{Pair, tags_of, value_of, unescaped}
+use Rattle.study_games.specs.Words.{first_word, trim}
+use Rattle.study_games.specs.Header.{Pair, tags_of, value_of, unescape}
 use Rattle.study_games.specs.declared.token.TokenFault.{TokenFault}
 use Rattle.study_games.specs.declared.token.TokenFault.TheVariants as token
-use Rattle.study_import.specs.declared.lines.LineFault.{LineFault}
-use Rattle.study_import.specs.declared.lines.LineFault.TheVariants as line_fault
-use Rattle.study_import.specs.declared.moves.MoveFault.{MoveFault}
-use Rattle.study_import.specs.declared.moves.MoveFault.TheVariants as move_fault
-use Rattle.study_import.specs.declared.taking.Reason.{Reason}
-use Rattle.study_import.specs.declared.taking.Reason.TheVariants as reason
-use Rattle.study_import.specs.declared.movetext.MovesFault.{MovesFault}
-use Rattle.study_import.specs.declared.movetext.Stop.{Stop}
-use Rattle.study_import.specs.declared.movetext.Stop.TheVariants as stop
-use Rattle.study_import.specs.declared.aims.Aim.{Aim}
-use Rattle.study_import.specs.declared.aims.AimSource.{AimSource}
-use Rattle.study_import.specs.declared.aims.AimSource.TheVariants.{Comment, StipulationTag, ResultTag, Result as EndResult, Given}
-use Rattle.study_import.specs.declared.notes.Notes.{Notes}
+use Rattle.study_import.specs.declared.game.lines.LineFault.{LineFault}
+use Rattle.study_import.specs.declared.game.lines.LineFault.TheVariants as line_fault
+use Rattle.study_import.specs.declared.game.moves.MoveFault.{MoveFault}
+use Rattle.study_import.specs.declared.game.moves.MoveFault.TheVariants as move_fault
+use Rattle.study_import.specs.declared.game.token_effects.Reason.{Reason}
+use Rattle.study_import.specs.declared.game.token_effects.Reason.TheVariants as reason
+use Rattle.study_import.specs.declared.game.movetext.MovesFault.{MovesFault}
+use Rattle.study_import.specs.declared.game.movetext.Stop.{Stop}
+use Rattle.study_import.specs.declared.game.movetext.Stop.TheVariants as stop
+use Rattle.study_import.specs.declared.game.aims.Aim.{Aim}
+use Rattle.study_import.specs.declared.game.aims.AimSource.{AimSource}
+use Rattle.study_import.specs.declared.game.aims.AimSource.TheVariants.{Comment, StipulationTag, ResultTag, Result as EndResult, Given}
+use Rattle.study_import.specs.declared.game.notes.Notes.{Notes}
 use Rattle.study_import.specs.declared.places.Place.{Place}
 use Rattle.study_import.specs.Aims.{source_words}
 use Rattle.study_import.specs.Blocks.{Entry, Reported, place_in, text_at, token_name, move_name, line_name, reason_name, stop_name, run_words}
 use Rattle.study_import.specs.Blocks.{symbol_words, author_of, author_words, no_colon, left_out, place_words, fault_words, counts_words, counts_line}
-use Rattle.study_import.specs.Blocks.{move_counts, counted_words, behind_line, six_names, shown, tag_text, was_of, was_line, head_line, remark_lines}
+use Rattle.study_import.specs.Blocks.{move_counts, counted_words, behind_line, six_names, remark_byte, tag_text, was_of, was_line, head_line, remark_lines}
 use Rattle.study_import.specs.Blocks.{other_tags, stopped_block, men_in, fen_words, at_most, last_line, tail_line}
 use Rattle.study_import.proofs.Ink.{Ink, decimal_ink, decimal_few}
 use Rattle.study_import.proofs.TagTexts.{short_prints, short_few}
@@ -232,11 +232,11 @@ shown_by b false e =
     let high = leb-false b 31 (or_parts (nat_le b 31) (b == 127) e).0 in
     le-leb 32 b (omega arith)
 
-all_shown : (bytes : List ℕ) → list_all shows (map shown bytes) ≡ true
+all_shown : (bytes : List ℕ) → list_all shows (map remark_byte bytes) ≡ true
 all_shown [] = refl
 all_shown (b ∷ bs) = rw (shown_by b (nat_le b 31 || b == 127) refl) (all_shown bs)
 
-original_part : (value : List ℕ) → IsPart 255 (map shown (take 255 value))
+original_part : (value : List ℕ) → IsPart 255 (map remark_byte (take 255 value))
 original_part value = record { shown = all_shown (take 255 value); few = few_mapped value }
   where
     few_taken : (n : ℕ) (xs : List ℕ) → length (take n xs) ≤ n
@@ -244,10 +244,10 @@ original_part value = record { shown = all_shown (take 255 value); few = few_map
     few_taken (suc n) [] = omega arith
     few_taken (suc n) (x ∷ xs) = omega (arith, few_taken n xs)
 
-    few_by : (k : ℕ) → k ≡ 255 → (value : List ℕ) → length (map shown (take k value)) ≤ 255
-    few_by k e value = omega (arith, length-map (take k value) shown, few_taken k value)
+    few_by : (k : ℕ) → k ≡ 255 → (value : List ℕ) → length (map remark_byte (take k value)) ≤ 255
+    few_by k e value = omega (arith, length-map (take k value) remark_byte, few_taken k value)
 
-    few_mapped : (value : List ℕ) → length (map shown (take 255 value)) ≤ 255
+    few_mapped : (value : List ℕ) → length (map remark_byte (take 255 value)) ≤ 255
     few_mapped value = few_by 255 refl value
 
 pub tag_part : (name : TagName) → IsPart 5 (tag_name name)
@@ -263,18 +263,18 @@ was_is : (name value : List ℕ) → codes "# " ++ (name ++ (codes " was: " ++ (
 was_is name value = simp append_assoc
 
 was_by : (name : TagName) (value : List ℕ) (same : Bool)
-    → AreLines IsRemark (if same then [] else codes "# " ++ (tag_name name ++ (codes " was: " ++ (map shown (take 255 value) ++ codes "\n"))))
+    → AreLines IsRemark (if same then [] else codes "# " ++ (tag_name name ++ (codes " was: " ++ (map remark_byte (take 255 value) ++ codes "\n"))))
 was_by name value true = no_lines IsRemark
 was_by name value false =
-    one_line IsRemark _ _ (was_is (tag_name name) (map shown (take 255 value)))
+    one_line IsRemark _ _ (was_is (tag_name name) (map remark_byte (take 255 value)))
     (remark_line _ (wider (1 + (5 + (6 + 255))) 1000 _ (omega arith)
     (joined 1 (5 + (6 + 255)) (codes " ") _ (record { shown = refl; few = omega arith })
     (joined 5 (6 + 255) (tag_name name) _ (tag_part name)
-    (joined 6 255 (codes " was: ") (map shown (take 255 value)) (record { shown = refl; few = omega arith }) (original_part value))))))
+    (joined 6 255 (codes " was: ") (map remark_byte (take 255 value)) (record { shown = refl; few = omega arith }) (original_part value))))))
 
 was_remark : (name : TagName) (value : Option (List ℕ)) → AreLines IsRemark (was_of name value)
 was_remark name None = no_lines IsRemark
-was_remark name (Some value) = was_by name (unescaped value) (bytes_eq (tag_text (unescaped value)) (trimmed (unescaped value)))
+was_remark name (Some value) = was_by name (unescape value) (bytes_eq (tag_text (unescape value)) (trim (unescape value)))
 
 was_lines : (tags : List Pair) (names : List TagName) → AreLines IsRemark (flat_map (was_line tags) names)
 unfolding was_line
@@ -328,8 +328,8 @@ name_by text false few prints =
 author_part : (value : Option (List ℕ)) → IsPart 63 (author_of value)
 author_part None = record { shown = refl; few = omega arith }
 author_part (Some value) =
-    name_by (tag_text (unescaped value)) (length (tag_text (unescaped value)) == 0 || bytes_eq (tag_text (unescaped value)) (codes "?"))
-    (short_few (unescaped value)) (short_prints (unescaped value))
+    name_by (tag_text (unescape value)) (length (tag_text (unescape value)) == 0 || bytes_eq (tag_text (unescape value)) (codes "?"))
+    (short_few (unescape value)) (short_prints (unescape value))
 
 authors : (tags : List Pair) → IsPart 63 (author_words tags)
 unfolding author_words

@@ -28,10 +28,10 @@ use Rattle.study_marks.specs.declared.tag.TagName.TheVariants as name_of
 use Rattle.study_marks.specs.Verdict.{Verdict, wrong, sound, unsound, verdict}
 use Rattle.study_marks.specs.Study.{Study, tag_of}
 use Rattle.study_marks.specs.Edits.{PlainStudy, is_printable, is_tag_text}
-use Rattle.study_command.specs.Parser.{ended, trimmed}
+use Rattle.study_command.specs.Parser.{trim_end, trim}
 use Rattle.study_pgn.specs.Values.{side_name, value_text, win_of, result_text}
-use Rattle.study_pgn.specs.Moves.{move_dots, glyph_text, comment_text, words_of_move, following, variations}
-use Rattle.study_pgn.specs.Tags.{escaped, tag_line, unknown_text, text_or_unknown, user_line, user_lines, tags_text}
+use Rattle.study_pgn.specs.Moves.{move_dots, glyph_text, comment_text, words_of_move, continuation_text, variations}
+use Rattle.study_pgn.specs.Tags.{with_backslash, tag_line, unknown_text, text_or_unknown, user_line, user_lines, tags_text}
 use Rattle.study_pgn.specs.Pgn.{goal_text, stipulation_text, verdict_text, opening_words, opening_text, movetext, pgn_text}
 use Rattle.study_pgn.specs.Wrap.{lines_text}
 use Rattle.study_games.specs.Bytes.{is_digit, begins_symbol, is_symbol_byte}
@@ -39,29 +39,29 @@ use Rattle.study_games.specs.Characters.{is_utf8, read_at, character_at}
 use Rattle.study_games.specs.Ascii.{ascii_of, spelled_behind, spelled_in, spelled_out, short_text}
 use Rattle.study_games.specs.Words.{is_space as is_blank_space, without_spaces}
 use Rattle.study_games.specs.Symbols.{without_end, said_of}
-use Rattle.study_games.specs.Tokens.{Lexed, lexed, is_inside, blank, comment, symbol}
-use Rattle.study_games.specs.Header.{Pair, on, ended as header_ended, tags_of, header_fault, value_of, unescaped}
+use Rattle.study_games.specs.Tokens.{Lexed, lexed_token, is_inside, blank, comment, symbol}
+use Rattle.study_games.specs.Header.{Pair, on, ended as header_ended, tags_of, header_fault, value_of, unescape}
 use Rattle.study_games.specs.declared.symbols.Outcome.{Outcome}
 use Rattle.study_games.specs.declared.symbols.Outcome.TheVariants.{WhiteWins, BlackWins, Drawn}
 use Rattle.study_games.specs.declared.symbols.Said.{Said}
 use Rattle.study_games.specs.declared.symbols.Said.TheVariants as say
 use Rattle.study_games.proofs.Lexing.{Stops, is_plain_symbol, symbol_read}
-use Rattle.study_import.specs.declared.taking.Reason.{Reason}
-use Rattle.study_import.specs.declared.movetext.MovesFault.{MovesFault}
-use Rattle.study_import.specs.declared.aims.AimSource.TheVariants.{Comment}
+use Rattle.study_import.specs.declared.game.token_effects.Reason.{Reason}
+use Rattle.study_import.specs.declared.game.movetext.MovesFault.{MovesFault}
+use Rattle.study_import.specs.declared.game.aims.AimSource.TheVariants.{Comment}
 use Rattle.study_import.specs.Aims.{aim_in}
 use Rattle.study_import.specs.Lines.{Lines}
-use Rattle.study_import.specs.declared.notes.Notes.{Notes}
+use Rattle.study_import.specs.declared.game.notes.Notes.{Notes}
 use Rattle.study_import.specs.Taken.{taken_symbol}
 use Rattle.study_import.specs.Notes.{GameRead, GameTaken, none_yet, with_comment, with_said, with_result, noted_on, game_taken}
-use Rattle.study_import.specs.declared.numbering.Numbering.{Numbering}
+use Rattle.study_import.specs.declared.game.numbering.Numbering.{Numbering}
 use Rattle.study_import.specs.Numbering.{said_numbered}
 use Rattle.study_import.specs.Movetext.{Ended, goes_on, on_numbered, on_token}
 use Rattle.study_import.specs.Behind.{moves_or, moves_left, moves_in, ended_unless, to_the_end}
-use Rattle.study_import.specs.Blocks.{no_moves, game_read, fen_in, printed, tag_text, tag_value_text, text_or_unknown as import_text, aim_of_game}
+use Rattle.study_import.specs.Blocks.{no_moves, game_read, fen_in, printable_byte, tag_text, tag_value_text, text_or_unknown as import_text, aim_of_game}
 use Rattle.study_import.specs.Meant.{tag_texts, study_aimed, study_read, study_begun, study_with_fen, study_behind_header, study_in}
 use Rattle.study_import.specs.Laws.{IsCounted}
-use Rattle.study_import.specs.Written.{plainly, IsTagged, CanBeMade, unmarked_study, AreReadBack}
+use Rattle.study_import.specs.Written.{without_marks, IsTagged, CanBeMade, unmarked_study, AreReadBack}
 use Rattle.study_import.proofs.Ink.{Ink, ink_of, all_print, decimal_ink}
 use Rattle.study_import.proofs.Spelling.{fen_is}
 use Rattle.study_import.proofs.TagsTrimmed.{same_end}
@@ -106,7 +106,7 @@ pub record IsText (t : List ℕ) : Type 0 where
   pub rest : List ℕ
   pub begins : t ≡ first ∷ rest
   pub inked : is_space first ≡ false
-  pub ends : ended t ≡ t
+  pub ends : trim_end t ≡ t
   pub prints : Prints t
   pub few : length t ≤ 60
 
@@ -120,9 +120,9 @@ text_again t h =
     ∙ ap (λ (x : List ℕ). without_end is_blank_space (take 60 x)) (ap without_spaces h.begins ∙ no_spaces h.first h.rest h.inked ∙ sym h.begins)
     ∙ ap (without_end is_blank_space) (take_all 60 t h.few) ∙ same_end t ∙ h.ends
 
-value_text_again : (name : TagName) (t : List ℕ) → IsText t → tag_value_text name (Some (flat_map escaped t)) ≡ t
+value_text_again : (name : TagName) (t : List ℕ) → IsText t → tag_value_text name (Some (flat_map with_backslash t)) ≡ t
 value_text_again name t h =
-    let same : tag_text (unescaped (flat_map escaped t)) ≡ t = ap tag_text (value_again t) ∙ text_again t h in
+    let same : tag_text (unescape (flat_map with_backslash t)) ≡ t = ap tag_text (value_again t) ∙ text_again t h in
     let some : (length t == 0) ≡ false = ap (λ (x : List ℕ). length x == 0) h.begins ∙ ne_eqb (length (h.first ∷ h.rest)) 0 (λ e. omega arith) in
     ap (import_text name) same ∙ rw some refl
 
@@ -136,11 +136,11 @@ unknown_is name_of.Black = record { first = 63; rest = []; begins = refl; inked 
 
 -- ---- a text without spaces at its ends has none at the front
 
-ended_few : (xs : List ℕ) → length (ended xs) ≤ length xs
+ended_few : (xs : List ℕ) → length (trim_end xs) ≤ length xs
 ended_few [] = omega arith
 ended_few (x ∷ xs) = go (list_all is_space (x ∷ xs)) (ended_few xs)
   where
-    go : (b : Bool) → length (ended xs) ≤ length xs → length (if b then [] else x ∷ ended xs) ≤ suc (length xs)
+    go : (b : Bool) → length (trim_end xs) ≤ length xs → length (if b then [] else x ∷ trim_end xs) ≤ suc (length xs)
     go true h = omega arith
     go false h = omega arith
 
@@ -148,31 +148,31 @@ drop_few : (n : ℕ) (xs : List ℕ) → length (drop n xs) ≤ length xs
 drop_few n xs = omega (arith, length-drop n xs)
 
 -- the first byte of such a text is not a space
-first_inked : (b : ℕ) (bs : List ℕ) (space : Bool) → is_space b ≡ space → trimmed (b ∷ bs) ≡ b ∷ bs → (is_space b ≡ false) × (ended (b ∷ bs) ≡ b ∷ bs)
-unfolding trimmed
+first_inked : (b : ℕ) (bs : List ℕ) (space : Bool) → is_space b ≡ space → trim (b ∷ bs) ≡ b ∷ bs → (is_space b ≡ false) × (trim_end (b ∷ bs) ≡ b ∷ bs)
+unfolding trim
 first_inked b bs true e same =
-    let shorter : length (ended (begun_word (b ∷ bs))) ≤ length bs = one_less b bs e in
+    let shorter : length (trim_end (begun_word (b ∷ bs))) ≤ length bs = one_less b bs e in
     absurd (omega (arith, ap length same))
   where
-    one_less : (b : ℕ) (bs : List ℕ) → is_space b ≡ true → length (ended (begun_word (b ∷ bs))) ≤ length bs
+    one_less : (b : ℕ) (bs : List ℕ) → is_space b ≡ true → length (trim_end (begun_word (b ∷ bs))) ≤ length bs
     one_less b bs e =
         let n = prefix_len is_space bs in
         let up : 1 + n ≡ suc n = omega arith in
         let begun : begun_word (b ∷ bs) ≡ drop n bs = rw e (rw up refl) in
         rw begun (omega (arith, ended_few (drop n bs), drop_few n bs))
-first_inked b bs false e same = (e, ap ended (sym (begun b bs e)) ∙ same)
+first_inked b bs false e same = (e, ap trim_end (sym (begun b bs e)) ∙ same)
   where
     begun : (b : ℕ) (bs : List ℕ) → is_space b ≡ false → begun_word (b ∷ bs) ≡ b ∷ bs
     begun b bs e = rw e refl
 
-trimmed_is : (t : List ℕ) → trimmed t ≡ t → is_tag_text t ≡ true → IsText t
+trimmed_is : (t : List ℕ) → trim t ≡ t → is_tag_text t ≡ true → IsText t
 trimmed_is t same h =
     let a = and_parts (nat_le 1 (length t) && nat_le (length t) 60) (list_all is_printable t) h in
     let b = and_parts (nat_le 1 (length t)) (nat_le (length t) 60) a.0 in
     let x = first_byte t same (leb-true 1 (length t) b.0) in
     record { first = x.0; rest = x.1; begins = x.2; inked = x.3; ends = x.4; prints = a.1; few = leb-true (length t) 60 b.1 }
   where
-    first_byte : (t : List ℕ) → trimmed t ≡ t → 1 ≤ length t → (b : ℕ) × (bs : List ℕ) × (t ≡ b ∷ bs) × (is_space b ≡ false) × (ended t ≡ t)
+    first_byte : (t : List ℕ) → trim t ≡ t → 1 ≤ length t → (b : ℕ) × (bs : List ℕ) × (t ≡ b ∷ bs) × (is_space b ≡ false) × (trim_end t ≡ t)
     first_byte [] same h = absurd (omega arith)
     first_byte (b ∷ bs) same h = let i = first_inked b bs (is_space b) refl same in (b, bs, refl, i.0, i.1)
 
@@ -346,8 +346,9 @@ gap_stop b rest (inl e) = rw e refl
 gap_stop b rest (inr e) = rw e refl
 
 symbol_lexed : (fresh : Bool) (b : ℕ) (w rest : List ℕ) → begins_symbol b ≡ true → list_all is_plain_symbol (b ∷ w) ≡ true → Stops is_symbol_byte rest
-    → lexed fresh b (w ++ rest) ≡ Ok (symbol (b ∷ w), rest)
-symbol_lexed fresh b w rest begins all stops = lexed_is (lexed fresh b (w ++ rest)) (Ok (symbol (b ∷ w), rest)) (symbol_read fresh b w rest begins all stops)
+    → lexed_token fresh b (w ++ rest) ≡ Ok (symbol (b ∷ w), rest)
+symbol_lexed fresh b w rest begins all stops = lexed_is (lexed_token fresh b (w ++ rest)) (Ok (symbol (b ∷ w), rest))
+    (symbol_read fresh b w rest begins all stops)
   where
     lexed_is : (x y : Lexed) → Some x ≡ Some y → x ≡ y
     lexed_is x y e = cc
@@ -386,14 +387,14 @@ result_ends s path o g at w r b rest gap quiet fresh =
     }
 
 -- two gaps, as they are behind the result
-space_is : (fresh : Bool) (bs : List ℕ) → lexed fresh 32 bs ≡ Ok (blank, bs)
-unfolding lexed
+space_is : (fresh : Bool) (bs : List ℕ) → lexed_token fresh 32 bs ≡ Ok (blank, bs)
+unfolding lexed_token
 space_is true bs = refl
 space_is false bs = refl
 
-gap_lexed : (b : ℕ) (bs : List ℕ) → IsGap b → (fresh : Bool) → lexed fresh b bs ≡ Ok (blank, bs)
-gap_lexed b bs (inl e) fresh = subst (λ (x : ℕ). lexed fresh x bs ≡ Ok (blank, bs)) (sym e) (space_is fresh bs)
-gap_lexed b bs (inr e) fresh = subst (λ (x : ℕ). lexed fresh x bs ≡ Ok (blank, bs)) (sym e) (feed_lexed bs fresh)
+gap_lexed : (b : ℕ) (bs : List ℕ) → IsGap b → (fresh : Bool) → lexed_token fresh b bs ≡ Ok (blank, bs)
+gap_lexed b bs (inl e) fresh = subst (λ (x : ℕ). lexed_token fresh x bs ≡ Ok (blank, bs)) (sym e) (space_is fresh bs)
+gap_lexed b bs (inr e) fresh = subst (λ (x : ℕ). lexed_token fresh x bs ≡ Ok (blank, bs)) (sym e) (feed_lexed bs fresh)
 
 gaps_quiet : (b c : ℕ) → IsGap b → IsGap c → moves_in (b ∷ c ∷ []) ≡ None
 unfolding moves_in
@@ -407,14 +408,15 @@ gaps_quiet b c first second =
 abbrev start_study : Start → PlainStudy
 start_study start = (no_moves start).reading.study
 
-tree_ends : (s : Study Mark) → CanBeMade s → (o : Option Stipulation) (t : List ℕ) → Same (following s.start s.tree.below ++ Ending s) t → (g : GameRead)
-    → At (start_study s.start) [] 0 [] o g → (fresh : Bool) → EndsWith (reads fresh t g) (on_tree (start_study s.start) (plainly s.tree.below)) o
+tree_ends : (s : Study Mark) → CanBeMade s → (o : Option Stipulation) (t : List ℕ) → Same (continuation_text s.start s.tree.below ++ Ending s) t
+    → (g : GameRead)
+    → At (start_study s.start) [] 0 [] o g → (fresh : Bool) → EndsWith (reads fresh t g) (on_tree (start_study s.start) (without_marks s.tree.below)) o
 tree_ends s c o t h g at fresh =
     let base = start_study s.start in
     let node : Node base none [] s.start = record { here = refl; position = refl; valid = c.valid; counted = counted_start s.start c.number } in
     let count : nodes_in (put none [] none) ≡ 0 = ap (λ (x : Forest (Unit {0})). nodes_in x) (root_put none) in
     let few = c.few in
-    let limits : Limits none [] none (plainly s.tree.below) 0 [] 256 = record {
+    let limits : Limits none [] none (without_marks s.tree.below) 0 [] 256 = record {
       deep = omega arith;
       within = c.within;
       room = omega arith;
@@ -423,9 +425,9 @@ tree_ends s c o t h g at fresh =
     } in
     let f = follow_read s.tree.below base none [] s.start 0 [] o 256 (Ending s) t node c.playable c.distinct limits h g
     (restated base none (put none [] none) [] [] 0 [] o g (sym (root_put none)) refl at) in
-    let made = on_tree base (plainly s.tree.below) in
+    let made = on_tree base (without_marks s.tree.below) in
     let reached : Reached t f.back made f.way 0 [] o g =
-    subst (λ (x : Forest (Unit {0})). Reached t f.back (on_tree base x) f.way 0 [] o g) (root_put (plainly s.tree.below)) f.reached in
+    subst (λ (x : Forest (Unit {0})). Reached t f.back (on_tree base x) f.way 0 [] o g) (root_put (without_marks s.tree.below)) f.reached in
     let result = result_text s.start.position.to_move s.tree.label.value in
     let r = result_is s.start.position.to_move s.tree.label.value in
     let a = space_cut (result ++ 10 ∷ 10 ∷ []) f.back f.same in
@@ -461,12 +463,12 @@ pub record Opened (s : Study Mark) (t : List ℕ) : Type 0 where
   pub text : t ≡ 123 ∷ (words ++ (125 ∷ back))
   pub inside : list_all is_inside words ≡ true
   pub aim : aim_in words ≡ Some s.stipulation
-  pub rest : Same (following s.start s.tree.below ++ Ending s) back
+  pub rest : Same (continuation_text s.start s.tree.below ++ Ending s) back
 
 pub opened : (s : Study Mark) → CanBeMade s → Opened s (lines_text (words (movetext s)) ++ 10 ∷ [])
 unfolding movetext opening_text
 opened s c =
-    let fo = following s.start s.tree.below in
+    let fo = continuation_text s.start s.tree.below in
     let result = result_text s.start.position.to_move s.tree.label.value in
     let t = lines_text (words (movetext s)) ++ 10 ∷ [] in
     let lines = lines_same (movetext s) (movetext_runs s c.valid c.playable) in
@@ -489,7 +491,7 @@ opened s c =
     regroup a b c = simp append_assoc
 
 moves_end : (s : Study Mark) → CanBeMade s → (fresh : Bool)
-    → EndsWith (reads fresh (text_behind s) (no_moves s.start)) (on_tree (start_study s.start) (plainly s.tree.below)) (Some s.stipulation)
+    → EndsWith (reads fresh (text_behind s) (no_moves s.start)) (on_tree (start_study s.start) (without_marks s.tree.below)) (Some s.stipulation)
 unfolding text_behind
 moves_end s c fresh =
     let g = no_moves s.start in
@@ -529,7 +531,8 @@ dots_stop White rest = refl
 dots_stop Black rest = refl
 
 -- the text after the opening comment begins with a number or with the result
-tree_fault : (s : Study Mark) (st : Start) (f : Forest Mark) (t : List ℕ) (fresh : Bool) → Same (following st f ++ Ending s) t → fault_from fresh t ≡ None
+tree_fault : (s : Study Mark) (st : Start) (f : Forest Mark) (t : List ℕ) (fresh : Bool) → Same (continuation_text st f ++ Ending s) t
+    → fault_from fresh t ≡ None
 unfolding words_of_move
 tree_fault s st none t fresh h =
     let result = result_text s.start.position.to_move s.tree.label.value in
@@ -550,11 +553,11 @@ tree_fault s st none t fresh h =
 tree_fault s st (more m mark b r) t fresh h =
     let n = decimal st.number in
     let rest = codes " " ++ (move_text st.position m ++ (glyph_text mark.on_move ++ (codes " " ++ comment_text (other_side st.position.to_move) mark))) in
-    let tail = move_dots st.position.to_move ++ (rest ++ ((variations st r ++ following (start_after st m) b) ++ Ending s)) in
+    let tail = move_dots st.position.to_move ++ (rest ++ ((variations st r ++ continuation_text (start_after st m) b) ++ Ending s)) in
     let a = space_cut (n ++ tail) t (subst (λ (x : List ℕ). Same x t)
-    (regroup n (move_dots st.position.to_move) rest (variations st r ++ following (start_after st m) b) (Ending s)) h) in
+    (regroup n (move_dots st.position.to_move) rest (variations st r ++ continuation_text (start_after st m) b) (Ending s)) h) in
     let w = word_cut n tail a.back (decimal_ink st.number) a.rest in
-    let d = word_cut (move_dots st.position.to_move) (rest ++ ((variations st r ++ following (start_after st m) b) ++ Ending s)) w.back
+    let d = word_cut (move_dots st.position.to_move) (rest ++ ((variations st r ++ continuation_text (start_after st m) b) ++ Ending s)) w.back
     (dots_ink st.position.to_move) w.rest in
     let gap = gap_fault fresh a.byte a.back a.gap in
     ap (fault_from fresh) a.text ∙ gap.1 ∙ ap (fault_from gap.0) w.text
@@ -580,7 +583,7 @@ lines_fault s c fresh =
 
 -- ---- the whole
 
-printed_same : (t : List ℕ) → Prints t → map printed t ≡ t
+printed_same : (t : List ℕ) → Prints t → map printable_byte t ≡ t
 printed_same [] h = refl
 printed_same (b ∷ bs) h = let a = and_parts (is_printable b) (list_all is_printable bs) h in rw a.0 (ap (λ (x : List ℕ). b ∷ x) (printed_same bs a.1))
 
@@ -598,8 +601,8 @@ tags_again s c rest =
         → ◌≡◌ {A = List (Option (List ℕ))} (Some a ∷ Some b ∷ Some c ∷ Some d ∷ Some e ∷ Some f ∷ []) (Some u ∷ Some v ∷ Some w ∷ Some x ∷ Some y ∷ Some z ∷ [])
     six g h i j k l = cc
 
-fen_again : (s : Study Mark) → CanBeMade s → fen_in (flat_map escaped (fen_text s.start)) ≡ fen_text s.start
-fen_again s c = ap (map printed) (value_again (fen_text s.start))
+fen_again : (s : Study Mark) → CanBeMade s → fen_in (flat_map with_backslash (fen_text s.start)) ≡ fen_text s.start
+fen_again s c = ap (map printable_byte) (value_again (fen_text s.start))
     ∙ printed_same (fen_text s.start) (all_print (fen_text s.start) (fen_is s.start (start_read s c)).prints)
 
 pub read_back : AreReadBack
@@ -613,7 +616,7 @@ read_back s c =
     let read : game_read (pgn_text s) s.start ≡ Ok moves.ended_by =
     ap (λ (t : List ℕ). to_the_end (reads true t (no_moves s.start))) text ∙ ap to_the_end (lines.moves refl ∙ moves.is)
     ∙ ap (ended_unless moves.ended_by) moves.quiet in
-    let start : start_of (fen_in (flat_map escaped (fen_text s.start))) ≡ Ok s.start = ap start_of (fen_again s c)
+    let start : start_of (fen_in (flat_map with_backslash (fen_text s.start))) ≡ Ok s.start = ap start_of (fen_again s c)
     ∙ start_again s.start c.valid c.clock c.positive c.number in
     let all = pairs_of (header_of s) ++ tags_from lines.then_fresh (text_behind s) in
     ap (study_behind_header None (pgn_text s)) fault

@@ -23,15 +23,15 @@ use Rattle.study_notation.specs.declared.san.San.{San}
 use Rattle.study_notation.specs.San.{Fits, kind_text, file_text, rank_text, takes_text, promotion_text, san_text}
 use Rattle.study_notation.specs.FenSpelling.{square_text}
 use Rattle.study_notation.specs.SanParts.{san_of}
-use Rattle.study_notation.specs.Matching.{picked, meant, move_of}
+use Rattle.study_notation.specs.Matching.{only_match, move_meant, move_of}
 use Rattle.study_notation.specs.SanSpelling.{gives_file, gives_rank, san_for, check_text, move_text}
 use Rattle.study_notation.proofs.SanAgain.{san_again}
 use Rattle.study_notation.proofs.OneMoveAgrees.{alone_matches}
 use Rattle.study_games.specs.Bytes.{is_digit, is_tail, begins_symbol}
 use Rattle.study_games.proofs.Lexing.{is_plain_symbol}
 use Rattle.study_games.specs.declared.symbols.Said.TheVariants.{Move as MoveSaid}
-use Rattle.study_games.specs.Symbols.{has_figurine, lettered, half, said_of, without_end, without_tail, without_passing, without_pawn, plain_bytes}
-use Rattle.study_games.specs.Symbols.{spelled, san_in}
+use Rattle.study_games.specs.Symbols.{has_figurine, with_letters, half, said_of, without_end, without_tail, without_passing, without_pawn, plain_bytes}
+use Rattle.study_games.specs.Symbols.{plain_spelling, san_in}
 use Rattle.study_marks.specs.Edits.{is_printable}
 
 -- ---- the bytes of a SAN text
@@ -223,7 +223,7 @@ spelled_by (b ∷ bs) h =
     let p = san_plain b a.0 in
     rw (p.dash, p.colon, p.stroke) (ap (λ (t : List ℕ). b ∷ t) (spelled_by bs a.1))
 
-spelled_same : (xs : List ℕ) → AllSan xs → spelled xs ≡ xs
+spelled_same : (xs : List ℕ) → AllSan xs → plain_spelling xs ≡ xs
 spelled_same [] h = refl
 spelled_same (b ∷ bs) h =
     let a = and_parts (is_san_byte b) (list_all is_san_byte bs) h in
@@ -234,7 +234,7 @@ pawn_same : (xs : List ℕ) → AllSan xs → without_pawn xs ≡ xs
 pawn_same [] h = refl
 pawn_same (b ∷ bs) h = rw (san_plain b (and_parts (is_san_byte b) (list_all is_san_byte bs) h).0).pawn refl
 
-lettered_same : (xs : List ℕ) → list_all is_text_byte xs ≡ true → lettered xs ≡ xs
+lettered_same : (xs : List ℕ) → list_all is_text_byte xs ≡ true → with_letters xs ≡ xs
 lettered_same [] h = refl
 lettered_same (a ∷ []) h = refl
 lettered_same (a ∷ b ∷ []) h = refl
@@ -415,10 +415,10 @@ unfolding san_in
 san_same s check f tail bytes =
     let t = san_text s true in
     let all = san_bytes s f in
-    ap (λ (x : List ℕ). spelled (without_pawn (without_passing (without_tail x))))
+    ap (λ (x : List ℕ). plain_spelling (without_pawn (without_passing (without_tail x))))
     (lettered_same (t ++ check) (all_append is_text_byte t check (text_bytes t all) bytes))
-    ∙ ap (λ (x : List ℕ). spelled (without_pawn (without_passing x))) (tail_off t check (san_ends s f) tail)
-    ∙ ap (λ (x : List ℕ). spelled (without_pawn x)) (passing_same t (san_ends s f)) ∙ ap spelled (pawn_same t all) ∙ spelled_same t all
+    ∙ ap (λ (x : List ℕ). plain_spelling (without_pawn (without_passing x))) (tail_off t check (san_ends s f) tail)
+    ∙ ap (λ (x : List ℕ). plain_spelling (without_pawn x)) (passing_same t (san_ends s f)) ∙ ap plain_spelling (pawn_same t all) ∙ spelled_same t all
 
 some_below : (b : Bool) (n k : ℕ) → n < k → IfSome (if b then Some n else None) (λ f. f < k)
 some_below true n k lt = lt
@@ -463,7 +463,7 @@ symbol_move p m valid e =
     let san : san_in (move_text p m) ≡ san_text s true = ap san_in (text_of p m h.man h.here)
     ∙ san_same s (check_text (after p m)) h.fits (check_tail (after p m)) (check_bytes (after p m)) in
     let read : san_of (san_text s true) ≡ Some s = ap san_of (sym (append-nil (san_text s true))) ∙ san_again s true [] h.fits refl in
-    ap (λ (t : List ℕ). meant p t (san_of t)) san ∙ ap (meant p (san_text s true)) read ∙ ap picked (alone_matches p m h.man valid e h.here)
+    ap (λ (t : List ℕ). move_meant p t (san_of t)) san ∙ ap (move_meant p (san_text s true)) read ∙ ap only_match (alone_matches p m h.man valid e h.here)
 
 -- ---- the meaning
 

@@ -22,13 +22,13 @@ use Rattle.study_marks.specs.declared.stipulation.Goal.TheVariants as goal
 use Rattle.study_marks.specs.Verdict.{Verdict, wrong, sound, unsound, verdict}
 use Rattle.study_marks.specs.Study.{Study, IsPlayable}
 use Rattle.study_pgn.specs.Values.{side_name, mates_text, value_text, win_of, result_text}
-use Rattle.study_pgn.specs.Moves.{move_dots, number_text, glyph_text, dual_text, comment_text, words_of_move, following, variations}
+use Rattle.study_pgn.specs.Moves.{move_dots, number_text, glyph_text, dual_text, comment_text, words_of_move, continuation_text, variations}
 use Rattle.study_pgn.specs.Pgn.{goal_text, stipulation_text, verdict_text, opening_words, opening_text, movetext}
 use Rattle.study_import.proofs.Ink.{decimal_ink}
 use Rattle.study_import.proofs.Spelling.{move_short, move_some}
 use Rattle.study_import.proofs.Blanks.{Runs, runs_append, runs_ink}
 use Rattle.study_import.proofs.ReadSteps.{decimal_some}
-use Rattle.study_import.specs.Written.{plainly}
+use Rattle.study_import.specs.Written.{without_marks}
 
 both : (a b c : Bool) (xs ys : List ℕ) → Runs a xs b → Runs b ys c → Runs a (xs ++ ys) c
 both a b c xs ys h k = runs_append a b c xs ys h k
@@ -95,12 +95,12 @@ pub after_valid : (st : Start) (m : Move) → IsValid st.position → is_legal s
 unfolding start_after
 after_valid st m valid legal = IsValid-after st.position m valid legal
 
-pub after_playable : (st : Start) (m : Move) (f : Forest Mark) → IsPlayable (after st.position m) (plainly f)
-    → IsPlayable (start_after st m).position (plainly f)
+pub after_playable : (st : Start) (m : Move) (f : Forest Mark) → IsPlayable (after st.position m) (without_marks f)
+    → IsPlayable (start_after st m).position (without_marks f)
 unfolding start_after
 after_playable st m f h = h
 
-forest_runs : (f : Forest Mark) (st : Start) → IsValid st.position → IsPlayable st.position (plainly f) → Runs false (following st f) false
+forest_runs : (f : Forest Mark) (st : Start) → IsValid st.position → IsPlayable st.position (without_marks f) → Runs false (continuation_text st f) false
     × Runs false (variations st f) false
 forest_runs none st valid h = (refl, refl)
 forest_runs (more m mark b r) st valid h =
@@ -108,12 +108,12 @@ forest_runs (more m mark b r) st valid h =
     let below = forest_runs b next (after_valid st m valid h.0) (after_playable st m b h.1) in
     let others = forest_runs r st valid h.2 in
     let w = words_of_move st m mark in (
-      both false true false (codes " ") (w ++ (variations st r ++ following next b)) refl
-          (both true false false w (variations st r ++ following next b) (move_runs true st m mark valid h.0)
-          (both false false false (variations st r) (following next b) others.1 below.0)),
-      both false false false (codes " (") (w ++ (following next b ++ (codes ")" ++ variations st r))) refl
-          (both false false false w (following next b ++ (codes ")" ++ variations st r)) (move_runs false st m mark valid h.0)
-          (both false false false (following next b) (codes ")" ++ variations st r) below.0
+      both false true false (codes " ") (w ++ (variations st r ++ continuation_text next b)) refl
+          (both true false false w (variations st r ++ continuation_text next b) (move_runs true st m mark valid h.0)
+          (both false false false (variations st r) (continuation_text next b) others.1 below.0)),
+      both false false false (codes " (") (w ++ (continuation_text next b ++ (codes ")" ++ variations st r))) refl
+          (both false false false w (continuation_text next b ++ (codes ")" ++ variations st r)) (move_runs false st m mark valid h.0)
+          (both false false false (continuation_text next b) (codes ")" ++ variations st r) below.0
           (both false false false (codes ")") (variations st r) refl others.1))),
     )
 
@@ -147,10 +147,10 @@ words_run s =
     (both false true false (codes ", ") (value_text s.start.position.to_move s.tree.label.value) refl
     (value_runs true s.start.position.to_move s.tree.label.value))))
 
-pub movetext_runs : (s : Study Mark) → IsValid s.start.position → IsPlayable s.start.position (plainly s.tree.below) → Runs true (movetext s) false
+pub movetext_runs : (s : Study Mark) → IsValid s.start.position → IsPlayable s.start.position (without_marks s.tree.below) → Runs true (movetext s) false
 unfolding movetext opening_text
 movetext_runs s valid h =
-    let fo = following s.start s.tree.below in
+    let fo = continuation_text s.start s.tree.below in
     let result = result_text s.start.position.to_move s.tree.label.value in
     both true false false (codes "{" ++ (opening_words s ++ codes "}")) (fo ++ (codes " " ++ result))
     (both true false false (codes "{") (opening_words s ++ codes "}") refl (both false false false (opening_words s) (codes "}") (words_run s) refl))

@@ -35,8 +35,8 @@ use Rattle.study_import.specs.declared.importer.Choice.{Choice}
 use Rattle.study_import.specs.Imported.{no_game, script_of}
 use Rattle.study_games.specs.Header.{Pair, tags_of, header_fault, value_of}
 use Rattle.study_games.specs.declared.header.HeaderFault.{HeaderFault}
-use Rattle.study_import.specs.declared.aims.Aim.{Aim}
-use Rattle.study_import.specs.declared.movetext.MovesFault.{MovesFault}
+use Rattle.study_import.specs.declared.game.aims.Aim.{Aim}
+use Rattle.study_import.specs.declared.game.movetext.MovesFault.{MovesFault}
 use Rattle.study_import.specs.Movetext.{Ended, read_moves}
 use Rattle.study_import.specs.Reading.{insert_line}
 use Rattle.study_import.specs.Insertions.{Insertion, made_by, AllAccepted, AllReadAgain, lines_for}
@@ -44,7 +44,7 @@ use Rattle.study_import.specs.Blocks.{Entry, Block, no_study, left_out, token_na
 use Rattle.study_import.specs.Blocks.{stipulation_line, tag_line, tag_value_text, six_names, study_lines, block_lines, aim_of_game, aimed_block}
 use Rattle.study_import.specs.Blocks.{stopped_block, read_block, no_moves, game_read, fen_in, start_block, fen_block, header_block, sized_block}
 use Rattle.study_import.specs.Blocks.{block_of, tail_of, tail_line, under_remark, block_or_tail, block_by, place_in, last_line, is_chosen, Tally}
-use Rattle.study_import.specs.Blocks.{tallied, reported_text, blocks}
+use Rattle.study_import.specs.Blocks.{tally_with_game, reported_text, blocks}
 use Rattle.study_import.specs.Tails.{Tail, position_text}
 use Rattle.study_import.specs.Documents.{Document, empty, placed, composed, with_start, after_position, new_study, after_stipulate, unless_refused}
 use Rattle.study_import.specs.Documents.{after_move, after_line, after_lines}
@@ -609,19 +609,19 @@ met_if : (b : Bool) (x y : Tally) (n : ℕ) → x.met ≡ n → y.met ≡ n → 
 met_if true x y n h k u e = ap (λ (z : Tally). z.met) e ∙ h
 met_if false x y n h k u e = ap (λ (z : Tally). z.met) e ∙ k
 
-met_then : (c : Choice) (t : Tally) (g : Game) → (tallied c t g).met ≡ one_more t.met
-met_then c t g = met_if (is_chosen c (one_more t.met)) _ _ (one_more t.met) refl refl (tallied c t g) refl
+met_then : (c : Choice) (t : Tally) (g : Game) → (tally_with_game c t g).met ≡ one_more t.met
+met_then c t g = met_if (is_chosen c (one_more t.met)) _ _ (one_more t.met) refl refl (tally_with_game c t g) refl
 
 blocks_lead : (c : Choice) (t : Tally) (games : List Game) → IsGiven c.given → LeadsTo (blocks c t games) (λ d. document_behind c t.met d games)
 blocks_lead c t [] given = last_leads t.reported t.studies
 blocks_lead c t (g ∷ gs) given =
     let number = one_more t.met in
     let here = reported_leads c g number (is_chosen c number) given in
-    let later = blocks_lead c (tallied c t g) gs given in
+    let later = blocks_lead c (tally_with_game c t g) gs given in
     let next = λ (d : Document). if is_chosen c number then document_then d (study_by c g.text) else d in
     record {
       lines = here.lines ++ later.lines;
-      spelled = both (reported_text c t g) (blocks c (tallied c t g) gs) here.lines later.lines here.spelled later.spelled;
+      spelled = both (reported_text c t g) (blocks c (tally_with_game c t g) gs) here.lines later.lines here.spelled later.spelled;
       study = λ d six.
           after_append (Some d) here.lines later.lines ∙ ap (λ (o : Option Document). after_lines o later.lines) (here.study d six)
           ∙ later.study (next d) (six_then c g number (is_chosen c number) given d six)

@@ -21,7 +21,7 @@ use Rattle.study_notation.specs.declared.san.San.{San}
 use Rattle.study_notation.specs.declared.placement.Piece.{Piece}
 use Rattle.study_notation.specs.declared.start.Start.{Start}
 use Rattle.study_notation.specs.San.{kind_text, file_text, rank_text, takes_text, promotion_text, san_text}
-use Rattle.study_notation.specs.FenSpelling.{man_letter, row, run, spelled, rank_field, ranks_text, placement_text, side_text, square_text}
+use Rattle.study_notation.specs.FenSpelling.{man_letter, row, run, squares_text, rank_field, ranks_text, placement_text, side_text, square_text}
 use Rattle.study_notation.specs.FenSpelling.{passed_text, fen_text}
 use Rattle.study_notation.specs.SanSpelling.{gives_file, gives_rank, san_for, check_text, move_text}
 use Rattle.study_notation.proofs.FenStarts.{IsRead}
@@ -141,12 +141,12 @@ letter_ink Black Pawn = (omega arith, omega arith)
 run_ink : (n : ℕ) → n ≤ 8 → Ink (run n)
 run_ink n le = elim (cases_Bool (n == 0)) [ inl hit ↦ rw hit tt | inr miss ↦ rw miss (omega arith, omega arith, tt) ]
 
-spelled_ink : (n : ℕ) (cells : List (Option Piece)) → n + length cells ≤ 8 → Ink (spelled n cells)
+spelled_ink : (n : ℕ) (cells : List (Option Piece)) → n + length cells ≤ 8 → Ink (squares_text n cells)
 spelled_ink n [] le = run_ink n (omega arith)
 spelled_ink n (None ∷ cells) le = spelled_ink (n + 1) cells (omega arith)
 spelled_ink n (Some p ∷ cells) le =
     let l = letter_ink p.side p.kind in
-    ink_append (run n) (man_letter p.side p.kind ∷ spelled 0 cells) (run_ink n (omega arith)) (l.0, l.1, spelled_ink 0 cells (omega arith))
+    ink_append (run n) (man_letter p.side p.kind ∷ squares_text 0 cells) (run_ink n (omega arith)) (l.0, l.1, spelled_ink 0 cells (omega arith))
 
 row_length : (men : List Man) (at n : ℕ) → length (row men at n) ≡ n
 row_length men at zero = refl

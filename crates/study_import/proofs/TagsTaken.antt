@@ -8,7 +8,7 @@ use Rattle.study_marks.specs.declared.tag.TagName.TheVariants as named
 use Rattle.study_marks.specs.Edits.{is_printable, is_tag_text}
 use Rattle.study_marks.specs.Study.{tag_name}
 use Rattle.study_games.specs.Ascii.{spelled_out, short_text}
-use Rattle.study_games.specs.Header.{value_of, unescaped}
+use Rattle.study_games.specs.Header.{value_of, unescape}
 use Rattle.study_import.specs.Blocks.{unknown_text, tag_value_text}
 use Rattle.study_import.specs.Laws.{AreTaken}
 use Rattle.study_import.proofs.TagTexts.{short_prints, short_few}
@@ -30,8 +30,8 @@ shown_taken name text false e few prints =
 text_taken : (name : TagName) (value : Option (List ℕ)) → is_tag_text (tag_value_text name value) ≡ true
 text_taken name None = unknown_taken name
 text_taken name (Some value) =
-    shown_taken name (short_text (spelled_out (unescaped value))) (length (short_text (spelled_out (unescaped value))) == 0) refl
-    (short_few (unescaped value)) (short_prints (unescaped value))
+    shown_taken name (short_text (spelled_out (unescape value))) (length (short_text (spelled_out (unescape value))) == 0) refl
+    (short_few (unescape value)) (short_prints (unescape value))
 
 pub taken : AreTaken
 taken tags name = rw (text_taken name (value_of (tag_name name) tags)) refl

@@ -7,16 +7,16 @@ use Rattle.std.proofs.lemmas.Bool.{cases_Bool}
 use Rattle.study_marks.specs.Edits.{is_printable}
 use Rattle.study_games.specs.declared.token.TokenFault.{TokenFault}
 use Rattle.study_games.specs.declared.token.TokenFault.TheVariants.{Byte}
-use Rattle.study_games.specs.Tokens.{Token, Lexed, lexed, token_at, begins_feed}
+use Rattle.study_games.specs.Tokens.{Token, Lexed, lexed_token, token_at, begins_feed}
 use Rattle.study_import.specs.declared.tails.Act.{Act}
 use Rattle.study_import.specs.declared.tails.Act.TheVariants as act
-use Rattle.study_import.specs.Tails.{spaced, part_of, act_of, Sought, sought_then, Tail, on_act, on_part, tail_from, not_begun, tail_in}
+use Rattle.study_import.specs.Tails.{byte_or_space, part_of, act_of, Sought, sought_then, Tail, on_act, on_part, tail_from, not_begun, tail_in}
 use Rattle.study_import.proofs.Whole.{Within, within_lexed}
 
-spaced_prints : (b : ℕ) → is_printable (spaced b) ≡ true
+spaced_prints : (b : ℕ) → is_printable (byte_or_space b) ≡ true
 spaced_prints b = elim (cases_Bool (is_printable b)) [ inl prints ↦ rw prints prints | inr hidden ↦ rw hidden refl ]
 
-pub all_spaced : (bytes : List ℕ) → list_all is_printable (map spaced bytes) ≡ true
+pub all_spaced : (bytes : List ℕ) → list_all is_printable (map byte_or_space bytes) ≡ true
 all_spaced [] = refl
 all_spaced (b ∷ bs) = rw (spaced_prints b) (all_spaced bs)
 
@@ -33,7 +33,7 @@ module _ (n m : ℕ) (fresh : Bool) (s : Sought) where
   pub none_on : (rest : List ℕ) (fault : TokenFault) → n ≡ suc m → token_at fresh rest ≡ Some (Err fault) → tail_from n fresh rest s ≡ None
   none_on [] fault e k = absurd cc
   none_on (b ∷ bs) fault e k =
-      let l : lexed fresh b bs ≡ Err fault = ap lexed_or k in
+      let l : lexed_token fresh b bs ≡ Err fault = ap lexed_or k in
       ap (λ (i : ℕ). tail_from i fresh (b ∷ bs) s) e ∙ ap (on_part (tail_from m (b == 10)) (b ∷ bs) s) l
 
   pub act_on : (rest : List ℕ) (t : Token) (behind : List ℕ) (what : Act) → n ≡ suc m → token_at fresh rest ≡ Some (Ok (t, behind))
@@ -41,7 +41,7 @@ module _ (n m : ℕ) (fresh : Bool) (s : Sought) where
       → tail_from n fresh rest s ≡ on_act (tail_from m (begins_feed rest) behind) rest s (take (length rest - length behind) rest) t what
   act_on [] t behind what e k h = absurd cc
   act_on (b ∷ bs) t behind what e k h =
-      let l : lexed fresh b bs ≡ Ok (t, behind) = ap lexed_or k in
+      let l : lexed_token fresh b bs ≡ Ok (t, behind) = ap lexed_or k in
       ap (λ (i : ℕ). tail_from i fresh (b ∷ bs) s) e ∙ ap (on_part (tail_from m (b == 10)) (b ∷ bs) s) l
       ∙ ap (on_act (tail_from m (b == 10) behind) (b ∷ bs) s (take (length (b ∷ bs) - length behind) (b ∷ bs)) t) h
 
@@ -91,7 +91,7 @@ tail_same (suc n) zero fresh [] s h k = refl
 tail_same (suc n) zero fresh (b ∷ bs) s h k = absurd (omega arith)
 tail_same (suc n) (suc m) fresh [] s h k = refl
 tail_same (suc n) (suc m) fresh (b ∷ bs) s h k =
-    same_part (tail_from n (b == 10)) (tail_from m (b == 10)) (b ∷ bs) (length bs) s (lexed fresh b bs) (within_lexed fresh b bs)
+    same_part (tail_from n (b == 10)) (tail_from m (b == 10)) (b ∷ bs) (length bs) s (lexed_token fresh b bs) (within_lexed fresh b bs)
     (λ rest x le. tail_same n m (b == 10) rest x (omega arith) (omega arith))
 
 pub tail_whole : (text : List ℕ) (n : ℕ) → length text ≤ n → tail_from n true text (not_begun []) ≡ tail_in text

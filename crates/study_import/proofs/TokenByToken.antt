@@ -1,19 +1,19 @@
 -- The moves of a game, one token after the other.
 use Rattle.std.proofs.Common.{◌≡◌, ℕ, suc, Bool, false, List, [], ◌∷◌, length, Option, Some, None, Result, Ok, Err, ap, ◌∙◌}
 use Rattle.std.specs.Prelude.{◌==◌, unwrap_or}
-use Rattle.study_import.specs.declared.lines.LineFault.TheVariants as line_fault
-use Rattle.study_import.specs.declared.moves.MoveFault.TheVariants as move_fault
-use Rattle.study_import.specs.declared.notes.Notes.{Notes}
-use Rattle.study_import.specs.declared.taking.Reason.{Reason}
-use Rattle.study_import.specs.declared.taking.Reason.TheVariants as reason
-use Rattle.study_import.specs.declared.movetext.MovesFault.{MovesFault}
-use Rattle.study_import.specs.declared.movetext.Stop.TheVariants as stop
+use Rattle.study_import.specs.declared.game.lines.LineFault.TheVariants as line_fault
+use Rattle.study_import.specs.declared.game.moves.MoveFault.TheVariants as move_fault
+use Rattle.study_import.specs.declared.game.notes.Notes.{Notes}
+use Rattle.study_import.specs.declared.game.token_effects.Reason.{Reason}
+use Rattle.study_import.specs.declared.game.token_effects.Reason.TheVariants as reason
+use Rattle.study_import.specs.declared.game.movetext.MovesFault.{MovesFault}
+use Rattle.study_import.specs.declared.game.movetext.Stop.TheVariants as stop
 use Rattle.study_games.specs.declared.token.TokenFault.TheVariants.{Byte}
 use Rattle.study_import.specs.Reading.{Reading}
 use Rattle.study_import.specs.Taken.{Taken, Takes}
 use Rattle.study_import.specs.Notes.{GameRead, GameTaken, noted_on, game_taken}
-use Rattle.study_games.specs.Tokens.{Token, Lexed, lexed, token_at, begins_feed}
-use Rattle.study_import.specs.declared.numbering.Numbering.{Numbering}
+use Rattle.study_games.specs.Tokens.{Token, Lexed, lexed_token, token_at, begins_feed}
+use Rattle.study_import.specs.declared.game.numbering.Numbering.{Numbering}
 use Rattle.study_import.specs.Movetext.{Ended, goes_on, game_numbered, with_numbering, on_numbered, on_token, read_moves}
 use Rattle.study_import.specs.MovesRead.{IsReported, TakesIn}
 
@@ -24,7 +24,7 @@ module _ (n m : ℕ) (fresh : Bool) (r : GameRead) (t : Token) (behind : List �
   read_by : (b : ℕ) (bs : List ℕ) → n ≡ suc m → token_at fresh (b ∷ bs) ≡ Some (Ok (t, behind))
       → read_moves n fresh (b ∷ bs) r ≡ on_numbered (read_moves m (b == 10) behind) (length (b ∷ bs)) r t behind (game_numbered r t behind)
   read_by b bs e k =
-      let l : lexed fresh b bs ≡ Ok (t, behind) = ap lexed_or k in
+      let l : lexed_token fresh b bs ≡ Ok (t, behind) = ap lexed_or k in
       ap (λ (i : ℕ). read_moves i fresh (b ∷ bs) r) e ∙ ap (on_token (read_moves m (b == 10)) (length (b ∷ bs)) r) l
 
   numbered_by : (b : ℕ) (bs : List ℕ) (s : Option Numbering) → n ≡ suc m → token_at fresh (b ∷ bs) ≡ Some (Ok (t, behind)) → game_numbered r t behind ≡ s

@@ -29,15 +29,15 @@ use Rattle.study_marks.specs.Study.{moves_to, position_after, position_at, same_
 use Rattle.study_marks.specs.Edits.{PlainStudy, with_insertion, is_printable}
 use Rattle.study_marks.proofs.DualCounts.{same_move-one}
 use Rattle.study_pgn.specs.Values.{side_name, mates_text, value_text}
-use Rattle.study_pgn.specs.Moves.{move_dots, number_text, glyph_text, dual_text, comment_text, words_of_move, following, variations}
+use Rattle.study_pgn.specs.Moves.{move_dots, number_text, glyph_text, dual_text, comment_text, words_of_move, continuation_text, variations}
 use Rattle.study_games.specs.Bytes.{is_letter, is_digit, is_high, begins_symbol, is_symbol_byte}
 use Rattle.study_games.specs.Symbols.{said_of, san_in}
 use Rattle.study_games.specs.declared.symbols.Said.TheVariants as say
 use Rattle.study_games.specs.Tokens.{is_inside}
 use Rattle.study_games.proofs.Lexing.{Stops, symbol_digit, is_plain_symbol}
-use Rattle.study_import.specs.declared.lines.Waiting.{Waiting}
+use Rattle.study_import.specs.declared.game.lines.Waiting.{Waiting}
 use Rattle.study_import.specs.Notes.{GameRead}
-use Rattle.study_import.specs.Written.{plainly}
+use Rattle.study_import.specs.Written.{without_marks}
 use Rattle.study_import.proofs.Ink.{Ink, ink_of, decimal_ink}
 use Rattle.study_import.proofs.Spelling.{move_short}
 use Rattle.study_import.proofs.Blanks.{Same, same_cut, word_cut, IsGap, space_cut, same_all}
@@ -45,7 +45,7 @@ use Rattle.study_import.proofs.SanSymbols.{symbol_is, symbol_said, symbol_move, 
 use Rattle.study_import.proofs.TreeHoles.{Plain, put, put_has, put_here, put_way, put_width, put_place, put_moves, put_last, put_put, put_nodes}
 use Rattle.study_import.proofs.TreeHoles.{position_on, beside, beside_assoc, beside_none, last_put, last_has, last_is, last_moves, last_nodes}
 use Rattle.study_import.proofs.TreeHoles.{beside_nodes, beside_place, first_put, first_beside}
-use Rattle.study_import.specs.declared.numbering.Numbering.{Numbering}
+use Rattle.study_import.specs.declared.game.numbering.Numbering.{Numbering}
 use Rattle.study_import.specs.Numbering.{has_dot}
 use Rattle.study_import.proofs.Numbers.{IsFirst, Fits, Counted, counted_on, no_dot, number_fits}
 use Rattle.study_import.proofs.ReadSteps.{At, Reached, reached_on, gap_step, dot_step, number_step, glyph_step, comment_step, IsNew, move_step}
@@ -374,16 +374,17 @@ record Varied (s : PlainStudy) (f : Plain) (path : List ℕ) (x : Plain) (rest t
 
 abbrev pub FollowOk : Forest Mark → Type 0
 FollowOk t = (s : PlainStudy) (f : Plain) (path : List ℕ) (st : Start) (from : ℕ) (ws : List Waiting) (o : Option Stipulation) (d : ℕ) (rest text : List ℕ)
-    → Node s f path st → IsPlayable st.position (plainly t) → AreDistinct (plainly t) → Limits f path none (plainly t) from ws d
-    → Same (following st t ++ rest) text → (g : GameRead) → At (on_tree s (put f path none)) path from ws o g
-    → Followed s f path (plainly t) rest text from ws o g
+    → Node s f path st → IsPlayable st.position (without_marks t) → AreDistinct (without_marks t) → Limits f path none (without_marks t) from ws d
+    → Same (continuation_text st t ++ rest) text → (g : GameRead) → At (on_tree s (put f path none)) path from ws o g
+    → Followed s f path (without_marks t) rest text from ws o g
 
 abbrev VaryOk : Forest Mark → Type 0
 VaryOk t = (s : PlainStudy) (f : Plain) (path : List ℕ) (st : Start) (from : ℕ) (ws : List Waiting) (o : Option Stipulation) (d : ℕ) (x : Plain)
     (rest text : List ℕ)
-    → Node s f path st → IsPlayable st.position (plainly t) → AreDistinct (plainly t) → NoneOf x (plainly t) → Limits f path x (plainly t) from ws d
+    → Node s f path st → IsPlayable st.position (without_marks t) → AreDistinct (without_marks t) → NoneOf x (without_marks t)
+    → Limits f path x (without_marks t) from ws d
     → Same (variations st t ++ rest) text → (g : GameRead) → At (on_tree s (put f path x)) (path ++ 0 ∷ []) from ws o g
-    → Varied s f path (beside x (plainly t)) rest text from ws o g
+    → Varied s f path (beside x (without_marks t)) rest text from ws o g
 
 depth_some : (d : ℕ) (m : Move) (b r : Plain) → IsWithin d (more m tt b r) → (e : ℕ) × (d ≡ suc e) × IsWithin e b × IsWithin d r
 depth_some zero m b r h = absurd h
@@ -469,15 +470,15 @@ module _ (m : Move) (mark : Mark) (b r : Forest Mark) (fb : FollowOk b) (vr : Va
   follow_more s f path st from ws o d rest text node playable distinct limits h g at =
       let next = start_after st m in
       let v = variations st r in
-      let fo = following next b in
+      let fo = continuation_text next b in
       let w = words_of_move st m mark in
       let cut = space_cut (w ++ (v ++ (fo ++ rest))) text (subst (λ (y : List ℕ). Same y text) (cut_line w v fo rest) h) in
-      let dd = depth_some d m (plainly b) (plainly r) limits.within in
+      let dd = depth_some d m (without_marks b) (without_marks r) limits.within in
       let deep = limits.deep in
       let room = limits.room in
       let few = limits.few in
       let old = put f path none in
-      let y = more m tt none (plainly r) in
+      let y = more m tt none (without_marks r) in
       let f2 = put f path y in
       let q = path ++ 0 ∷ [] in
       let longer : length q ≡ length path + 1 = length-append path (0 ∷ []) in
@@ -485,45 +486,51 @@ module _ (m : Move) (mark : Mark) (b r : Forest Mark) (fb : FollowOk b) (vr : Va
       let mv = words_move s f path st node from ws o none m mark (v ++ (fo ++ rest)) cut.back playable.0 refl (omega (arith, dd.1)) (omega arith) cut.rest
       r1.next r1.at in
       let one = put_nodes (more m tt none none) f path node.here in
-      let vl : Limits f path (more m tt none none) (plainly r) from ws d = record {
+      let vl : Limits f path (more m tt none none) (without_marks r) from ws d = record {
         deep = deep;
         within = dd.3;
         room = omega arith;
         begun = limits.begun;
         few = few;
       } in
-      let va = vr s f path st from ws o d (more m tt none none) (fo ++ rest) mv.back node playable.2 distinct.2 (first_others m (plainly r) distinct.0) vl
+      let va = vr s f path st from ws o d (more m tt none none) (fo ++ rest) mv.back node playable.2 distinct.2 (first_others m (without_marks r) distinct.0) vl
       mv.same mv.reached.next mv.reached.at in
-      let tree1 : put f path (beside (more m tt none none) (plainly r)) ≡ f2 = ap (put f path) (first_beside m (plainly r)) in
-      let hole : f2 ≡ put f2 q none = sym (put_put y f path (0 ∷ []) none node.here ∙ ap (put f path) (first_put m (plainly r) none)) in
+      let tree1 : put f path (beside (more m tt none none) (without_marks r)) ≡ f2 = ap (put f path) (first_beside m (without_marks r)) in
+      let hole : f2 ≡ put f2 q none = sym (put_put y f path (0 ∷ []) none node.here ∙ ap (put f path) (first_put m (without_marks r) none)) in
       let child = child_node s f path st y 0 m node playable.0 (omega (arith, dd.1)) refl refl in
       let many = put_nodes y f path node.here in
       let same_nodes : nodes_in (put f2 q none) ≡ nodes_in f2 = ap (λ (z : Plain). nodes_in z) (sym hole) in
       let begun = limits.begun in
-      let fl : Limits f2 q none (plainly b) from ws dd.0 = record {
+      let fl : Limits f2 q none (without_marks b) from ws dd.0 = record {
         deep = omega (arith, dd.1);
         within = dd.2;
         room = omega arith;
         begun = omega arith;
         few = omega arith;
       } in
-      let fo2 = fb s f2 q next from ws o dd.0 rest va.back child (subst (λ (p : Position). IsPlayable p (plainly b)) (sym (start_position st m)) playable.1)
+      let fo2 = fb s f2 q next from ws o dd.0 rest va.back child (subst (λ (p : Position). IsPlayable p (without_marks b))
+      (sym (start_position st m)) playable.1)
       distinct.1 fl va.same
-      va.reached.next (restated s (put f path (beside (more m tt none none) (plainly r))) (put f2 q none) q q from ws o va.reached.next (tree1 ∙ hole) refl
+      va.reached.next (restated s (put f path (beside (more m tt none none) (without_marks r))) (put f2 q none) q q from ws o va.reached.next
+      (tree1 ∙ hole) refl
       va.reached.at) in
-      let last : put f2 q (plainly b) ≡ put f path (more m tt (plainly b) (plainly r)) =
-      put_put y f path (0 ∷ []) (plainly b) node.here ∙ ap (put f path) (first_put m (plainly r) (plainly b)) in
-      let tail = joined mv.back va.back fo2.back (on_tree s (put f path (beside (more m tt none none) (plainly r)))) (on_tree s (put f2 q (plainly b))) q (q
+      let last : put f2 q (without_marks b) ≡ put f path (more m tt (without_marks b) (without_marks r)) =
+      put_put y f path (0 ∷ []) (without_marks b) node.here ∙ ap (put f path) (first_put m (without_marks r) (without_marks b)) in
+      let tail = joined mv.back va.back fo2.back (on_tree s (put f path (beside (more m tt none none) (without_marks r))))
+      (on_tree s (put f2 q (without_marks b))) q (q
       ++ fo2.way) from from ws ws o mv.reached.next va.reached fo2.reached in
-      let middle = joined cut.back mv.back fo2.back (on_tree s (put f path (more m tt none none))) (on_tree s (put f2 q (plainly b))) q (q ++ fo2.way) from
+      let middle = joined cut.back mv.back fo2.back (on_tree s (put f path (more m tt none none))) (on_tree s (put f2 q (without_marks b))) q
+      (q ++ fo2.way) from
       from ws ws o r1.next mv.reached tail in
-      let whole = joined (cut.byte ∷ cut.back) cut.back fo2.back (on_tree s old) (on_tree s (put f2 q (plainly b))) path (q ++ fo2.way) from from ws ws o g r1
+      let whole = joined (cut.byte ∷ cut.back) cut.back fo2.back (on_tree s old) (on_tree s (put f2 q (without_marks b))) path
+      (q ++ fo2.way) from from ws ws o g r1
       middle in
       record {
         back = fo2.back;
         same = fo2.same;
         way = 0 ∷ fo2.way;
-        reached = renamed text (cut.byte ∷ cut.back) fo2.back s (put f2 q (plainly b)) (put f path (more m tt (plainly b) (plainly r))) (q ++ fo2.way) (path
+        reached = renamed text (cut.byte ∷ cut.back) fo2.back s (put f2 q (without_marks b))
+            (put f path (more m tt (without_marks b) (without_marks r))) (q ++ fo2.way) (path
             ++ (0 ∷ fo2.way)) from ws o g
             cut.text last (append_assoc path (0 ∷ []) fo2.way) whole;
       }
@@ -577,13 +584,13 @@ record Body (s : PlainStudy) (t : Plain) (path : List ℕ) (k : ℕ) (rest text 
   piece : Piece text rest (on_tree s t) ((path ++ k ∷ []) ++ way) (length path) ws o g
 
 module _ (m : Move) (mark : Mark) (b : Forest Mark) (fb : FollowOk b) (s : PlainStudy) (f : Plain) (path : List ℕ) (st : Start) (node : Node s f path st)
-    (legal : is_legal st.position m ≡ true) (playable : IsPlayable (after st.position m) (plainly b)) (distinct : AreDistinct (plainly b)) (d : ℕ)
-    (deep : length path + suc d ≡ 256) (within : IsWithin d (plainly b)) (ws : List Waiting) (few : length ws ≤ length path + 1) (o : Option Stipulation)
-    (x : Plain) (new : place_from 0 m x ≡ None) (room : nodes_in (put f path x) + nodes_in (plainly b) + 2 ≤ 4096) where
+    (legal : is_legal st.position m ≡ true) (playable : IsPlayable (after st.position m) (without_marks b)) (distinct : AreDistinct (without_marks b)) (d : ℕ)
+    (deep : length path + suc d ≡ 256) (within : IsWithin d (without_marks b)) (ws : List Waiting) (few : length ws ≤ length path + 1) (o : Option Stipulation)
+    (x : Plain) (new : place_from 0 m x ≡ None) (room : nodes_in (put f path x) + nodes_in (without_marks b) + 2 ≤ 4096) where
   -- after the move
-  behind_move : (rest text : List ℕ) → Same (following (start_after st m) b ++ rest) text → (g : GameRead)
+  behind_move : (rest text : List ℕ) → Same (continuation_text (start_after st m) b ++ rest) text → (g : GameRead)
       → At (on_tree s (put f path (with_last m tt x))) (path ++ width x ∷ []) (length path) ws o g
-      → Body s (put f path (beside x (more m tt (plainly b) none))) path (width x) rest text ws o g
+      → Body s (put f path (beside x (more m tt (without_marks b) none))) path (width x) rest text ws o g
   behind_move rest text h g at =
       let y = with_last m tt x in
       let k = width x in
@@ -595,7 +602,7 @@ module _ (m : Move) (mark : Mark) (b : Forest Mark) (fb : FollowOk b) (s : Plain
       let most = put_nodes x f path node.here in
       let more_nodes = last_nodes x m in
       let same_nodes : nodes_in (put f2 q none) ≡ nodes_in f2 = ap (λ (z : Plain). nodes_in z) (sym hole) in
-      let limits : Limits f2 q none (plainly b) (length path) ws d = record {
+      let limits : Limits f2 q none (without_marks b) (length path) ws d = record {
         deep = omega arith;
         within = within;
         room = omega arith;
@@ -604,10 +611,10 @@ module _ (m : Move) (mark : Mark) (b : Forest Mark) (fb : FollowOk b) (s : Plain
       } in
       let child = child_node s f path st y k m node legal (omega arith) (last_has x m) (last_moves x m) in
       let r = fb s f2 q (start_after st m) (length path) ws o d rest text child
-      (subst (λ (p : Position). IsPlayable p (plainly b)) (sym (start_position st m)) playable) distinct
+      (subst (λ (p : Position). IsPlayable p (without_marks b)) (sym (start_position st m)) playable) distinct
       limits h g (restated s f2 (put f2 q none) q q (length path) ws o g hole refl at) in
-      let made : put f2 q (plainly b) ≡ put f path (beside x (more m tt (plainly b) none)) =
-      put_put y f path (k ∷ []) (plainly b) node.here ∙ ap (put f path) (last_put x m (plainly b)) in
+      let made : put f2 q (without_marks b) ≡ put f path (beside x (more m tt (without_marks b) none)) =
+      put_put y f path (k ∷ []) (without_marks b) node.here ∙ ap (put f path) (last_put x m (without_marks b)) in
       record {
         way = r.way;
         piece = record {
@@ -618,10 +625,12 @@ module _ (m : Move) (mark : Mark) (b : Forest Mark) (fb : FollowOk b) (s : Plain
         };
       }
 
-  body_read : (rest text : List ℕ) → Same (words_of_move st m mark ++ (following (start_after st m) b ++ rest)) text → (g : GameRead)
-      → At (on_tree s (put f path x)) path (length path) ws o g → Body s (put f path (beside x (more m tt (plainly b) none))) path (width x) rest text ws o g
+  body_read : (rest text : List ℕ) → Same (words_of_move st m mark ++ (continuation_text (start_after st m) b ++ rest)) text → (g : GameRead)
+      → At (on_tree s (put f path x)) path (length path) ws o g → Body s (put f path (beside x (more m tt (without_marks b) none))) path
+      (width x) rest text ws o g
   body_read rest text h g at =
-      let mv = words_move s f path st node (length path) ws o x m mark (following (start_after st m) b ++ rest) text legal new (omega arith) (omega arith) h g
+      let mv = words_move s f path st node (length path) ws o x m mark (continuation_text (start_after st m) b ++ rest) text legal new (omega arith)
+      (omega arith) h g
       at in
       let r = behind_move rest mv.back mv.same mv.reached.next mv.reached.at in
       record {
@@ -630,20 +639,20 @@ module _ (m : Move) (mark : Mark) (b : Forest Mark) (fb : FollowOk b) (s : Plain
           back = r.piece.back;
           same = r.piece.same;
           reached = joined text mv.back r.piece.back (on_tree s (put f path (with_last m tt x)))
-              (on_tree s (put f path (beside x (more m tt (plainly b) none)))) (path ++ width x ∷ [])
+              (on_tree s (put f path (beside x (more m tt (without_marks b) none)))) (path ++ width x ∷ [])
               ((path ++ width x ∷ []) ++ r.way) (length path) (length path) ws ws o g mv.reached r.piece.reached;
         };
       }
 
   -- a whole variation
   variation_read : (from : ℕ) (vs : List Waiting) (rest text : List ℕ) → ws ≡ waits from ∷ vs → from ≤ length path → length vs < 256
-      → Same (32 ∷ 40 ∷ (words_of_move st m mark ++ (following (start_after st m) b ++ (41 ∷ rest)))) text → (g : GameRead)
+      → Same (32 ∷ 40 ∷ (words_of_move st m mark ++ (continuation_text (start_after st m) b ++ (41 ∷ rest)))) text → (g : GameRead)
       → At (on_tree s (put f path x)) (path ++ 0 ∷ []) from vs o g
-      → Piece text rest (on_tree s (put f path (beside x (more m tt (plainly b) none)))) (path ++ 0 ∷ []) from vs o g
+      → Piece text rest (on_tree s (put f path (beside x (more m tt (without_marks b) none)))) (path ++ 0 ∷ []) from vs o g
   variation_read from vs rest text is le small h g at =
-      let w = words_of_move st m mark ++ (following (start_after st m) b ++ (41 ∷ rest)) in
+      let w = words_of_move st m mark ++ (continuation_text (start_after st m) b ++ (41 ∷ rest)) in
       let old = on_tree s (put f path x) in
-      let new_tree = on_tree s (put f path (beside x (more m tt (plainly b) none))) in
+      let new_tree = on_tree s (put f path (beside x (more m tt (without_marks b) none))) in
       let a = opened old path from vs o w text le small h g at in
       let c = body_read (41 ∷ rest) a.back a.same a.reached.next (subst (λ (z : List Waiting). At old path (length path) z o a.reached.next) (sym is)
       a.reached.at) in
@@ -663,7 +672,7 @@ module _ (m : Move) (mark : Mark) (b r : Forest Mark) (fb : FollowOk b) (vr : Va
   vary_more : VaryOk (more m mark b r)
   unfolding NoneOf
   vary_more s f path st from ws o d x rest text node playable distinct apart limits h g at =
-      let dd = depth_some d m (plainly b) (plainly r) limits.within in
+      let dd = depth_some d m (without_marks b) (without_marks r) limits.within in
       let deep = limits.deep in
       let room = limits.room in
       let few = limits.few in
@@ -673,19 +682,22 @@ module _ (m : Move) (mark : Mark) (b r : Forest Mark) (fb : FollowOk b) (vr : Va
       let piece = variation_read m mark b fb s f path st node playable.0 playable.1 distinct.1 dd.0 (omega (arith, dd.1)) dd.2 (waits from ∷ ws) (omega arith)
       o x apart.0 (omega arith)
       from ws (v ++ rest) text refl begun (omega (arith, dd.1))
-      (subst (λ (y : List ℕ). Same y text) (cut_line (words_of_move st m mark) (following (start_after st m) b) v rest) h) g at in
-      let done = beside x (more m tt (plainly b) none) in
+      (subst (λ (y : List ℕ). Same y text) (cut_line (words_of_move st m mark) (continuation_text (start_after st m) b) v rest) h) g at in
+      let done = beside x (more m tt (without_marks b) none) in
       let count_b = put_nodes done f path node.here in
-      let count_done = beside_nodes x (more m tt (plainly b) none) in
-      let vl : Limits f path done (plainly r) from ws d = record { deep = deep; within = dd.3; room = omega arith; begun = begun; few = few } in
-      let va = vr s f path st from ws o d done rest piece.back node playable.2 distinct.2 (others_none x m (plainly b) (plainly r) apart.1 distinct.0) vl
+      let count_done = beside_nodes x (more m tt (without_marks b) none) in
+      let vl : Limits f path done (without_marks r) from ws d = record { deep = deep; within = dd.3; room = omega arith; begun = begun; few = few } in
+      let va = vr s f path st from ws o d done rest piece.back node playable.2 distinct.2
+      (others_none x m (without_marks b) (without_marks r) apart.1 distinct.0) vl
       piece.same
       piece.reached.next piece.reached.at in
       record {
         back = va.back;
         same = va.same;
-        reached = subst (λ (z : Plain). Reached text va.back (on_tree s (put f path z)) (path ++ 0 ∷ []) from ws o g) (beside_assoc x m (plainly b) (plainly r))
-            (joined text piece.back va.back (on_tree s (put f path done)) (on_tree s (put f path (beside done (plainly r)))) (path ++ 0 ∷ []) (path ++ 0 ∷ [])
+        reached = subst (λ (z : Plain). Reached text va.back (on_tree s (put f path z)) (path ++ 0 ∷ []) from ws o g)
+            (beside_assoc x m (without_marks b) (without_marks r))
+            (joined text piece.back va.back (on_tree s (put f path done)) (on_tree s (put f path (beside done (without_marks r)))) (path ++ 0 ∷ [])
+            (path ++ 0 ∷ [])
             from from ws ws o g
             piece.reached va.reached);
       }

@@ -7,14 +7,15 @@ use Rattle.std.proofs.lemmas.Bool.{and_parts}
 use Rattle.study_games.specs.declared.token.TokenFault.TheVariants.{OpenComment, TagForm, OpenString, Byte}
 use Rattle.study_games.specs.declared.header.HeaderFault.{HeaderFault}
 use Rattle.study_games.specs.Bytes.{is_blank, is_gap, is_letter, is_digit, is_name_byte, is_sign, is_tail, begins_symbol, is_symbol_byte, is_glyph}
-use Rattle.study_games.specs.Tokens.{Token, Lexed, front, behind, closed, is_inside, comment_at, is_in_line, value_end, without_first, behind_value}
-use Rattle.study_games.specs.Tokens.{valued, quoted, named, tag_at, begins_ellipsis, behind_ellipsis, begins_number, symbol_at, ink_at, lexed, blank}
+use Rattle.study_games.specs.Tokens.{Token, Lexed, front, behind, lexed_comment, is_inside, comment_at, is_in_line, value_end, without_first, behind_value}
+use Rattle.study_games.specs.Tokens.{lexed_value, lexed_quotation, lexed_name, tag_at, begins_ellipsis, behind_ellipsis, begins_number, symbol_at, ink_at}
+use Rattle.study_games.specs.Tokens.{lexed_token, blank}
 use Rattle.study_games.specs.Tokens.{aside, opening, closing, star, tag, comment, rest, sign, symbol}
 use Rattle.study_games.specs.Header.{Pair, Step, on, no_tag, ended, step_of, with_tags, tags_in, with_fault, fault_in}
-use Rattle.study_import.specs.declared.taking.Reason.{Reason}
-use Rattle.study_import.specs.declared.movetext.MovesFault.{MovesFault}
+use Rattle.study_import.specs.declared.game.token_effects.Reason.{Reason}
+use Rattle.study_import.specs.declared.game.movetext.MovesFault.{MovesFault}
 use Rattle.study_import.specs.Notes.{GameRead, GameTaken, game_taken}
-use Rattle.study_import.specs.declared.numbering.Numbering.{Numbering}
+use Rattle.study_import.specs.declared.game.numbering.Numbering.{Numbering}
 use Rattle.study_import.specs.Movetext.{Ended, goes_on, game_numbered, with_numbering, on_numbered, on_token, read_moves}
 
 -- after a token there are at most so many bytes
@@ -29,7 +30,7 @@ within_if : (b : Bool) (n : ℕ) (x y : Lexed) → (b ≡ true → Within n x) �
 within_if true n x y h k = h refl
 within_if false n x y h k = k
 
-within_closed : (n : ℕ) (text rest : List ℕ) → length rest ≤ n → Within n (closed text rest)
+within_closed : (n : ℕ) (text rest : List ℕ) → length rest ≤ n → Within n (lexed_comment text rest)
 within_closed n text [] h = tt
 within_closed n text (b ∷ bs) h = omega arith
 
@@ -45,19 +46,19 @@ value_le : (text : List ℕ) → length (behind_value text) ≤ length text
 unfolding behind_value
 value_le text = omega (arith, first_le (behind is_gap (without_first text)), behind_le is_gap (without_first text), first_le text)
 
-within_valued : (n : ℕ) (name text : List ℕ) (o : Option ℕ) → length text ≤ n → Within n (valued name text o)
+within_valued : (n : ℕ) (name text : List ℕ) (o : Option ℕ) → length text ≤ n → Within n (lexed_value name text o)
 within_valued n name text None h = tt
 within_valued n name text (Some k) h = omega (arith, value_le (drop k text), length-drop k text)
 
-within_quoted : (n : ℕ) (name text : List ℕ) → length text ≤ n → Within n (quoted name text)
+within_quoted : (n : ℕ) (name text : List ℕ) → length text ≤ n → Within n (lexed_quotation name text)
 within_quoted n name [] h = tt
 within_quoted n name (b ∷ bs) h =
-    within_if (b == 34) n (valued name bs (value_end 0 false bs)) (Err TagForm) (λ e. within_valued n name bs (value_end 0 false bs) (omega arith)) tt
+    within_if (b == 34) n (lexed_value name bs (value_end 0 false bs)) (Err TagForm) (λ e. within_valued n name bs (value_end 0 false bs) (omega arith)) tt
 
-within_named : (n : ℕ) (text : List ℕ) → length text ≤ n → Within n (named text)
+within_named : (n : ℕ) (text : List ℕ) → length text ≤ n → Within n (lexed_name text)
 within_named n [] h = tt
 within_named n (b ∷ bs) h =
-    within_if (is_letter b) n (quoted (front is_name_byte (b ∷ bs)) (behind is_gap (behind is_name_byte (b ∷ bs)))) (Err TagForm)
+    within_if (is_letter b) n (lexed_quotation (front is_name_byte (b ∷ bs)) (behind is_gap (behind is_name_byte (b ∷ bs)))) (Err TagForm)
     (λ e. within_quoted n (front is_name_byte (b ∷ bs)) (behind is_gap (behind is_name_byte (b ∷ bs)))
     (omega (arith, behind_le is_gap (behind is_name_byte (b ∷ bs)), behind_le is_name_byte (b ∷ bs)))) tt
 
@@ -90,8 +91,8 @@ within_ink b bs =
     (within_if (begins_ellipsis (b ∷ bs)) (length bs) _ _ (λ e. ellipsis_le b bs)
     (within_if (begins_symbol b) (length bs) _ _ (λ e. within_symbol b bs e) tt))
 
-pub within_lexed : (fresh : Bool) (b : ℕ) (bs : List ℕ) → Within (length bs) (lexed fresh b bs)
-unfolding lexed
+pub within_lexed : (fresh : Bool) (b : ℕ) (bs : List ℕ) → Within (length bs) (lexed_token fresh b bs)
+unfolding lexed_token
 within_lexed fresh b bs =
     within_if (fresh && b == 37) (length bs) _ _ (λ e. behind_le is_in_line bs)
     (within_if (is_blank b || b == 46) (length bs) _ _ (λ e. omega arith)
@@ -134,7 +135,7 @@ moves_same (suc n) zero fresh [] g h k = refl
 moves_same (suc n) zero fresh (b ∷ bs) g h k = absurd (omega arith)
 moves_same (suc n) (suc m) fresh [] g h k = refl
 moves_same (suc n) (suc m) fresh (b ∷ bs) g h k =
-    same_token (read_moves n (b == 10)) (read_moves m (b == 10)) (length (b ∷ bs)) (length bs) g (lexed fresh b bs) (within_lexed fresh b bs)
+    same_token (read_moves n (b == 10)) (read_moves m (b == 10)) (length (b ∷ bs)) (length bs) g (lexed_token fresh b bs) (within_lexed fresh b bs)
     (λ rest x le. moves_same n m (b == 10) rest x (omega arith) (omega arith))
 
 -- ---- headers
@@ -174,8 +175,8 @@ tags_same n m fresh [] h k = tags_none n fresh ∙ sym (tags_none m fresh)
 tags_same zero m fresh (b ∷ bs) h k = absurd (omega arith)
 tags_same (suc n) zero fresh (b ∷ bs) h k = absurd (omega arith)
 tags_same (suc n) (suc m) fresh (b ∷ bs) h k =
-    same_tags (tags_in n (b == 10)) (tags_in m (b == 10)) (length bs) (step_of (lexed fresh b bs))
-    (within_step (length bs) (lexed fresh b bs) (within_lexed fresh b bs))
+    same_tags (tags_in n (b == 10)) (tags_in m (b == 10)) (length bs) (step_of (lexed_token fresh b bs))
+    (within_step (length bs) (lexed_token fresh b bs) (within_lexed fresh b bs))
     (λ rest le. tags_same n m (b == 10) rest (omega arith) (omega arith))
 
 pub same_fault : (p q : List ℕ → Option HeaderFault) (left n : ℕ) (s : Step) → StepWithin n s → ((bs : List ℕ) → length bs ≤ n → p bs ≡ q bs)
@@ -193,5 +194,5 @@ fault_same n m fresh [] h k = fault_none n fresh ∙ sym (fault_none m fresh)
 fault_same zero m fresh (b ∷ bs) h k = absurd (omega arith)
 fault_same (suc n) zero fresh (b ∷ bs) h k = absurd (omega arith)
 fault_same (suc n) (suc m) fresh (b ∷ bs) h k =
-    same_fault (fault_in n (b == 10)) (fault_in m (b == 10)) (length (b ∷ bs)) (length bs) (step_of (lexed fresh b bs))
-    (within_step (length bs) (lexed fresh b bs) (within_lexed fresh b bs)) (λ rest le. fault_same n m (b == 10) rest (omega arith) (omega arith))
+    same_fault (fault_in n (b == 10)) (fault_in m (b == 10)) (length (b ∷ bs)) (length bs) (step_of (lexed_token fresh b bs))
+    (within_step (length bs) (lexed_token fresh b bs) (within_lexed fresh b bs)) (λ rest le. fault_same n m (b == 10) rest (omega arith) (omega arith))

@@ -8,15 +8,15 @@ use Rattle.study_marks.specs.declared.stipulation.Goal.{Goal}
 use Rattle.study_marks.specs.declared.stipulation.Goal.TheVariants.{Win, Draw, MateIn}
 use Rattle.study_marks.specs.declared.stipulation.Stipulation.{Stipulation}
 use Rattle.study_command.specs.Parser.{mate_moves_of}
-use Rattle.study_games.specs.Words.{first_word, trimmed}
+use Rattle.study_games.specs.Words.{first_word, trim}
 use Rattle.study_games.specs.Symbols.{said_of}
 use Rattle.study_games.specs.declared.symbols.Said.{Said}
 use Rattle.study_games.specs.declared.symbols.Said.TheVariants as say
 use Rattle.study_games.specs.declared.symbols.Outcome.{Outcome}
 use Rattle.study_games.specs.declared.symbols.Outcome.TheVariants.{WhiteWins, BlackWins, Drawn}
-use Rattle.study_import.specs.declared.aims.AimSource.{AimSource}
-use Rattle.study_import.specs.declared.aims.AimSource.TheVariants.{Comment, StipulationTag, ResultTag, Result, Given}
-use Rattle.study_import.specs.declared.aims.Aim.{Aim}
+use Rattle.study_import.specs.declared.game.aims.AimSource.{AimSource}
+use Rattle.study_import.specs.declared.game.aims.AimSource.TheVariants.{Comment, StipulationTag, ResultTag, Result, Given}
+use Rattle.study_import.specs.declared.game.aims.Aim.{Aim}
 
 -- a word, and the rest
 abbrev pub Found : Type 0
@@ -110,13 +110,13 @@ goal_by_verb (Some x) = verb_or_mate (goal_of_verb (last_of_phrase x.0 x.1)) x.0
 abbrev pub goal_behind_hero : Found → Option Goal
 goal_behind_hero x = or_goal (goal_behind_to x) (goal_by_verb x)
 
-abbrev pub aimed : Option Side → Option Goal → Option Stipulation
-aimed (Some hero) (Some goal) = Some (record { hero = hero; goal = goal })
-aimed _ _ = None
+abbrev pub stipulation_by : Option Side → Option Goal → Option Stipulation
+stipulation_by (Some hero) (Some goal) = Some (record { hero = hero; goal = goal })
+stipulation_by _ _ = None
 
 abbrev pub aim_by : Found → Option Stipulation
 aim_by None = None
-aim_by (Some x) = aimed (hero_of x.0) (goal_behind_hero (first_word x.1))
+aim_by (Some x) = stipulation_by (hero_of x.0) (goal_behind_hero (first_word x.1))
 
 -- the stipulation at the beginning of a comment
 unfoldable pub aim_in : List ℕ → Option Stipulation
@@ -151,7 +151,7 @@ aim_of_text text to_move =
 
 -- the value of a tag Stipulation
 unfoldable pub aim_of_tag : List ℕ → Side → Option Stipulation
-aim_of_tag value to_move = aim_of_text (trimmed value) to_move
+aim_of_tag value to_move = aim_of_text (trim value) to_move
 
 -- ---- results: in a collection of studies White is the hero of a draw, whoever is to move
 
@@ -166,7 +166,7 @@ outcome_said other = None
 
 -- the value of the tag Result: a result as behind the moves
 unfoldable pub outcome_of_tag : List ℕ → Option Outcome
-outcome_of_tag value = outcome_said (said_of (trimmed value))
+outcome_of_tag value = outcome_said (said_of (trim value))
 
 -- ---- the first stipulation that is stated
 

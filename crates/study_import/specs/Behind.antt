@@ -7,9 +7,9 @@ use Rattle.study_games.specs.declared.symbols.Said.{Said}
 use Rattle.study_games.specs.declared.symbols.Said.TheVariants as say
 use Rattle.study_games.specs.declared.token.TokenFault.{TokenFault}
 use Rattle.study_games.specs.declared.token.TokenFault.TheVariants as token_fault
-use Rattle.study_games.specs.Tokens.{Token, Lexed, lexed, behind, is_in_line, without_first, opening, closing, sign, symbol}
-use Rattle.study_import.specs.declared.movetext.MovesFault.{MovesFault}
-use Rattle.study_import.specs.declared.movetext.Stop.TheVariants as stop
+use Rattle.study_games.specs.Tokens.{Token, Lexed, lexed_token, behind, is_in_line, without_first, opening, closing, sign, symbol}
+use Rattle.study_import.specs.declared.game.movetext.MovesFault.{MovesFault}
+use Rattle.study_import.specs.declared.game.movetext.Stop.TheVariants as stop
 use Rattle.study_import.specs.Movetext.{Ended, fault_at}
 
 -- a letter from `a` to `h`, and a digit from `1` to `8`
@@ -49,7 +49,7 @@ moves_or next text (Ok x) = if is_of_moves x.0 then Some (length text) else next
 abbrev pub moves_left : ℕ → Bool → List ℕ → Option ℕ
 moves_left zero fresh text = None
 moves_left (suc n) fresh [] = None
-moves_left (suc n) fresh (b ∷ bs) = moves_or (moves_left n (b == 10)) (b ∷ bs) (lexed fresh b bs)
+moves_left (suc n) fresh (b ∷ bs) = moves_or (moves_left n (b == 10)) (b ∷ bs) (lexed_token fresh b bs)
 
 -- for a text that does not begin a line
 unfoldable pub moves_in : List ℕ → Option ℕ

@@ -23,26 +23,26 @@ use Rattle.study_marks.specs.Edits.{PlainStudy, is_printable}
 use Rattle.study_reply.specs.Names.{fen_name, san_name}
 use Rattle.study_games.specs.Bytes.{is_blank, is_letter, is_digit, is_symbol_byte}
 use Rattle.study_games.specs.Tokens.{front, behind}
-use Rattle.study_games.specs.Words.{first_word, trimmed}
+use Rattle.study_games.specs.Words.{first_word, trim}
 use Rattle.study_games.specs.Games.{Game, one_more}
-use Rattle.study_games.specs.Header.{Pair, tags_of, header_fault, value_of, unescaped}
+use Rattle.study_games.specs.Header.{Pair, tags_of, header_fault, value_of, unescape}
 use Rattle.study_games.specs.Ascii.{spelled_out, short_text}
 use Rattle.study_games.specs.declared.header.HeaderFault.{HeaderFault}
 use Rattle.study_games.specs.declared.symbols.Outcome.{Outcome}
 use Rattle.study_games.specs.declared.token.TokenFault.{TokenFault}
 use Rattle.study_games.specs.declared.token.TokenFault.TheVariants as token
-use Rattle.study_import.specs.declared.lines.LineFault.{LineFault}
-use Rattle.study_import.specs.declared.lines.LineFault.TheVariants as line_fault
-use Rattle.study_import.specs.declared.moves.MoveFault.{MoveFault}
-use Rattle.study_import.specs.declared.moves.MoveFault.TheVariants as move_fault
-use Rattle.study_import.specs.declared.taking.Reason.{Reason}
-use Rattle.study_import.specs.declared.taking.Reason.TheVariants as reason
-use Rattle.study_import.specs.declared.movetext.MovesFault.{MovesFault}
-use Rattle.study_import.specs.declared.movetext.Stop.{Stop}
-use Rattle.study_import.specs.declared.movetext.Stop.TheVariants as stop
-use Rattle.study_import.specs.declared.aims.Aim.{Aim}
-use Rattle.study_import.specs.declared.aims.AimSource.TheVariants.{Comment, StipulationTag, ResultTag, Result as EndResult, Given}
-use Rattle.study_import.specs.declared.notes.Notes.{Notes}
+use Rattle.study_import.specs.declared.game.lines.LineFault.{LineFault}
+use Rattle.study_import.specs.declared.game.lines.LineFault.TheVariants as line_fault
+use Rattle.study_import.specs.declared.game.moves.MoveFault.{MoveFault}
+use Rattle.study_import.specs.declared.game.moves.MoveFault.TheVariants as move_fault
+use Rattle.study_import.specs.declared.game.token_effects.Reason.{Reason}
+use Rattle.study_import.specs.declared.game.token_effects.Reason.TheVariants as reason
+use Rattle.study_import.specs.declared.game.movetext.MovesFault.{MovesFault}
+use Rattle.study_import.specs.declared.game.movetext.Stop.{Stop}
+use Rattle.study_import.specs.declared.game.movetext.Stop.TheVariants as stop
+use Rattle.study_import.specs.declared.game.aims.Aim.{Aim}
+use Rattle.study_import.specs.declared.game.aims.AimSource.TheVariants.{Comment, StipulationTag, ResultTag, Result as EndResult, Given}
+use Rattle.study_import.specs.declared.game.notes.Notes.{Notes}
 use Rattle.study_import.specs.declared.block.Reported.{Reported as ReportedRead}
 use Rattle.study_import.specs.declared.counts.Count.{Count}
 use Rattle.study_import.specs.declared.importer.Choice.{Choice}
@@ -144,7 +144,7 @@ name_words text = if length text == 0 || bytes_eq text (codes "?") then [] else 
 
 abbrev pub author_of : Option (List ℕ) → List ℕ
 author_of None = []
-author_of (Some value) = name_words (tag_text (unescaped value))
+author_of (Some value) = name_words (tag_text (unescape value))
 
 -- the author of a study is its tag White
 unfoldable pub author_words : List Pair → List ℕ
@@ -235,21 +235,21 @@ abbrev pub six_names : List TagName
 six_names = tag_named.Event ∷ tag_named.Site ∷ tag_named.Date ∷ tag_named.Round ∷ tag_named.White ∷ tag_named.Black ∷ []
 
 -- a byte of an original in a remark
-abbrev pub shown : ℕ → ℕ
-shown b = if nat_le b 31 || b == 127 then 32 else b
+abbrev pub remark_byte : ℕ → ℕ
+remark_byte b = if nat_le b 31 || b == 127 then 32 else b
 
 -- `# NAME was: VALUE`, if the text differs from the value without spaces at its ends; at most 255 bytes of it
 abbrev pub was_words : TagName → List ℕ → List ℕ → List ℕ
 was_words name value text =
-    if bytes_eq text (trimmed value) then []
-    else codes "# " ++ (tag_name name ++ (codes " was: " ++ (map shown (take 255 value) ++ codes "\n")))
+    if bytes_eq text (trim value) then []
+    else codes "# " ++ (tag_name name ++ (codes " was: " ++ (map remark_byte (take 255 value) ++ codes "\n")))
 
 abbrev pub was_text : TagName → List ℕ → List ℕ
 was_text name value = was_words name value (tag_text value)
 
 abbrev pub was_of : TagName → Option (List ℕ) → List ℕ
 was_of name None = []
-was_of name (Some value) = was_text name (unescaped value)
+was_of name (Some value) = was_text name (unescape value)
 
 unfoldable pub was_line : List Pair → TagName → List ℕ
 was_line tags name = was_of name (value_of (tag_name name) tags)
@@ -263,7 +263,7 @@ text_or_unknown name text = if length text == 0 then unknown_text name else text
 
 abbrev pub tag_value_text : TagName → Option (List ℕ) → List ℕ
 tag_value_text name None = unknown_text name
-tag_value_text name (Some value) = text_or_unknown name (tag_text (unescaped value))
+tag_value_text name (Some value) = text_or_unknown name (tag_text (unescape value))
 
 -- `tag NAME TEXT`
 unfoldable pub tag_line : List Pair → TagName → List ℕ
@@ -324,7 +324,7 @@ block_lines e start aim t = head_line e aim ++ (remark_lines e t ++ study_lines 
 
 abbrev pub tag_aim : Side → Option (List ℕ) → Option Aim
 tag_aim to_move None = None
-tag_aim to_move (Some value) = from_source StipulationTag (aim_of_tag (unescaped value) to_move)
+tag_aim to_move (Some value) = from_source StipulationTag (aim_of_tag (unescape value) to_move)
 
 abbrev pub result_of : Option (List ℕ) → Option Outcome
 result_of None = None
@@ -380,11 +380,11 @@ start_block given e text (Err fault) = no_study (left_out e (fen_words text faul
 start_block given e text (Ok start) = read_block given e start (game_read e.text start)
 
 -- an unprintable byte is read as `?`, which no field of a FEN has
-abbrev pub printed : ℕ → ℕ
-printed b = if is_printable b then b else 63
+abbrev pub printable_byte : ℕ → ℕ
+printable_byte b = if is_printable b then b else 63
 
 abbrev pub fen_in : List ℕ → List ℕ
-fen_in value = map printed (unescaped value)
+fen_in value = map printable_byte (unescape value)
 
 abbrev pub fen_block : Option Stipulation → Entry → Option (List ℕ) → Block
 fen_block given e None = no_study (left_out e (codes "left out: no FEN, so 32 men"))
@@ -467,8 +467,8 @@ pub record Tally : Type 0 where
   pub studies : ℕ
 
 -- with the next game
-abbrev pub tallied : Choice → Tally → Game → Tally
-tallied c t g =
+abbrev pub tally_with_game : Choice → Tally → Game → Tally
+tally_with_game c t g =
     if is_chosen c (one_more t.met)
     then record {
       met = one_more t.met;
@@ -484,4 +484,4 @@ reported_text c t g = if is_chosen c (one_more t.met) then (block_by c (one_more
 -- the text written for these games, and the last line
 abbrev pub blocks : Choice → Tally → List Game → List ℕ
 blocks c t [] = last_line t.reported t.studies
-blocks c t (g ∷ gs) = reported_text c t g ++ blocks c (tallied c t g) gs
+blocks c t (g ∷ gs) = reported_text c t g ++ blocks c (tally_with_game c t g) gs

@@ -3,7 +3,7 @@ use Rattle.std.specs.Prelude.{◌≡◌, ℕ, ◌-◌, ◌^◌, false, List, [],
 use Rattle.study_marks.specs.declared.stipulation.Stipulation.{Stipulation}
 use Rattle.study_games.specs.Games.{Game, Begun, Gathered, games_from, games_of, lines_behind}
 use Rattle.study_import.specs.declared.importer.Choice.{Choice}
-use Rattle.study_import.specs.Blocks.{Tally, tallied, reported_text, blocks}
+use Rattle.study_import.specs.Blocks.{Tally, tally_with_game, reported_text, blocks}
 
 abbrev pub no_game : Tally
 no_game = record { met = 0; reported = 0; studies = 0 }
@@ -15,7 +15,7 @@ script_of c text = blocks c no_game (games_of text)
 -- the tally after these games
 abbrev pub tally_behind : Choice → Tally → List Game → Tally
 tally_behind c t [] = t
-tally_behind c t (g ∷ gs) = tally_behind c (tallied c t g) gs
+tally_behind c t (g ∷ gs) = tally_behind c (tally_with_game c t g) gs
 
 -- the number of games of a file that were written, and of studies among them
 unfoldable pub tally_of : Choice → List ℕ → Tally
@@ -70,7 +70,7 @@ EndsLineTallied old new = (lines : List (List ℕ)) → tally_ahead old (old.lin
 -- with the current game ended
 abbrev pub tally_then : Held → Option Begun → Tally
 tally_then h None = h.tally
-tally_then h (Some g) = tallied h.choice h.tally g.game
+tally_then h (Some g) = tally_with_game h.choice h.tally g.game
 
 abbrev pub put_away : Held → Held
 put_away h = record h {

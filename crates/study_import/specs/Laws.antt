@@ -15,16 +15,17 @@ use Rattle.study_games.specs.Header.{Pair, tags_in, fault_in, tags_of, header_fa
 use Rattle.study_games.specs.Games.{Game, games_of, games_from, one_more}
 use Rattle.study_games.specs.Laws.{number_behind, EndsWithMoves, BeginsWithTag, lines_of}
 use Rattle.study_import.specs.declared.importer.Choice.{Choice}
-use Rattle.study_import.specs.Blocks.{Tally, is_chosen, tallied, reported_text, blocks, no_moves, game_read, tag_value_text, Entry, Reported, block_lines}
+use Rattle.study_import.specs.Blocks.{Tally, is_chosen, tally_with_game, reported_text, blocks, no_moves, game_read, tag_value_text, Entry, Reported}
+use Rattle.study_import.specs.Blocks.{block_lines}
 use Rattle.study_import.specs.Blocks.{tail_of, tail_line, under_remark, block_by}
 use Rattle.study_import.specs.Insertions.{Leads, AllReadAgain}
-use Rattle.study_import.specs.declared.aims.Aim.{Aim}
-use Rattle.study_import.specs.declared.lines.LineFault.TheVariants as line_fault
-use Rattle.study_import.specs.declared.moves.MoveFault.TheVariants as move_fault
-use Rattle.study_import.specs.declared.taking.Reason.TheVariants as reason
-use Rattle.study_import.specs.declared.movetext.MovesFault.{MovesFault}
-use Rattle.study_import.specs.declared.movetext.Stop.{Stop}
-use Rattle.study_import.specs.declared.movetext.Stop.TheVariants as stop
+use Rattle.study_import.specs.declared.game.aims.Aim.{Aim}
+use Rattle.study_import.specs.declared.game.lines.LineFault.TheVariants as line_fault
+use Rattle.study_import.specs.declared.game.moves.MoveFault.TheVariants as move_fault
+use Rattle.study_import.specs.declared.game.token_effects.Reason.TheVariants as reason
+use Rattle.study_import.specs.declared.game.movetext.MovesFault.{MovesFault}
+use Rattle.study_import.specs.declared.game.movetext.Stop.{Stop}
+use Rattle.study_import.specs.declared.game.movetext.Stop.TheVariants as stop
 use Rattle.study_import.specs.Movetext.{Ended, read_moves}
 use Rattle.study_import.specs.Behind.{moves_left, moves_in, to_the_end}
 use Rattle.study_import.specs.Imported.{no_game, script_of, tally_of}
@@ -35,7 +36,7 @@ use Rattle.study_import.specs.Meant.{study_by}
 -- the blocks of these games after a tally, without the last line
 abbrev pub reported_texts : Choice → Tally → List Game → List ℕ
 reported_texts c t [] = []
-reported_texts c t (g ∷ gs) = reported_text c t g ++ reported_texts c (tallied c t g) gs
+reported_texts c t (g ∷ gs) = reported_text c t g ++ reported_texts c (tally_with_game c t g) gs
 
 -- if a text ends with a whole line of moves, and is followed by one that begins with a line of a tag, the script of both is the blocks of the first, as
 -- they are without the second, and then those of the second, whose numbers of games and lines continue

@@ -1,12 +1,12 @@
 -- The result for a game's moves.
 use Rattle.std.specs.Prelude.{◌≡◌, ℕ, Bool, List, Result, Ok, Err}
-use Rattle.study_import.specs.declared.lines.LineFault.TheVariants as line_fault
-use Rattle.study_import.specs.declared.moves.MoveFault.TheVariants as move_fault
-use Rattle.study_import.specs.declared.taking.Reason.TheVariants as reason
-use Rattle.study_import.specs.declared.movetext.MovesFault.{MovesFault}
-use Rattle.study_import.specs.declared.movetext.Stop.{Stop}
-use Rattle.study_import.specs.declared.movetext.Stop.TheVariants as stop
-use Rattle.study_import.specs.declared.taking.Reason.{Reason}
+use Rattle.study_import.specs.declared.game.lines.LineFault.TheVariants as line_fault
+use Rattle.study_import.specs.declared.game.moves.MoveFault.TheVariants as move_fault
+use Rattle.study_import.specs.declared.game.token_effects.Reason.TheVariants as reason
+use Rattle.study_import.specs.declared.game.movetext.MovesFault.{MovesFault}
+use Rattle.study_import.specs.declared.game.movetext.Stop.{Stop}
+use Rattle.study_import.specs.declared.game.movetext.Stop.TheVariants as stop
+use Rattle.study_import.specs.declared.game.token_effects.Reason.{Reason}
 use Rattle.study_import.specs.Notes.{GameRead, GameTaken}
 use Rattle.study_import.specs.Movetext.{Ended}
 

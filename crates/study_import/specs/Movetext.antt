@@ -1,13 +1,13 @@
 -- The moves of a game, token by token.
 use Rattle.std.specs.Prelude.{ℕ, zero, suc, Bool, ◌==◌, nat_le, List, [], ◌∷◌, length, Option, Some, None, Result, Ok, Err, if◌then◌else◌}
-use Rattle.study_import.specs.declared.taking.Reason.{Reason}
-use Rattle.study_import.specs.declared.movetext.MovesFault.{MovesFault}
-use Rattle.study_import.specs.declared.movetext.Stop.{Stop}
-use Rattle.study_import.specs.declared.movetext.Stop.TheVariants as stop
+use Rattle.study_import.specs.declared.game.token_effects.Reason.{Reason}
+use Rattle.study_import.specs.declared.game.movetext.MovesFault.{MovesFault}
+use Rattle.study_import.specs.declared.game.movetext.Stop.{Stop}
+use Rattle.study_import.specs.declared.game.movetext.Stop.TheVariants as stop
 use Rattle.study_import.specs.Notes.{GameRead, GameTaken, game_taken}
-use Rattle.study_import.specs.declared.numbering.Numbering.{Numbering}
+use Rattle.study_import.specs.declared.game.numbering.Numbering.{Numbering}
 use Rattle.study_import.specs.Numbering.{token_numbered}
-use Rattle.study_games.specs.Tokens.{Token, Lexed, lexed}
+use Rattle.study_games.specs.Tokens.{Token, Lexed, lexed_token}
 
 -- the state after reading, and the text after the result
 pub record Ended : Type 0 where
@@ -46,4 +46,4 @@ on_token next left g (Ok x) = on_numbered (next x.1) left g x.0 x.1 (game_number
 abbrev pub read_moves : ℕ → Bool → List ℕ → GameRead → Result Ended MovesFault
 read_moves zero fresh text g = at_end g
 read_moves (suc n) fresh [] g = at_end g
-read_moves (suc n) fresh (b ∷ bs) g = on_token (read_moves n (b == 10)) (length (b ∷ bs)) g (lexed fresh b bs)
+read_moves (suc n) fresh (b ∷ bs) g = on_token (read_moves n (b == 10)) (length (b ∷ bs)) g (lexed_token fresh b bs)

@@ -9,12 +9,12 @@ use Rattle.study_games.specs.declared.symbols.Outcome.{Outcome}
 use Rattle.study_games.specs.declared.symbols.Said.{Said}
 use Rattle.study_games.specs.declared.symbols.Said.TheVariants as say
 use Rattle.study_games.specs.Tokens.{Token, blank, aside, opening, closing, star, tag, comment, rest, sign, symbol}
-use Rattle.study_import.specs.declared.notes.Notes.{Notes}
-use Rattle.study_import.specs.declared.taking.Reason.{Reason}
+use Rattle.study_import.specs.declared.game.notes.Notes.{Notes}
+use Rattle.study_import.specs.declared.game.token_effects.Reason.{Reason}
 use Rattle.study_import.specs.Aims.{aim_in}
 use Rattle.study_import.specs.Reading.{Reading}
-use Rattle.study_import.specs.declared.lines.Waiting.{Waiting}
-use Rattle.study_import.specs.Taken.{Taken, reading_of, taken}
+use Rattle.study_import.specs.declared.game.lines.Waiting.{Waiting}
+use Rattle.study_import.specs.Taken.{Taken, reading_of, after_token}
 
 abbrev pub none_yet : Notes
 none_yet = record {
@@ -32,8 +32,8 @@ none_yet = record {
 }
 
 -- a token other than a tag, a blank and a comment ends the header
-abbrev pub begun : Notes → Notes
-begun n = record n { in_header = false }
+abbrev pub after_header : Notes → Notes
+after_header n = record n { in_header = false }
 
 abbrev pub with_aside : Notes → Notes
 with_aside n = record n { in_header = false; asides = one_more n.asides }
@@ -62,7 +62,7 @@ abbrev pub with_result : Notes → Bool → Outcome → Notes
 with_result n waits outcome = record n { in_header = false; outcome = if waits then n.outcome else Some outcome }
 
 abbrev pub with_said : Notes → Bool → Bool → Said → Notes
-with_said n cut waits say.Number = begun n
+with_said n cut waits say.Number = after_header n
 with_said n cut waits (say.Result outcome) = with_result n waits outcome
 with_said n cut waits say.NullMove = with_null_move n cut
 with_said n cut waits say.Aside = with_aside n
@@ -71,17 +71,17 @@ with_said n cut waits say.Move = with_move n cut
 abbrev pub with_sign : Notes → Bool → Bool → Notes
 with_sign n cut is_null = if is_null then with_null_move n cut else with_aside n
 
-abbrev pub noted : Notes → Bool → Bool → Token → Notes
-noted n cut waits blank = n
-noted n cut waits (tag name value) = n
-noted n cut waits (comment text) = with_comment n (aim_in text)
-noted n cut waits (rest text) = record n { comments = one_more n.comments }
-noted n cut waits aside = with_aside n
-noted n cut waits opening = begun n
-noted n cut waits closing = begun n
-noted n cut waits star = begun n
-noted n cut waits (sign text) = with_sign n cut (bytes_eq text (codes "--"))
-noted n cut waits (symbol text) = with_said n cut waits (said_of text)
+abbrev pub with_token : Notes → Bool → Bool → Token → Notes
+with_token n cut waits blank = n
+with_token n cut waits (tag name value) = n
+with_token n cut waits (comment text) = with_comment n (aim_in text)
+with_token n cut waits (rest text) = record n { comments = one_more n.comments }
+with_token n cut waits aside = with_aside n
+with_token n cut waits opening = after_header n
+with_token n cut waits closing = after_header n
+with_token n cut waits star = after_header n
+with_token n cut waits (sign text) = with_sign n cut (bytes_eq text (codes "--"))
+with_token n cut waits (symbol text) = with_said n cut waits (said_of text)
 
 -- ---- both together
 
@@ -109,4 +109,4 @@ noted_on n (Ok t) = Ok (record { game = record { reading = t.reading; notes = n 
 abbrev pub game_taken : GameRead → Token → Result GameTaken Reason
 game_taken g token =
     if is_header_tag g.notes token then Ok (record { game = g; ended = false })
-    else noted_on (noted g.notes (nat_le 1 g.reading.lines.cut) (not (length g.reading.lines.waiting == 0)) token) (taken g.reading token)
+    else noted_on (with_token g.notes (nat_le 1 g.reading.lines.cut) (not (length g.reading.lines.waiting == 0)) token) (after_token g.reading token)

@@ -8,8 +8,8 @@ use Rattle.study_games.specs.Symbols.{said_of}
 use Rattle.study_games.specs.declared.symbols.Said.{Said}
 use Rattle.study_games.specs.declared.symbols.Said.TheVariants as say
 use Rattle.study_games.specs.Tokens.{Token, behind, without_first, begins_ellipsis, symbol}
-use Rattle.study_import.specs.declared.numbering.MoveNumber.{MoveNumber}
-use Rattle.study_import.specs.declared.numbering.Numbering.{Numbering}
+use Rattle.study_import.specs.declared.game.numbering.MoveNumber.{MoveNumber}
+use Rattle.study_import.specs.declared.game.numbering.Numbering.{Numbering}
 
 -- ---- dots
 
@@ -41,22 +41,22 @@ is_black_to_move Black d = d % 2 == 0
 
 -- two numbers of a game fit each other if they differ by Black's moves between them, as the PGN Standard counts; where Black begins, some count pairs of
 -- moves (`1. Kd5 Kd3 2. Kd4`), so that numbers may as well differ by the second moves of pairs between them. Where White begins, both are the same
-abbrev pub fit : Side → MoveNumber → MoveNumber → Bool
-fit side a b =
+abbrev pub numbers_fit : Side → MoveNumber → MoveNumber → Bool
+numbers_fit side a b =
     a.number + black_moves side b.depth == b.number + black_moves side a.depth || a.number + b.depth / 2 == b.number + a.depth / 2
 
 -- the first number of a game is as it is, since a game may begin at any number
 abbrev pub fits_first : Side → Option MoveNumber → MoveNumber → Bool
 fits_first side None n = true
-fits_first side (Some first) n = fit side first n
+fits_first side (Some first) n = numbers_fit side first n
 
 abbrev pub first_or : Option MoveNumber → MoveNumber → Option MoveNumber
 first_or None n = Some n
 first_or (Some first) n = Some first
 
 -- the numbering after a number that fits; dots: it has two or more, so that White's move may not be next
-abbrev pub numbered : Side → Numbering → Bool → MoveNumber → Option Numbering
-numbered side s dots n =
+abbrev pub with_number : Side → Numbering → Bool → MoveNumber → Option Numbering
+with_number side s dots n =
     if (is_black_to_move side n.depth || not dots) && fits_first side s.first n then Some (record { first = first_or s.first n }) else None
 
 -- ---- numbers in a text, at the node after d half moves
@@ -64,7 +64,7 @@ numbered side s dots n =
 -- a number of more than nine digits does not fit
 abbrev pub reported_numbered : Side → ℕ → Numbering → Bool → Option ℕ → Option Numbering
 reported_numbered side d s dots None = None
-reported_numbered side d s dots (Some n) = numbered side s dots (record { number = n; depth = d })
+reported_numbered side d s dots (Some n) = with_number side s dots (record { number = n; depth = d })
 
 -- digits are the number of a move if a dot is behind them; others are ignored
 unfoldable pub digits_numbered : Side → ℕ → Numbering → List ℕ → List ℕ → Option Numbering

@@ -8,10 +8,10 @@ use Rattle.study_tree.specs.Paths.{path_text}
 use Rattle.study_marks.specs.Study.{position_at}
 use Rattle.study_notation.specs.declared.fault.SanFault.TheVariants.{NotSan}
 use Rattle.study_marks.specs.Edits.{PlainStudy, is_printable}
-use Rattle.study_import.specs.declared.moves.MoveFault.{MoveFault}
-use Rattle.study_import.specs.declared.moves.MoveFault.TheVariants.{San, OutOfMemory}
+use Rattle.study_import.specs.declared.game.moves.MoveFault.{MoveFault}
+use Rattle.study_import.specs.declared.game.moves.MoveFault.TheVariants.{San, OutOfMemory}
 use Rattle.study_import.specs.Lines.{Lines}
-use Rattle.study_import.specs.Moves.{After, moved}
+use Rattle.study_import.specs.Moves.{After, after_move_text}
 use Rattle.study_games.specs.Symbols.{san_in}
 
 -- the study so far, the current line with the waiting ones, and the lines of the script that make the tree
@@ -37,15 +37,15 @@ read_on r (Err fault) = Err fault
 read_on r (Ok a) = Ok (gone_on r a)
 
 -- the text for a move is read at the current node
-unfoldable pub played : Reading → List ℕ → Result Reading MoveFault
-played r san = read_on r (moved r.study r.lines.path san)
+unfoldable pub after_move : Reading → List ℕ → Result Reading MoveFault
+after_move r san = read_on r (after_move_text r.study r.lines.path san)
 
 -- a symbol for a move. After a null move it is ignored; a symbol that is too long, or whose SAN is not printable, is not a move
 unfoldable pub symbol_played : Reading → List ℕ → Result Reading MoveFault
 symbol_played r symbol =
     if nat_le 1 r.lines.cut then Ok r
     else (if nat_lt 32 (length symbol) then Err (San NotSan)
-    else (if list_all is_printable (san_in symbol) then played r (san_in symbol) else Err (San NotSan)))
+    else (if list_all is_printable (san_in symbol) then after_move r (san_in symbol) else Err (San NotSan)))
 
 -- the result, and the state after it, unless there was no memory, which ends the run
 abbrev pub Reads : {T : Type 0} → Result T MoveFault → Result Reading MoveFault → Reading → Type 0

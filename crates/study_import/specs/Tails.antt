@@ -11,11 +11,11 @@ use Rattle.study_marks.specs.declared.stipulation.Goal.TheVariants.{MateIn}
 use Rattle.study_marks.specs.declared.stipulation.Stipulation.{Stipulation}
 use Rattle.study_marks.specs.Edits.{is_printable}
 use Rattle.study_games.specs.Games.{one_more}
-use Rattle.study_games.specs.Header.{unescaped}
+use Rattle.study_games.specs.Header.{unescape}
 use Rattle.study_games.specs.Symbols.{said_of}
 use Rattle.study_games.specs.declared.symbols.Said.{Said}
 use Rattle.study_games.specs.declared.symbols.Said.TheVariants as say
-use Rattle.study_games.specs.Tokens.{Token, Lexed, lexed, blank, aside, opening, closing, star, tag, comment, rest, sign, symbol}
+use Rattle.study_games.specs.Tokens.{Token, Lexed, lexed_token, blank, aside, opening, closing, star, tag, comment, rest, sign, symbol}
 use Rattle.study_import.specs.declared.tails.Part.{Part}
 use Rattle.study_import.specs.declared.tails.Part.TheVariants as part
 use Rattle.study_import.specs.declared.tails.Act.{Act}
@@ -27,11 +27,11 @@ use Rattle.study_import.specs.Aims.{aim_in, aim_of_tag}
 -- ---- the kinds of tokens in the search
 
 -- a comment as a FEN: an unprintable byte, such as the end of a line, is read as a space
-abbrev pub spaced : ℕ → ℕ
-spaced b = if is_printable b then b else 32
+abbrev pub byte_or_space : ℕ → ℕ
+byte_or_space b = if is_printable b then b else 32
 
 abbrev pub position_text : List ℕ → List ℕ
-position_text text = map spaced text
+position_text text = map byte_or_space text
 
 abbrev pub is_start : Result Start FenFault → Bool
 is_start (Ok start) = true
@@ -47,7 +47,7 @@ says_mate None = false
 says_mate (Some aim) = is_mate aim.goal
 
 abbrev pub is_mate_tag : List ℕ → List ℕ → Bool
-is_mate_tag name value = bytes_eq name (codes "Stipulation") && says_mate (aim_of_tag (unescaped value) White)
+is_mate_tag name value = bytes_eq name (codes "Stipulation") && says_mate (aim_of_tag (unescape value) White)
 
 abbrev pub part_said : Said → Part
 part_said say.Number = part.Number
@@ -169,7 +169,7 @@ on_part next text s (Ok x) = on_act (next x.1) text s (take (length text - lengt
 abbrev pub tail_from : ℕ → Bool → List ℕ → Sought → Option Tail
 tail_from zero fresh text s = tail_at_end s
 tail_from (suc n) fresh [] s = tail_at_end s
-tail_from (suc n) fresh (b ∷ bs) s = on_part (tail_from n (b == 10)) (b ∷ bs) s (lexed fresh b bs)
+tail_from (suc n) fresh (b ∷ bs) s = on_part (tail_from n (b == 10)) (b ∷ bs) s (lexed_token fresh b bs)
 
 abbrev pub not_begun : List ℕ → Sought
 not_begun kept = record { search = record { skipped = 0; depth = 0; named = false }; kept = kept; position = [] }

@@ -2,15 +2,15 @@
 use Rattle.std.specs.Prelude.{◌≡◌, ℕ, Bool, true, false, ◌==◌, nat_le, List, length, codes, Result, Ok, Err, if◌then◌else◌}
 use Rattle.std.specs.Str.{bytes_eq}
 use Rattle.study_marks.specs.Edits.{PlainStudy}
-use Rattle.study_import.specs.declared.lines.Waiting.{Waiting}
-use Rattle.study_import.specs.declared.lines.LineFault.{LineFault}
-use Rattle.study_import.specs.declared.lines.LineFault.TheVariants as line_fault
-use Rattle.study_import.specs.declared.moves.MoveFault.{MoveFault}
-use Rattle.study_import.specs.declared.moves.MoveFault.TheVariants as move_fault
+use Rattle.study_import.specs.declared.game.lines.Waiting.{Waiting}
+use Rattle.study_import.specs.declared.game.lines.LineFault.{LineFault}
+use Rattle.study_import.specs.declared.game.lines.LineFault.TheVariants as line_fault
+use Rattle.study_import.specs.declared.game.moves.MoveFault.{MoveFault}
+use Rattle.study_import.specs.declared.game.moves.MoveFault.TheVariants as move_fault
 use Rattle.study_games.specs.declared.symbols.Said.{Said}
 use Rattle.study_games.specs.declared.symbols.Said.TheVariants as say
-use Rattle.study_import.specs.declared.taking.Reason.{Reason}
-use Rattle.study_import.specs.declared.taking.Reason.TheVariants as reason
+use Rattle.study_import.specs.declared.game.token_effects.Reason.{Reason}
+use Rattle.study_import.specs.declared.game.token_effects.Reason.TheVariants as reason
 use Rattle.study_import.specs.Lines.{Lines, lines_of, begin_line, end_line}
 use Rattle.study_import.specs.Reading.{Reading, symbol_played}
 use Rattle.study_games.specs.Symbols.{said_of}
@@ -60,17 +60,17 @@ abbrev pub taken_sign : Reading → Bool → Result Taken Reason
 taken_sign r true = at_null_move r
 taken_sign r false = going_on r
 
-abbrev pub taken : Reading → Token → Result Taken Reason
-taken r blank = going_on r
-taken r aside = going_on r
-taken r (comment text) = going_on r
-taken r (rest text) = going_on r
-taken r opening = on_line r (begin_line r.lines)
-taken r closing = on_line r (end_line r.lines)
-taken r star = at_result r
-taken r (tag name value) = Err reason.TagInMoves
-taken r (sign text) = taken_sign r (bytes_eq text (codes "--"))
-taken r (symbol text) = taken_symbol r text (said_of text)
+abbrev pub after_token : Reading → Token → Result Taken Reason
+after_token r blank = going_on r
+after_token r aside = going_on r
+after_token r (comment text) = going_on r
+after_token r (rest text) = going_on r
+after_token r opening = on_line r (begin_line r.lines)
+after_token r closing = on_line r (end_line r.lines)
+after_token r star = at_result r
+after_token r (tag name value) = Err reason.TagInMoves
+after_token r (sign text) = taken_sign r (bytes_eq text (codes "--"))
+after_token r (symbol text) = taken_symbol r text (said_of text)
 
 -- the result, and the state after it, unless there was no memory, which ends the run
 abbrev pub Takes : Result Bool Reason → Result Taken Reason → Reading → Type 0

@@ -8,7 +8,7 @@ use Rattle.study_marks.specs.declared.mark.Mark.{Mark}
 use Rattle.study_marks.specs.declared.tag.TagName.{TagName}
 use Rattle.study_marks.specs.Study.{Study, mapped, tag_of, IsPlayable, AreDistinct}
 use Rattle.study_marks.specs.Edits.{PlainStudy, is_tag_text}
-use Rattle.study_command.specs.Parser.{trimmed}
+use Rattle.study_command.specs.Parser.{trim}
 use Rattle.study_pgn.specs.Tags.{text_or_unknown}
 use Rattle.study_pgn.specs.Pgn.{pgn_text}
 use Rattle.study_games.specs.Games.{games_of}
@@ -17,13 +17,13 @@ use Rattle.study_import.specs.Meant.{study_in, study_of_game}
 use Rattle.study_import.specs.Laws.{IsCounted}
 
 -- the nodes without their marks
-abbrev pub plainly : Forest Mark → Forest (Unit {0})
-plainly f = mapped (λ _. tt) f
+abbrev pub without_marks : Forest Mark → Forest (Unit {0})
+without_marks f = mapped (λ _. tt) f
 
 -- a known tag has a text that a study accepts, without spaces at its ends
 abbrev pub IsTagged : Option (List ℕ) → Type 0
 IsTagged None = Unit {0}
-IsTagged (Some text) = (is_tag_text text ≡ true) × (trimmed text ≡ text)
+IsTagged (Some text) = (is_tag_text text ≡ true) × (trim text ≡ text)
 
 -- a study that commands of a script can make: its start is that of a FEN, its moves are legal, no two siblings have the same move, it is at most 256 plies
 -- deep, and has at most 4,096 nodes
@@ -34,10 +34,10 @@ pub record CanBeMade (s : Study Mark) : Type 0 where
   pub number : s.start.number ≤ 9999
   pub counted : IsCounted s.stipulation.goal
   pub tags : (name : TagName) → IsTagged (tag_of s.tags name)
-  pub playable : IsPlayable s.start.position (plainly s.tree.below)
-  pub distinct : AreDistinct (plainly s.tree.below)
-  pub within : IsWithin 256 (plainly s.tree.below)
-  pub few : nodes_in (plainly s.tree.below) + 1 ≤ 4096
+  pub playable : IsPlayable s.start.position (without_marks s.tree.below)
+  pub distinct : AreDistinct (without_marks s.tree.below)
+  pub within : IsWithin 256 (without_marks s.tree.below)
+  pub few : nodes_in (without_marks s.tree.below) + 1 ≤ 4096
 
 -- the same study without marks; for an unknown tag the text that is written for it
 abbrev pub unmarked_study : Study Mark → PlainStudy
@@ -45,7 +45,7 @@ unmarked_study s = record {
   start = s.start;
   stipulation = s.stipulation;
   tags = map (λ name. Some (text_or_unknown name (tag_of s.tags name))) six_names;
-  tree = record { label = tt; below = plainly s.tree.below };
+  tree = record { label = tt; below = without_marks s.tree.below };
 }
 
 -- the PGN of a study reads back as that study: its start, stipulation, tags and tree, in order

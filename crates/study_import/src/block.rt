@@ -5,7 +5,7 @@ ghost use Rattle.std.specs.Option.{option_map};
 ghost use Rattle.study_notation.specs.Fen.{start_of};
 ghost use Rattle.study_marks.specs.Edits.{is_printable};
 ghost use Rattle.study_marks.specs.Study.{plain_study};
-ghost use Rattle.study_marks.specs.BenchState.{marked};
+ghost use Rattle.study_marks.specs.BenchState.{marked_study};
 ghost use Rattle.study_games.specs.Bytes.{is_letter};
 ghost use Rattle.study_games.specs.Words.{first_word};
 ghost use Rattle.study_games.specs.Games.{game_seen};
@@ -18,18 +18,18 @@ ghost use Rattle.study_import.specs.Blocks.{tag_aim, result_of, aim_of_game, rep
 ghost use Rattle.study_import.specs.Blocks.{at_most, men_in, no_study, left_out, fen_words, start_block, fen_in, fen_block, header_block, block_of};
 ghost use Rattle.study_import.specs.BlocksRead.{is_of_memory, Adds};
 
-use crate::aims::{Aim, AimSource, aim_of_outcome, aim_of_tag, outcome_of_tag, source_words};
 use crate::counts::{add_counted, add_counts_line, other_tags};
 use crate::faults::{add_fault, add_left_out, add_stop, is_of_memory, token_name};
-use crate::lines::Lines;
+use crate::game::aims::{Aim, AimSource, aim_of_outcome, aim_of_tag, outcome_of_tag, source_words};
+use crate::game::lines::Lines;
+use crate::game::movetext::{GameReading, MovesFault};
+use crate::game::notes::Notes;
+use crate::game::reading::Reading;
+use crate::game::values::NoValues;
 use crate::masks::{Mask, add_masked};
-use crate::movetext::{GameReading, MovesFault};
-use crate::notes::Notes;
 use crate::pieces::{Piece, add_pieces};
 use crate::places::{Entry, Place, at_most, place_in};
-use crate::reading::Reading;
 use crate::tags::{add_tag_lines, add_was_lines};
-use crate::values::NoValues;
 use std::alloc::{AllocError, Allocator};
 use study_board::Side;
 use study_command::as_text;
@@ -165,7 +165,7 @@ pub struct Reported<'t> {
 
 /// The number of played moves that are not new nodes.
 fn repeated_moves<'a, A: Allocator>(notes: &Notes, bench: &Bench<'a, A>) -> u32
-    ensures { result ≡ repeated_moves notes.now (plain_study (marked bench.now)) }
+    ensures { result ≡ repeated_moves notes.now (plain_study (marked_study bench.now)) }
 {
     notes.moves.saturating_sub(new_nodes(bench.size()))
 }
@@ -370,7 +370,7 @@ fn begin_game<'a, A: Allocator>(
     start: Start,
 ) -> Result<GameReading<'a, A>, AllocError>
     ensures { IfOk result (λ g.
-        game_of (plain_study (marked g.reading.bench))
+        game_of (plain_study (marked_study g.reading.bench))
         g.reading.lines.path.items g.reading.lines.begun
         g.reading.lines.waiting.items g.reading.lines.cut g.reading.inserts
         g.notes ≡ no_moves start) }

@@ -4,7 +4,7 @@ ghost use Rattle.study_games.specs.Header.{tags_of, value_of};
 ghost use Rattle.study_import.specs.Blocks.{separator, count_words, counts_words, count_seen, counted_words, counts_line, found_count, known_count};
 ghost use Rattle.study_import.specs.Blocks.{known_names, other_tags};
 
-use crate::notes::Notes;
+use crate::game::notes::Notes;
 use crate::pieces::{Piece, add_pieces};
 use crate::places::at_most;
 use std::alloc::{AllocError, Allocator};

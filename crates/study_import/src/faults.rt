@@ -5,15 +5,15 @@ ghost use Rattle.study_import.specs.Blocks.{token_name, move_name, line_name, st
 ghost use Rattle.study_import.specs.Blocks.{text_at, entry_seen, stopped_block};
 ghost use Rattle.study_import.specs.BlocksRead.{is_of_memory, Adds};
 
-use crate::lines::LineFault;
-use crate::moves::MoveFault;
-use crate::movetext::{MovesFault, Stop};
+use crate::game::lines::LineFault;
+use crate::game::moves::MoveFault;
+use crate::game::movetext::{MovesFault, Stop};
+use crate::game::token_effects::Reason;
 use crate::pieces::{Piece, add_pieces};
 use crate::places::{Entry, Place, place_in, text_at};
 use crate::tags::add_author;
-use crate::taking::Reason;
 use std::alloc::{AllocError, Allocator};
-use study_games::{Run, TokenFault, cut_run, shortened};
+use study_games::{Run, TokenFault, cut_run, truncate};
 use study_reply::Refusal;
 use study_text::Text;
 
@@ -85,7 +85,7 @@ fn add_run<A: Allocator>(out: &mut Text<'_, A>, run: Run, text: &[u8]) -> Result
     ensures { OnOk result (out.new ≡ out.old ++ run_words (is_in run) text.now) }
 {
     let (bytes, _) = cut_run(run, text);
-    let reported = shortened(bytes, LONGEST_REPORTED);
+    let reported = truncate(bytes, LONGEST_REPORTED);
     add_pieces(out, &[Piece::Bytes(b" at "), Piece::Bytes(reported)])
 }
 

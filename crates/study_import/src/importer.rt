@@ -1,7 +1,7 @@
 //! A file of games, read byte by byte.
 ghost use Rattle.std.specs.Prelude.{◌≡◌, ◌++◌, [], ◌==◌, length, OnOk, IfOk};
-ghost use Rattle.study_games.specs.Games.{unmarked, kind_of, longer, with_next, game_seen};
-ghost use Rattle.study_import.specs.Blocks.{tallied, reported_text, last_line};
+ghost use Rattle.study_games.specs.Games.{without_byte_order_mark, kind_of, with_byte, with_next, game_seen};
+ghost use Rattle.study_import.specs.Blocks.{tally_with_game, reported_text, last_line};
 ghost use Rattle.study_import.specs.Imported.{script_of, all_games, nothing_held, still_written, still_tallied, written_of, tally_ahead, put_away};
 ghost use Rattle.study_import.specs.Imported.{text_at_hand, TakesByte, KeepsTally, EndsLine, EndsLineTallied};
 ghost use Rattle.study_import.specs.ImportedSeen.{tally_seen};
@@ -10,7 +10,7 @@ use crate::pieces::{Piece, add_pieces};
 use crate::tail_block::add_chosen;
 use std::alloc::{AllocError, Allocator};
 use std::marker::Model;
-use study_games::{Game, Gathering, LONGEST_LINE, LineKind, kind_of, unmarked};
+use study_games::{Game, Gathering, LONGEST_LINE, LineKind, kind_of, without_byte_order_mark};
 use study_marks::Stipulation;
 use study_text::Text;
 
@@ -71,7 +71,7 @@ impl<'a, A: Allocator> Importer<'a, A> {
     }
 
     /// The number of games that have ended.
-    pub fn met(&self) -> u32
+    pub fn game_count(&self) -> u32
         ensures { result ≡ self.now.tally.met }
     {
         self.tally.met
@@ -121,7 +121,7 @@ impl<'a, A: Allocator> Importer<'a, A> {
     }
 
     fn hold(&mut self, byte: u8) -> Result<(), AllocError>
-        ensures { OnOk result (self.new ≡ record self.old { line = longer self.old.line byte }) }
+        ensures { OnOk result (self.new ≡ record self.old { line = with_byte self.old.line byte }) }
     {
         if self.line.len() < LONGEST_LINE {
             self.line.push(byte)?;
@@ -130,9 +130,9 @@ impl<'a, A: Allocator> Importer<'a, A> {
     }
 
     fn kind(&self) -> LineKind
-        ensures { result ≡ kind_of (unmarked self.now.gathered.next self.now.line) }
+        ensures { result ≡ kind_of (without_byte_order_mark self.now.gathered.next self.now.line) }
     {
-        kind_of(unmarked(self.gathering.next(), self.line.as_slice()))
+        kind_of(without_byte_order_mark(self.gathering.next(), self.line.as_slice()))
     }
 
     /// The current line is whole.
@@ -153,10 +153,10 @@ impl<'a, A: Allocator> Importer<'a, A> {
         ensures { OnOk result (self.new ≡ record self.old {
           line = [];
           gathered = with_next self.old.gathered
-              (unmarked self.old.gathered.next self.old.line) kind;
+              (without_byte_order_mark self.old.gathered.next self.old.line) kind;
         }) }
     {
-        let line = unmarked(self.gathering.next(), self.line.as_slice());
+        let line = without_byte_order_mark(self.gathering.next(), self.line.as_slice());
         self.gathering.add_line(line, kind)?;
         self.line.clear();
         Ok(())
@@ -187,7 +187,7 @@ fn tell_game<'a, A: Allocator>(
     ensures text { OnOk result (out.new ≡ out.old
         ++ reported_text choice.now (tally_seen tally.now) (game_seen game.now)) }
     ensures then { IfOk result (λ t.
-        tally_seen t ≡ tallied choice.now (tally_seen tally.now) (game_seen game.now)) }
+        tally_seen t ≡ tally_with_game choice.now (tally_seen tally.now) (game_seen game.now)) }
 {
     let number = tally.met.saturating_add(1);
     if number < choice.from || choice.to < number {

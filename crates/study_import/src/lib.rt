@@ -7,28 +7,18 @@
 //! occurs (`faults_are_listed`).
 #![tactic(auto)]
 
-mod aims;
-mod behind;
 mod block;
 mod counts;
 mod faults;
+mod game;
 mod importer;
-mod insert_line;
 mod laws;
-mod lines;
 mod masks;
-mod moves;
-mod movetext;
-mod notes;
-mod numbering;
 mod pieces;
 mod places;
-mod reading;
 mod tags;
 mod tail_block;
 mod tails;
-mod taking;
-mod values;
 
 pub use importer::{Choice, Imported, Importer, import};
 pub use laws::{

@@ -1,6 +1,6 @@
 //! Bytes written with substitutes.
 ghost use Rattle.std.specs.Prelude.{◌≡◌, ◌++◌, map, OnOk};
-ghost use Rattle.study_import.specs.Masks.{masked};
+ghost use Rattle.study_import.specs.Masks.{masked_byte};
 
 use std::alloc::{AllocError, Allocator};
 use study_text::Text;
@@ -20,8 +20,8 @@ pub enum Mask {
     NoColon,
 }
 
-fn masked(mask: Mask, byte: u8) -> u8
-    ensures { result ≡ masked mask byte }
+fn masked_byte(mask: Mask, byte: u8) -> u8
+    ensures { result ≡ masked_byte mask byte }
 {
     let prints = 32 <= byte && byte <= 126;
     match mask {
@@ -43,11 +43,11 @@ pub fn add_masked<A: Allocator>(
     mask: Mask,
     bytes: &[u8],
 ) -> Result<(), AllocError>
-    ensures { OnOk result (out.new ≡ out.old ++ map (masked mask) bytes.now) }
+    ensures { OnOk result (out.new ≡ out.old ++ map (masked_byte mask) bytes.now) }
 {
     let mut rest = bytes;
     while let [first, more @ ..] = rest {
-        out.add(&[masked(mask, *first)])?;
+        out.add(&[masked_byte(mask, *first)])?;
         rest = more;
     }
     Ok(())

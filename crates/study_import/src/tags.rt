@@ -8,7 +8,7 @@ ghost use Rattle.study_import.specs.Blocks.{name_words, author_words, was_words,
 use crate::masks::{Mask, add_masked};
 use crate::pieces::{Piece, add_pieces};
 use std::alloc::{AllocError, Allocator};
-use study_games::{short_text, shortened, spell_out, tag_value, trim_end, trim_start, unescape};
+use study_games::{short_text, spell_out, tag_value, trim_end, trim_start, truncate, unescape};
 use study_marks::{TagName, tag_name};
 use study_text::Text;
 
@@ -66,7 +66,7 @@ fn add_was<A: Allocator>(
             Piece::Bytes(b" was: "),
         ],
     )?;
-    add_masked(out, Mask::Shown, shortened(value, LONGEST_ORIGINAL))?;
+    add_masked(out, Mask::Shown, truncate(value, LONGEST_ORIGINAL))?;
     out.add(b"\n")
 }
 

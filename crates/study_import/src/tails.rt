@@ -7,7 +7,7 @@ ghost use Rattle.study_games.specs.Tokens.{token_seen};
 ghost use Rattle.study_import.specs.Tails.{position_text, is_start, says_mate, is_mate_tag, part_said, part_of, act_before, act_among, act_behind, act_of};
 ghost use Rattle.study_import.specs.Tails.{bytes_then, search_then, position_then, tail_from, not_begun, named_seen, EndsNamed};
 
-use crate::aims::{aim_in, aim_of_tag};
+use crate::game::aims::{aim_in, aim_of_tag};
 use crate::masks::{Mask, add_masked};
 use std::alloc::{AllocError, Allocator};
 use study_board::Side;

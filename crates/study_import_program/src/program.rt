@@ -27,7 +27,7 @@ pub fn studyimport(rt: &HostRuntime) -> ExitCode {
     match read_words(rt.alloc(), words.as_slice()) {
         Ok(Some(options)) => ExitCode::from(import_streams(rt, &options)),
         Ok(None) => ExitCode::from(no_stipulation(rt)),
-        Err(error) => ExitCode::from(answered(rt, &error)),
+        Err(error) => ExitCode::from(print_usage(rt, &error)),
     }
 }
 
@@ -39,7 +39,7 @@ fn words_of(rt: &HostRuntime) -> io::Result<Vec<String>> {
 /// The words of the command line cannot be read.
 fn not_read(rt: &HostRuntime, error: &io::Error) -> u8 {
     if error.kind() == ErrorKind::OutOfMemory {
-        return ended(&mut rt.stderr(), &Err(ImportFault::OutOfMemory));
+        return report_end(&mut rt.stderr(), &Err(ImportFault::OutOfMemory));
     }
     let _ = eprintln!(rt; "error: a word of the command line is not UTF-8");
     2
@@ -53,14 +53,14 @@ fn no_stipulation(rt: &HostRuntime) -> u8 {
 }
 
 /// Prints help, the version, or why the words are refused.
-fn answered(rt: &HostRuntime, error: &Error) -> u8 {
+fn print_usage(rt: &HostRuntime, error: &Error) -> u8 {
     if error.kind() == clap::error::ErrorKind::OutOfMemory {
-        return ended(&mut rt.stderr(), &Err(ImportFault::OutOfMemory));
+        return report_end(&mut rt.stderr(), &Err(ImportFault::OutOfMemory));
     }
     let printed = error.print(rt).is_ok();
     let status = status_without_options(error, printed);
     if status == 3 {
-        return ended(&mut rt.stderr(), &Err(ImportFault::WriteDevice));
+        return report_end(&mut rt.stderr(), &Err(ImportFault::WriteDevice));
     }
     status
 }
@@ -69,10 +69,10 @@ fn import_streams(rt: &HostRuntime, options: &Options) -> u8 {
     let alloc = rt.alloc();
     let mut errors = rt.stderr();
     let Ok(mut games) = BufReader::new(alloc, rt.stdin()) else {
-        return ended(&mut errors, &Err(ImportFault::OutOfMemory));
+        return report_end(&mut errors, &Err(ImportFault::OutOfMemory));
     };
     let Ok(mut out) = BufWriter::new(alloc, rt.stdout()) else {
-        return ended(&mut errors, &Err(ImportFault::OutOfMemory));
+        return report_end(&mut errors, &Err(ImportFault::OutOfMemory));
     };
     import_stream(&alloc, options, &mut games, &mut out, &mut errors)
 }
@@ -95,11 +95,11 @@ pub fn import_stream<A: Allocator, R: Read, W: Write, E: Write>(
     if out.flush().is_err() {
         answer = Err(ImportFault::WriteDevice);
     }
-    ended(errors, &answer)
+    report_end(errors, &answer)
 }
 
 /// Reports why a run stopped, if it did. A failure of standard error cannot be reported.
-fn ended<E: Write>(errors: &mut E, answer: &Result<Imported, ImportFault>) -> u8
+fn report_end<E: Write>(errors: &mut E, answer: &Result<Imported, ImportFault>) -> u8
     ensures status { result ≡ status_reported answer.now }
     ensures reported { IsReported answer.now (E.contents errors.old) (E.contents errors.new) }
 {

@@ -40,10 +40,10 @@ pub fn import_games<A: Allocator, R: Read, W: Write, E: Write>(
             Err(_) => return Err(ImportFault::ReadDevice),
             Ok(None) => return finish(alloc, importer, out),
             Ok(Some(byte)) => {
-                let met = importer.met();
+                let met = importer.game_count();
                 take(alloc, &mut importer, byte, out)?;
                 if progress {
-                    tell_progress(errors, met, importer.met());
+                    tell_progress(errors, met, importer.game_count());
                 }
             }
         }

@@ -7,12 +7,12 @@ use Rattle.study_board.specs.declared.men.Man.{Man}
 use Rattle.study_board.specs.declared.symmetry.Symmetry.{Symmetry}
 use Rattle.study_board.specs.Geometry.{file_of, rank_of}
 use Rattle.study_board.specs.Images.{differ}
-use Rattle.study_board.specs.Symmetry.{turned_square, turned_man, mirrored}
+use Rattle.study_board.specs.Symmetry.{turned_square, turned_man, mirror_if}
 use Rattle.study_index.specs.declared.slot_order.PlacedMan.{PlacedMan}
 use Rattle.study_values.specs.Slots.{man_slot_number}
-use Rattle.study_values.specs.Index.{put, sorted}
+use Rattle.study_values.specs.Index.{insert_by_slot, sort_by_slot}
 use Rattle.study_values.specs.Number.{place, king_places, side_number, append_squares, number}
-use Rattle.study_values.specs.Canonical.{canonical_symmetry, last_two_exchanged, are_like, descends, turned_number, least, least_by, canonical_number}
+use Rattle.study_values.specs.Canonical.{canonical_symmetry, last_two_exchanged, are_like, descends, turned_number, option_min, least_by, canonical_number}
 use Rattle.study_index.specs.Squares.{placed_man, put_placed, squares_placed, square_symmetry, counted_at, number_at, exchanged_at, descends_at}
 use Rattle.study_index.specs.Squares.{least_turned, least_at}
 
@@ -44,7 +44,7 @@ straight right top false x l = refl
 straight right true true x l = refl
 straight right false true x l =
     let e : rank_of x ≡ 7 - (7 - rank_of x) = sym (twice (rank_of x) (omega arith)) in
-    ap (λ r. 8 * r + mirrored right (file_of x)) e
+    ap (λ r. 8 * r + mirror_if right (file_of x)) e
 
 file_and_rank_swapped : (right top c : Bool)
     → TakeSame (record { files = right; ranks = top; diagonal = true; colours = false })
@@ -54,7 +54,7 @@ file_and_rank_swapped right top false x l = refl
 file_and_rank_swapped true top true x l = refl
 file_and_rank_swapped false top true x l =
     let e : file_of x ≡ 7 - (7 - file_of x) = sym (twice (file_of x) (omega arith)) in
-    ap (λ f. 8 * f + mirrored top (rank_of x)) e
+    ap (λ f. 8 * f + mirror_if top (rank_of x)) e
 
 brought_so : (pawns diagonal c : Bool) (k : ℕ) → TakeSame (square_symmetry pawns diagonal c k) (canonical_symmetry pawns diagonal c k)
 unfolding square_symmetry canonical_symmetry
@@ -126,7 +126,7 @@ least_by_squares pawns to_move t u same ms h =
     (falls_men pawns to_move t u same ms h)
     ∙ one_of_three (are_like u.colours ms) (descends u ms) _ _ _ _ e n
 
-two_least : (x y v w : Option ℕ) → x ≡ v → y ≡ w → least x y ≡ least v w
+two_least : (x y v w : Option ℕ) → x ≡ v → y ≡ w → option_min x y ≡ option_min v w
 two_least x y v w e f = rw (e, f) refl
 
 -- the least number of men by their squares
@@ -141,36 +141,36 @@ least_of_squares false to_move c (k ∷ ms) h =
     (brought_so false false c k.at) (k ∷ ms) h)
     (least_by_squares false to_move (square_symmetry false true c k.at) (canonical_symmetry false true c k.at) (brought_so false true c k.at) (k ∷ ms) h)
 
-AreOnBoard-put : (c : Bool) (m : Man) (xs : List Man) → m.at < 64 → AreOnBoard xs → AreOnBoard (put c m xs)
-unfolding put
-AreOnBoard-put c m [] l h = (l, tt)
-AreOnBoard-put c m (x ∷ xs) l h =
-    elim (nat_le (man_slot_number c x) (man_slot_number c m)) as (λ b. AreOnBoard (cond b (x ∷ put c m xs) (m ∷ x ∷ xs)))
-    [ true ↦ (h.0, AreOnBoard-put c m xs l h.1) | false ↦ (l, h) ]
+AreOnBoard-insert_by_slot : (c : Bool) (m : Man) (xs : List Man) → m.at < 64 → AreOnBoard xs → AreOnBoard (insert_by_slot c m xs)
+unfolding insert_by_slot
+AreOnBoard-insert_by_slot c m [] l h = (l, tt)
+AreOnBoard-insert_by_slot c m (x ∷ xs) l h =
+    elim (nat_le (man_slot_number c x) (man_slot_number c m)) as (λ b. AreOnBoard (cond b (x ∷ insert_by_slot c m xs) (m ∷ x ∷ xs)))
+    [ true ↦ (h.0, AreOnBoard-insert_by_slot c m xs l h.1) | false ↦ (l, h) ]
 
-AreOnBoard-sorted : (c : Bool) (ms : List Man) → AreOnBoard ms → AreOnBoard (sorted c ms)
-AreOnBoard-sorted c [] h = tt
-AreOnBoard-sorted c (m ∷ ms) h = AreOnBoard-put c m (sorted c ms) h.0 (AreOnBoard-sorted c ms h.1)
+AreOnBoard-sort_by_slot : (c : Bool) (ms : List Man) → AreOnBoard ms → AreOnBoard (sort_by_slot c ms)
+AreOnBoard-sort_by_slot c [] h = tt
+AreOnBoard-sort_by_slot c (m ∷ ms) h = AreOnBoard-insert_by_slot c m (sort_by_slot c ms) h.0 (AreOnBoard-sort_by_slot c ms h.1)
 
-placed-put : (c : Bool) (m : Man) (xs : List Man) → put_placed (placed_man c m) (map (placed_man c) xs) ≡ map (placed_man c) (put c m xs)
-unfolding put put_placed
-placed-put c m [] = refl
-placed-put c m (x ∷ xs) =
+placed-insert_by_slot : (c : Bool) (m : Man) (xs : List Man) → put_placed (placed_man c m) (map (placed_man c) xs) ≡ map (placed_man c) (insert_by_slot c m xs)
+unfolding insert_by_slot put_placed
+placed-insert_by_slot c m [] = refl
+placed-insert_by_slot c m (x ∷ xs) =
     elim (nat_le (man_slot_number c x) (man_slot_number c m))
     as (λ b. cond b (placed_man c x ∷ put_placed (placed_man c m) (map (placed_man c) xs)) (placed_man c m ∷ placed_man c x ∷ map (placed_man c) xs) ≡ map
-    (placed_man c) (cond b (x ∷ put c m xs) (m ∷ x ∷ xs))) [
-      | true ↦ ap (λ ks. placed_man c x ∷ ks) (placed-put c m xs)
+    (placed_man c) (cond b (x ∷ insert_by_slot c m xs) (m ∷ x ∷ xs))) [
+      | true ↦ ap (λ ks. placed_man c x ∷ ks) (placed-insert_by_slot c m xs)
       | false ↦ refl
     ]
 
-pub one_placed : (c : Bool) (m : Man) (k : PlacedMan) → k ≡ placed_man c m → k ∷ [] ≡ map (placed_man c) (sorted c (m ∷ []))
-unfolding put
+pub one_placed : (c : Bool) (m : Man) (k : PlacedMan) → k ≡ placed_man c m → k ∷ [] ≡ map (placed_man c) (sort_by_slot c (m ∷ []))
+unfolding insert_by_slot
 one_placed c m k e = ap (λ n. n ∷ []) e
 
 -- one more man is inserted among the others
 pub more_placed : (c : Bool) (m : Man) (ms : List Man) (k : PlacedMan) (ks xs : List PlacedMan) → k ≡ placed_man c m
-    → ks ≡ put_placed k xs → xs ≡ map (placed_man c) (sorted c ms) → ks ≡ map (placed_man c) (sorted c (m ∷ ms))
-more_placed c m ms k ks xs d e f = e ∙ ap (λ n. put_placed n xs) d ∙ ap (λ z. put_placed (placed_man c m) z) f ∙ placed-put c m (sorted c ms)
+    → ks ≡ put_placed k xs → xs ≡ map (placed_man c) (sort_by_slot c ms) → ks ≡ map (placed_man c) (sort_by_slot c (m ∷ ms))
+more_placed c m ms k ks xs d e f = e ∙ ap (λ n. put_placed n xs) d ∙ ap (λ z. put_placed (placed_man c m) z) f ∙ placed-insert_by_slot c m (sort_by_slot c ms)
 
 squares-placed : (c : Bool) (ms : List Man) → squares_placed (map (placed_man c) ms) ≡ map square ms
 squares-placed c [] = refl
@@ -190,13 +190,14 @@ like-placed c (a ∷ b ∷ x ∷ y ∷ []) = refl
 like-placed c (a ∷ b ∷ x ∷ y ∷ z ∷ ms) = refl
 
 -- the least number of men by their slots and squares, sorted
-pub least_of_placed : (pawns : Bool) (to_move : Side) (c : Bool) (ms : List Man) (ks : List PlacedMan) → AreOnBoard ms → ks ≡ map (placed_man c) (sorted c ms)
-    → least_at pawns to_move c (like_placed ks) (squares_placed ks) ≡ canonical_number pawns to_move c (sorted c ms)
+pub least_of_placed : (pawns : Bool) (to_move : Side) (c : Bool) (ms : List Man) (ks : List PlacedMan) → AreOnBoard ms → ks
+    ≡ map (placed_man c) (sort_by_slot c ms)
+    → least_at pawns to_move c (like_placed ks) (squares_placed ks) ≡ canonical_number pawns to_move c (sort_by_slot c ms)
 least_of_placed pawns to_move c ms ks h e =
-    let on = AreOnBoard-sorted c ms h in
+    let on = AreOnBoard-sort_by_slot c ms h in
     ap (λ xs. least_at pawns to_move c (like_placed xs) (squares_placed xs)) e
-    ∙ both _ _ _ _ (like-placed c (sorted c ms)) (squares-placed c (sorted c ms))
-    ∙ least_of_squares pawns to_move c (sorted c ms) on
+    ∙ both _ _ _ _ (like-placed c (sort_by_slot c ms)) (squares-placed c (sort_by_slot c ms))
+    ∙ least_of_squares pawns to_move c (sort_by_slot c ms) on
   where
     both : (b d : Bool) (xs ys : List ℕ) → b ≡ d → xs ≡ ys → least_at pawns to_move c b xs ≡ least_at pawns to_move c d ys
     both b d xs ys e f = rw (e, f) refl

@@ -26,9 +26,9 @@ use Rattle.study_moves.proofs.BareImages.{bare_image}
 use Rattle.study_moves.proofs.AfterMove.{IsValid-after}
 use Rattle.study_moves.proofs.AlikePositions.{admits_after, admits_bare}
 use Rattle.study_material.specs.declared.class.Class.{Class}
-use Rattle.study_material.specs.Lists.{Lists, of, lists_exchanged, lists, ordered, is_exchanged, is_swapped}
+use Rattle.study_material.specs.Lists.{Lists, of, lists_exchanged, lists, ordered_lists, is_exchanged, is_swapped}
 use Rattle.study_material.specs.Class.{lists_of, IsOf}
-use Rattle.study_material.proofs.ClassOfImage.{ordered-image, swapped-image, compare_lists, black_first, white_first, equal}
+use Rattle.study_material.proofs.ClassOfImage.{ordered_lists-image, swapped-image, compare_lists, black_first, white_first, equal}
 use Rattle.study_values.specs.Slots.{IsFilling}
 use Rattle.study_values.specs.Number.{number, king_places, kinds_have_pawn, has_both_pawns, numbers_of, cells_of}
 use Rattle.study_values.specs.Number.{with_bit, has_bit, without_bit, IsLeastNumber, IsIndex}
@@ -64,7 +64,7 @@ below c n q d =
     of_class : IsOf c q
     of_class = sym same ∙ unchanged (lists q.men) (ap (λ l. is_exchanged l) same ∙ class_in_order c)
       where
-        unchanged : (l : Lists) → is_exchanged l ≡ false → l ≡ ordered l
+        unchanged : (l : Lists) → is_exchanged l ≡ false → l ≡ ordered_lists l
         unchanged l e = rw e refl
 
     doubled : (b : Bool) (k m : ℕ) → k < m → k < cond b (2 * m) m
@@ -110,7 +110,7 @@ entry c n q d =
     by_live false e =
         without q.men q.to_move q.passed (d.read_off.passed ∙ none (has_bit n) q.to_move d.read_off.filling ((HasParts-from q n d.valid d.index).bit ∙ e))
 
-    unchanged : (l : Lists) → is_exchanged l ≡ false → l ≡ ordered l
+    unchanged : (l : Lists) → is_exchanged l ≡ false → l ≡ ordered_lists l
     unchanged l e = rw e refl
 
 -- the lists of a class are equal if those of its positions are
@@ -140,7 +140,7 @@ pub same_class : (p q : Position) (c : Class) → AreAlike p q → IsOf c p → 
 same_class p q c h o =
     let s = h.images.by in
     let men : q.men ≡ turned_men s p.men = sym (bare_men q) ∙ ap (λ r. r.men) h.images.is ∙ ap (λ xs. turned_men s xs) (bare_men p) in
-    o ∙ sym (ap (λ xs. ordered (lists xs)) men ∙ ordered-image s p.men)
+    o ∙ sym (ap (λ xs. ordered_lists (lists xs)) men ∙ ordered_lists-image s p.men)
 
 same_least : (c : Class) (p q : Position) (n : ℕ) → AreAlikeIn c p q → IsOf c p → IsLeastNumber p n → IsLeastNumber q n
 same_least c p q n h o i =
@@ -267,7 +267,7 @@ numbered_bare c p b n v w plain own o i =
     let turn = IsTurnable-from_valid t b w a in
     let u : IsValid q = valid_image t b w a in
     let keeps : Keeps t b = λ e. i.least.number.colours ∙ keeps_swapped b e in
-    let of_class : IsOf c q = o ∙ sym (ordered-image t b.men) in
+    let of_class : IsOf c q = o ∙ sym (ordered_lists-image t b.men) in
     let in_order : is_exchanged (lists q.men) ≡ false =
     swapped-image t b.men keeps ∙ ap (λ s. differ s (is_swapped b.men)) i.least.number.colours
     ∙ differ_same (is_swapped b.men) in
@@ -312,14 +312,14 @@ numbered_bare c p b n v w plain own o i =
     differ_same true = refl
     differ_same false = refl
 
-    unchanged : (l : Lists) → is_exchanged l ≡ false → ordered l ≡ l
+    unchanged : (l : Lists) → is_exchanged l ≡ false → ordered_lists l ≡ l
     unchanged l e = rw e refl
 
 -- each position has a number that is read as a position that is alike
 pub numbered : (c : Class) (p : Position) (n : ℕ) → IsValid p → IsOf c p → IsIndex p n → (q : Position) × IsDecoded c n q × AreAlikeIn c q p
 numbered c p n v o i =
     numbered_bare c p (without_idle_passed_square p) n v (AgreesWithBare-from_valid p v).valid refl (bare_twice p) (o
-    ∙ ap (λ xs. ordered (lists xs)) (sym (bare_men p)))
+    ∙ ap (λ xs. ordered_lists (lists xs)) (sym (bare_men p)))
     (record {
       number = i.number;
       least = IsLeastNumber-passed p (without_idle_passed_square p) i.number (sym (bare_men p)) (sym (bare_to_move p)) i.least;

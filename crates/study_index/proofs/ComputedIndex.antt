@@ -26,12 +26,12 @@ use Rattle.study_index.proofs.ClassLaws.{below}
 use Rattle.study_index.proofs.ClassSlots.{AreSlots-class, is_cell-below, number_below}
 use Rattle.study_index.proofs.TurnedNumbers.{least_is}
 use Rattle.study_index.proofs.NumbersReadOff.{IsLeastNumber-unique, IsIndex-unique, IsOfMen-decoded, decoded, decoded_fault, same_position}
-use Rattle.study_index.proofs.Slots.{IsFilling-sorted}
+use Rattle.study_index.proofs.Slots.{IsFilling-sort_by_slot}
 
 pub IsLeastNumber-least_number : (p : Position) → IsValid p → IsLeastNumber p (least_number p)
 unfolding least_number
 IsLeastNumber-least_number p v =
-    let h = least_is p _ _ v (IsFilling-sorted (is_swapped p.men) p.men) refl in
+    let h = least_is p _ _ v (IsFilling-sort_by_slot (is_swapped p.men) p.men) refl in
     subst (λ n. IsLeastNumber p n) (sym (ap (λ o. unwrap_or o 0) h.1)) h.2
 
 pub least_number-only : (p : Position) (n : ℕ) → IsValid p → IsLeastNumber p n → n ≡ least_number p

@@ -8,7 +8,7 @@ use Rattle.study_board.specs.declared.men.Kind.TheVariants.{King, Queen, Rook, B
 use Rattle.study_board.specs.declared.men.Man.{Man}
 use Rattle.study_board.specs.Men.{same_side}
 use Rattle.study_material.specs.Lists.{kind_place, put_kind, is_other_than_king, kinds_of, comes_before, is_swapped}
-use Rattle.study_index.specs.Weights.{weight, balanced, balance, balance_of}
+use Rattle.study_index.specs.Weights.{weight, signed_weight, balance, balance_of}
 
 weights : List Kind → ℕ
 weights [] = 0
@@ -49,7 +49,7 @@ weighed [] = refl
 weighed (m ∷ ms) = by_side m.side (is_other_than_king m) (weighed ms)
   where
     by_side : (s : Side) (b : Bool) → IsWeighed (balance_of ms) (weights (kinds_of White ms)) (length ms) (weights (kinds_of Black ms))
-        → IsWeighed (cond b (balanced s (weight m.kind)) 10 + balance_of ms)
+        → IsWeighed (cond b (signed_weight s (weight m.kind)) 10 + balance_of ms)
         (weights (cond (same_side s White && b) (put_kind m.kind (kinds_of White ms)) (kinds_of White ms)))
         (length (m ∷ ms)) (weights (cond (same_side s Black && b) (put_kind m.kind (kinds_of Black ms)) (kinds_of Black ms)))
     by_side White true h = omega (arith, h, weights-put m.kind (kinds_of White ms), weight_small m.kind)

@@ -4,7 +4,7 @@ use Rattle.std.proofs.Common.{◌≡◌, ℕ, Bool, true, false, cond, Some, ref
 use Rattle.study_board.specs.declared.symmetry.Symmetry.{Symmetry}
 use Rattle.study_board.specs.Position.{Position, IsValid}
 use Rattle.study_board.specs.Symmetry.{image, admits}
-use Rattle.study_board.specs.Images.{differ, composed, back}
+use Rattle.study_board.specs.Images.{differ, composition, back}
 use Rattle.study_board.proofs.ImagesValid.{any_turned, seats, valid_image}
 use Rattle.study_board.proofs.ImagesOfImages.{IsTurnable-from_valid, image_joined, image_back, admits_image, admits_joined, admits_back}
 use Rattle.study_moves.specs.EnPassant.{has_legal_en_passant, without_passed, without_idle_passed_square}
@@ -30,14 +30,14 @@ IsNumber-image : (u : Symmetry) (p : Position) (n : ℕ) → IsValid p → admit
 IsNumber-image u p n v au k h =
     let t = h.by in
     let a : admits p t ≡ true = sym (admits_image u t p v au) ∙ h.admitted in
-    let same : image t (image u p) ≡ image (composed u t) p = image_joined u t p (IsTurnable-from_valid u p v au) (IsTurnable-from_valid t p v a) in
+    let same : image t (image u p) ≡ image (composition u t) p = image_joined u t p (IsTurnable-from_valid u p v au) (IsTurnable-from_valid t p v a) in
     record {
-      by = composed u t;
+      by = composition u t;
       admitted = admits_joined u t p au a;
       colours = ap (λ c. differ u.colours c) (h.colours ∙ swapped-image u p.men k) ∙ differ_twice u.colours (is_swapped p.men);
       filling = h.filling;
       fills = subst (λ (r : Position). IsFilling false r.men h.filling) same h.fills;
-      is = subst (λ b. number b (image (composed u t) p).to_move h.filling ≡ Some n) (has_pawn-image u p v au)
+      is = subst (λ b. number b (image (composition u t) p).to_move h.filling ≡ Some n) (has_pawn-image u p v au)
           (subst (λ (r : Position). number (has_pawn (image u p).men) r.to_move h.filling ≡ Some n) same h.is);
     }
 

@@ -12,11 +12,11 @@ use Rattle.study_board.specs.Symmetry.{turned_square}
 use Rattle.study_index.specs.declared.decoding.Slot.{Slot}
 use Rattle.study_values.specs.Slots.{man_slot_number}
 use Rattle.study_values.specs.Number.{place, king_places}
-use Rattle.study_values.specs.Canonical.{are_like, least, canonical_number}
+use Rattle.study_values.specs.Canonical.{are_like, option_min, canonical_number}
 use Rattle.study_index.specs.Squares.{square_symmetry, number_at, exchanged_at, least_turned, least_at}
 use Rattle.study_index.specs.Decoded.{slot_filled, AreSlots, listed_square, men_of, head, side_numbered}
 use Rattle.study_index.specs.Stepped.{are_like_slots}
-use Rattle.study_index.specs.LeastImage.{with_squares_transposed, exchanged, ascending_if, lesser, is_on_diagonal, least_image, squares}
+use Rattle.study_index.specs.LeastImage.{with_squares_transposed, exchange_last_two, ascending_if, lesser_of, is_on_diagonal, least_image, squares}
 use Rattle.study_index.proofs.Symmetries.{all_below, at_below}
 use Rattle.study_index.proofs.NumbersReadOff.{place-king, head_back, filled-men_of}
 use Rattle.study_index.proofs.BySquares.{AreOnBoard, least_of_squares}
@@ -143,8 +143,8 @@ module _ (pawns : Bool) where
   straight_exchanged : (k b x y : Slot) (n : ℕ) → nat_lt (n / 64 / 64 / 64 / king_places pawns) 2 ≡ true
       → number_at pawns (side_numbered (n / 64 / 64 / 64 / king_places pawns)) (turned_square straight)
       (exchanged_at (squares (men_of pawns (k ∷ b ∷ x ∷ y ∷ []) n)))
-      ≡ Some (exchanged n)
-  unfolding number_at exchanged
+      ≡ Some (exchange_last_two n)
+  unfolding number_at exchange_last_two
   straight_exchanged k b x y n c =
       rw (
         straight_is (listed_square pawns (n / 64 / 64 / 64 % king_places pawns)),
@@ -162,7 +162,7 @@ module _ (pawns : Bool) where
   least_straight (k ∷ b ∷ []) n a c = straight_number (k ∷ b ∷ []) n a c
   least_straight (k ∷ b ∷ x ∷ []) n a c = straight_number (k ∷ b ∷ x ∷ []) n a c
   least_straight (k ∷ b ∷ x ∷ y ∷ []) n a c =
-      chosen (are_like_slots (k ∷ b ∷ x ∷ y ∷ [])) _ _ _ _ (exchanged n) n (lower _ _ _ _ (straight_is (n % 64)) (straight_is (n / 64 % 64)))
+      chosen (are_like_slots (k ∷ b ∷ x ∷ y ∷ [])) _ _ _ _ (exchange_last_two n) n (lower _ _ _ _ (straight_is (n % 64)) (straight_is (n / 64 % 64)))
       (straight_exchanged k b x y n c) (straight_number (k ∷ b ∷ x ∷ y ∷ []) n a c)
     where
       lower : (i j k l : ℕ) → i ≡ j → k ≡ l → nat_lt i k ≡ nat_lt j l
@@ -214,8 +214,8 @@ across_number (k ∷ b ∷ x ∷ y ∷ z ∷ fs) n a c = absurd a
 across_exchanged : (k b x y : Slot) (n : ℕ) → nat_lt (n / 64 / 64 / 64 / 10) 2 ≡ true
     → number_at false (side_numbered (n / 64 / 64 / 64 / 10)) (turned_square diagonal)
     (exchanged_at (squares (men_of false (k ∷ b ∷ x ∷ y ∷ []) n)))
-    ≡ cond (is_on_diagonal (n / 64 / 64 / 64 % 10)) (Some (exchanged (with_squares_transposed (k ∷ b ∷ x ∷ y ∷ []) n))) None
-unfolding number_at with_squares_transposed exchanged
+    ≡ cond (is_on_diagonal (n / 64 / 64 / 64 % 10)) (Some (exchange_last_two (with_squares_transposed (k ∷ b ∷ x ∷ y ∷ []) n))) None
+unfolding number_at with_squares_transposed exchange_last_two
 across_exchanged k b x y n c =
     rw (placed_across (n / 64 / 64 / 64 % 10) (few_places false (n / 64 / 64 / 64)), across_is (n / 64 / 64 % 64), across_is (n / 64 % 64), across_is (n % 64))
     (by_diagonal (is_on_diagonal (n / 64 / 64 / 64 % 10)) _ (n / 64 / 64 / 64 % 10) _
@@ -239,7 +239,7 @@ least_across (k ∷ b ∷ []) n a c = across_number (k ∷ b ∷ []) n a c
 least_across (k ∷ b ∷ x ∷ []) n a c = across_number (k ∷ b ∷ x ∷ []) n a c
 least_across (k ∷ b ∷ x ∷ y ∷ []) n a c =
     chosen (are_like_slots (k ∷ b ∷ x ∷ y ∷ [])) _ _ (is_on_diagonal (n / 64 / 64 / 64 % 10)) _ _
-    (exchanged (with_squares_transposed (k ∷ b ∷ x ∷ y ∷ []) n)) (with_squares_transposed (k ∷ b ∷ x ∷ y ∷ []) n)
+    (exchange_last_two (with_squares_transposed (k ∷ b ∷ x ∷ y ∷ []) n)) (with_squares_transposed (k ∷ b ∷ x ∷ y ∷ []) n)
     (lower k b x y) (across_exchanged k b x y n c) (across_number (k ∷ b ∷ x ∷ y ∷ []) n a c)
   where
     last : (h i j : ℕ) → i < 64 → j < 64 → (((h * 64 + i) * 64 + j) % 64 ≡ j) × (((h * 64 + i) * 64 + j) / 64 % 64 ≡ i)
@@ -274,10 +274,10 @@ are_like-slots (k ∷ b ∷ x ∷ []) = refl
 are_like-slots (k ∷ b ∷ x ∷ y ∷ []) = refl
 are_like-slots (k ∷ b ∷ x ∷ y ∷ z ∷ ms) = refl
 
-two_least : (x y v w : Option ℕ) → x ≡ v → y ≡ w → least x y ≡ least v w
+two_least : (x y v w : Option ℕ) → x ≡ v → y ≡ w → option_min x y ≡ option_min v w
 two_least x y v w e f = rw (e, f) refl
 
-lesser_if : (g : Bool) (x y : ℕ) → least (Some x) (cond g (Some y) None) ≡ Some (cond g (lesser x y) x)
+lesser_if : (g : Bool) (x y : ℕ) → option_min (Some x) (cond g (Some y) None) ≡ Some (cond g (lesser_of x y) x)
 lesser_if false x y = refl
 lesser_if true x y = by_test (nat_lt y x)
   where

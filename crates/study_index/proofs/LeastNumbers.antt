@@ -14,7 +14,7 @@ use Rattle.study_board.specs.declared.symmetry.Symmetry.{Symmetry}
 use Rattle.study_board.specs.Symmetry.{turned_square, turned_side, turned_man}
 use Rattle.study_values.specs.Slots.{IsFilling}
 use Rattle.study_values.specs.Number.{place, number, has_pawn, append_squares, king_places, side_number}
-use Rattle.study_values.specs.Canonical.{canonical_symmetry, last_two_exchanged, are_like, descends, least, least_by, canonical_number, turned_number}
+use Rattle.study_values.specs.Canonical.{canonical_symmetry, last_two_exchanged, are_like, descends, option_min, least_by, canonical_number, turned_number}
 use Rattle.study_index.proofs.Fillings.{IsMaterial, IsMaterial-from_valid, HasKings-from_filling, fillings_of, exchanged-fills}
 use Rattle.study_index.proofs.Symmetries.{admitted, chosen-only, some-listed, chosen-admitted, chosen-colours, chosen-pawns}
 
@@ -48,7 +48,7 @@ pub IsLeast-same : (S T : ℕ → Type 0) → ((n : ℕ) → S n → T n) → ((
 IsLeast-same S T to from None h = λ m t. h m (from m t)
 IsLeast-same S T to from (Some n) h = (to n h.0, λ m t. h.1 m (from m t))
 
-pub IsLeast-both : (S T : ℕ → Type 0) (a b : Option ℕ) → IsLeast S a → IsLeast T b → IsLeast (λ n. S n ⊎ T n) (least a b)
+pub IsLeast-both : (S T : ℕ → Type 0) (a b : Option ℕ) → IsLeast S a → IsLeast T b → IsLeast (λ n. S n ⊎ T n) (option_min a b)
 IsLeast-both S T None None h k = λ m e. elim e [ inl s ↦ h m s | inr t ↦ k m t ]
 IsLeast-both S T None (Some y) h k = (inr k.0, λ m e. elim e [ inl s ↦ absurd (h m s) | inr t ↦ k.1 m t ])
 IsLeast-both S T (Some x) None h k = (inl h.0, λ m e. elim e [ inl s ↦ h.1 m s | inr t ↦ absurd (k m t) ])
@@ -61,11 +61,11 @@ IsLeast-both S T (Some x) (Some y) h k =
     in go (nat_lt y x) refl
 
 -- of two like men the one on the lower square comes first in the lesser number
-least-falls : (pawns : Bool) (side : Side) (t : Symmetry) (xs : List Man) → are_like t.colours xs ≡ true
-    → least (turned_number pawns side t xs) (turned_number pawns side t (last_two_exchanged xs))
+option_min-falls : (pawns : Bool) (side : Side) (t : Symmetry) (xs : List Man) → are_like t.colours xs ≡ true
+    → option_min (turned_number pawns side t xs) (turned_number pawns side t (last_two_exchanged xs))
     ≡ cond (descends t xs) (turned_number pawns side t (last_two_exchanged xs)) (turned_number pawns side t xs)
 unfolding turned_number number
-least-falls pawns side t (a ∷ b ∷ x ∷ y ∷ []) e = by_place (place pawns (turned_square t a.at)) (turned_square t x.at) (turned_square t y.at)
+option_min-falls pawns side t (a ∷ b ∷ x ∷ y ∷ []) e = by_place (place pawns (turned_square t a.at)) (turned_square t x.at) (turned_square t y.at)
   where
     none : (b : Bool) → (let o : Option ℕ = None in o ≡ cond b o o)
     none true = refl
@@ -88,7 +88,7 @@ least-falls pawns side t (a ∷ b ∷ x ∷ y ∷ []) e = by_place (place pawns 
         not_below k n l = grind (arith, nat_tests)
 
     by_place : (o : Option ℕ) (u w : ℕ)
-        → least
+        → option_min
         (option_map (λ q. (((side_number side * king_places pawns + q) * 64 + turned_square t b.at) * 64 + u) * 64 + w)
         o)
         (option_map (λ q. (((side_number side * king_places pawns + q) * 64 + turned_square t b.at) * 64 + w) * 64 + u)
@@ -100,11 +100,11 @@ least-falls pawns side t (a ∷ b ∷ x ∷ y ∷ []) e = by_place (place pawns 
         o)
     by_place None u w = none (nat_lt w u)
     by_place (Some q) u w = some ((side_number side * king_places pawns + q) * 64 + turned_square t b.at) u w (nat_lt w u) refl
-least-falls pawns side t [] e = absurd (false≢true e)
-least-falls pawns side t (a ∷ []) e = absurd (false≢true e)
-least-falls pawns side t (a ∷ b ∷ []) e = absurd (false≢true e)
-least-falls pawns side t (a ∷ b ∷ x ∷ []) e = absurd (false≢true e)
-least-falls pawns side t (a ∷ b ∷ x ∷ y ∷ z ∷ zs) e = absurd (false≢true e)
+option_min-falls pawns side t [] e = absurd (false≢true e)
+option_min-falls pawns side t (a ∷ []) e = absurd (false≢true e)
+option_min-falls pawns side t (a ∷ b ∷ []) e = absurd (false≢true e)
+option_min-falls pawns side t (a ∷ b ∷ x ∷ []) e = absurd (false≢true e)
+option_min-falls pawns side t (a ∷ b ∷ x ∷ y ∷ z ∷ zs) e = absurd (false≢true e)
 
 module _ (pawns : Bool) (side : Side) (t : Symmetry) (men xs : List Man) (m : IsMaterial t.colours men) (f : IsFilling t.colours men xs) where
   abbrev at_filling : List Man → ℕ → Type 0
@@ -137,7 +137,7 @@ module _ (pawns : Bool) (side : Side) (t : Symmetry) (men xs : List Man) (m : Is
       (cond v (cond (descends t xs) (turned_number pawns side t (last_two_exchanged xs)) (turned_number pawns side t xs))
       (turned_number pawns side t xs))) [
         | true ↦ λ e. IsLeast-same (λ n. at_filling xs n ⊎ at_filling (last_two_exchanged xs) n) (IsNumberBy pawns side t men) (from_two e) to_two _
-            (subst (λ r. IsLeast (λ n. at_filling xs n ⊎ at_filling (last_two_exchanged xs) n) r) (least-falls pawns side t xs e)
+            (subst (λ r. IsLeast (λ n. at_filling xs n ⊎ at_filling (last_two_exchanged xs) n) r) (option_min-falls pawns side t xs e)
             (IsLeast-both (at_filling xs) (at_filling (last_two_exchanged xs)) (turned_number pawns side t xs)
             (turned_number pawns side t (last_two_exchanged xs)) (IsLeast-one (turned_number pawns side t xs))
             (IsLeast-one (turned_number pawns side t (last_two_exchanged xs)))))
@@ -275,12 +275,12 @@ module _ (c : Bool) (p : Position) (k : Man) (rest : List Man) (v : IsValid p) (
   pub IsLeast-least_of : IsLeast (IsNumberOf c p) (canonical_number pawns side c (k ∷ rest))
   unfolding canonical_number straight transposed
   IsLeast-least_of =
-      let go : (b : Bool) → pawns ≡ b → IsLeast (IsNumberOf c p) (cond b straight (least straight transposed)) =
-      λ b. elim b as (λ v. pawns ≡ v → IsLeast (IsNumberOf c p) (cond v straight (least straight transposed))) [
+      let go : (b : Bool) → pawns ≡ b → IsLeast (IsNumberOf c p) (cond b straight (option_min straight transposed)) =
+      λ b. elim b as (λ v. pawns ≡ v → IsLeast (IsNumberOf c p) (cond v straight (option_min straight transposed))) [
         | true ↦ λ e. IsLeast-same (by_chosen false) (IsNumberOf c p) (from_chosen false (no_diagonal pawns)) (to_straight e) straight (IsLeast-chosen false)
         | false ↦ λ e. IsLeast-same (λ n. by_chosen false n ⊎ by_chosen true n) (IsNumberOf c p)
             (λ n h. elim h [ inl b ↦ from_chosen false (any_diagonal pawns false e) n b | inr b ↦ from_chosen true (any_diagonal pawns true e) n b ])
-            to_either (least straight transposed)
+            to_either (option_min straight transposed)
             (IsLeast-both (by_chosen false) (by_chosen true) straight transposed (IsLeast-chosen false) (IsLeast-chosen true))
       ]
       in go pawns refl

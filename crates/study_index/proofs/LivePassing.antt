@@ -24,7 +24,7 @@ use Rattle.study_index.specs.Decoded.{square_behind, square_behind_pawn}
 use Rattle.study_moves.proofs.MenOfList.{IsAmong, some_among, same_square, found_among}
 use Rattle.study_moves.proofs.NoMoveBetween.{HasMover-from_is_legal}
 use Rattle.study_material.specs.declared.class.Class.{Class}
-use Rattle.study_material.specs.Lists.{of, ordered}
+use Rattle.study_material.specs.Lists.{of, ordered_lists}
 use Rattle.study_material.specs.Class.{lists_of, IsOf}
 use Rattle.study_material.proofs.KindCounts.{many, many-IsPermutation, many_others, two_pawns}
 use Rattle.study_material.proofs.MenBesideKings.{few_others}
@@ -104,7 +104,7 @@ live_pawns p v taken = by_passed p.passed refl taken
 pub live_class : (c : Class) (p : Position) → IsValid p → IsOf c p → has_legal_en_passant p ≡ true → lists_of c ≡ of (Pawn ∷ []) (Pawn ∷ [])
 live_class c p v o taken =
     let r = live_pawns p v taken in
-    o ∙ ap (λ l. ordered l) (two_pawns p.men (few_others p v) (r.3) (r.4))
+    o ∙ ap (λ l. ordered_lists l) (two_pawns p.men (few_others p v) (r.3) (r.4))
 
 -- the first pawn of a side is its only pawn
 behind-one : (side : Side) (xs : List Man) (m : Man) → IsAmong m xs → is_man side Pawn m ≡ true

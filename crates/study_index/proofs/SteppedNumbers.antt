@@ -17,7 +17,7 @@ use Rattle.study_values.specs.Number.{number, side_number, king_places, without_
 use Rattle.study_index.specs.Decoded.{slot_filled, slots_of, slots_have_pawn, AreSlots, men_of, head, side_numbered, decoded_men, decoded_side}
 use Rattle.study_values.specs.Canonical.{canonical_number}
 use Rattle.study_values.specs.Index.{index_of}
-use Rattle.study_index.specs.Stepped.{moved_to, stepped, are_like_slots, IsStepped, NumbersStep, square_weight, square_of_slot}
+use Rattle.study_index.specs.Stepped.{moved_to, number_after_step, are_like_slots, IsStepped, NumbersStep, square_weight, square_of_slot}
 use Rattle.study_index.specs.Departure.{is_canonical_as_is}
 use Rattle.study_index.specs.LeastImage.{turned_by, stepped_by, least_image, ascending_if, is_on_diagonal}
 use Rattle.study_index.proofs.NumbersReadOff.{place-king, IsRead-number, filled-men_of, IsInSlots-men_of}
@@ -362,11 +362,11 @@ added_image c n i a p below one few t =
     ∙ ap (λ (m : ℕ). least_image (slots_have_pawn (slots_of c)) (are_like_slots (slots_of c)) (slots_of c) m) (taken_first c n i a below one few)
 
 pub numbers-step : NumbersStep
-unfolding least_image ascending_if stepped stepped_by
+unfolding least_image ascending_if number_after_step stepped_by
 numbers-step c n i a p pawn unlike below one few t =
     stepped_index c n i a p below one few t
     ∙ as_added _ _ (slots_of c) (without_bit n) pawn unlike
   where
     as_added : (w l : Bool) (slots : List Slot) (b : ℕ) → w ≡ true → l ≡ false
-        → least_image w l slots (stepped_by (king_places w) (length slots) b i a) ≡ stepped (length slots) b i a
+        → least_image w l slots (stepped_by (king_places w) (length slots) b i a) ≡ number_after_step (length slots) b i a
     as_added w l slots b e f = rw (e, f) refl

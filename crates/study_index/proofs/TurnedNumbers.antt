@@ -15,8 +15,8 @@ use Rattle.study_material.proofs.ClassOfImage.{IsPermutation-turned}
 use Rattle.study_values.specs.Slots.{man_slot_number, NoneBefore, IsInSlots, IsFilling}
 use Rattle.study_values.specs.Number.{has_pawn, number, IsNumber, IsLeastNumber}
 use Rattle.study_values.specs.Canonical.{turned_number, canonical_number}
-use Rattle.study_values.specs.Index.{sorted}
-use Rattle.study_index.proofs.Slots.{IsFilling-sorted}
+use Rattle.study_values.specs.Index.{sort_by_slot}
+use Rattle.study_index.proofs.Slots.{IsFilling-sort_by_slot}
 use Rattle.study_index.proofs.LeastNumbers.{IsNumberOf, IsIndexOf, IsIndex-least_of}
 
 module _ {X Y : Type 0} (f : X → Y) where
@@ -110,10 +110,10 @@ least_is p xs r v f e = let h = IsIndex-least_of (is_swapped p.men) p xs r v f e
 -- the same for the number that the code computes
 pub least_found : (p : Position) (men : List Man) (c pawns : Bool) (to_move side : Side) (r : Option ℕ)
     → men ≡ p.men → IsValid p → c ≡ is_swapped p.men → pawns ≡ has_pawn men → to_move ≡ p.to_move
-    → side ≡ turned_side c to_move → r ≡ canonical_number pawns side c (sorted c men) → (n : ℕ) × (r ≡ Some n)
+    → side ≡ turned_side c to_move → r ≡ canonical_number pawns side c (sort_by_slot c men) → (n : ℕ) × (r ≡ Some n)
     × IsLeastNumber p n
 least_found p men c pawns to_move side r m v b h t s e =
-    least_is p (sorted (is_swapped p.men) p.men) r v (IsFilling-sorted (is_swapped p.men) p.men) (e ∙ rw (h, s, t, m, b) refl)
+    least_is p (sort_by_slot (is_swapped p.men) p.men) r v (IsFilling-sort_by_slot (is_swapped p.men) p.men) (e ∙ rw (h, s, t, m, b) refl)
 
 pub no_none : {P : ℕ → Type 0} → (n : ℕ) × (None ≡ Some n) × P n → ⊥
 no_none h = (let e = h.1 in cc)

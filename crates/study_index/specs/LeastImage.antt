@@ -3,7 +3,7 @@ use Rattle.std.specs.Prelude.{ℕ, ◌+◌, ◌-◌, ◌*◌, ◌/◌, ◌%◌, 
 use Rattle.study_board.specs.declared.men.Man.{Man}
 use Rattle.study_board.specs.declared.symmetry.Symmetry.{Symmetry}
 use Rattle.study_board.specs.Geometry.{file_of, rank_of}
-use Rattle.study_board.specs.Symmetry.{mirrored}
+use Rattle.study_board.specs.Symmetry.{mirror_if}
 use Rattle.study_index.specs.declared.decoding.Slot.{Slot}
 use Rattle.study_index.specs.Decoded.{head}
 use Rattle.study_index.specs.Stepped.{square_weight, square_of_slot}
@@ -21,15 +21,15 @@ with_squares_transposed (k ∷ b ∷ x ∷ y ∷ []) n =
 with_squares_transposed slots n = n
 
 -- the last two squares exchanged
-unfoldable pub exchanged : ℕ → ℕ
-exchanged n = (n / 64 / 64 * 64 + n % 64) * 64 + n / 64 % 64
+unfoldable pub exchange_last_two : ℕ → ℕ
+exchange_last_two n = (n / 64 / 64 * 64 + n % 64) * 64 + n / 64 % 64
 
 -- the last two squares in ascending order, if they are squares of like men
 unfoldable pub ascending_if : Bool → ℕ → ℕ
-ascending_if like n = if like && nat_lt (n % 64) (n / 64 % 64) then exchanged n else n
+ascending_if like n = if like && nat_lt (n % 64) (n / 64 % 64) then exchange_last_two n else n
 
-abbrev pub lesser : ℕ → ℕ → ℕ
-lesser x y = if nat_lt y x then y else x
+abbrev pub lesser_of : ℕ → ℕ → ℕ
+lesser_of x y = if nat_lt y x then y else x
 
 -- the places of a1, b2, c3 and d4
 abbrev pub is_on_diagonal : ℕ → Bool
@@ -38,7 +38,7 @@ is_on_diagonal q = (q == 0) || (q == 4) || (q == 7) || (q == 9)
 -- the least number of the men that n encodes
 unfoldable pub least_image : Bool → Bool → List Slot → ℕ → ℕ
 least_image pawns like slots n =
-    if not pawns && is_on_diagonal (head slots n % 10) then lesser (ascending_if like n) (ascending_if like (with_squares_transposed slots n))
+    if not pawns && is_on_diagonal (head slots n % 10) then lesser_of (ascending_if like n) (ascending_if like (with_squares_transposed slots n))
     else ascending_if like n
 
 -- the symmetry that brings the white king's square to a listed one, without swapping the colours
@@ -47,7 +47,7 @@ king_symmetry pawns s =
     record {
       files = nat_lt 3 (file_of s);
       ranks = not pawns && nat_lt 3 (rank_of s);
-      diagonal = not pawns && nat_lt (mirrored (nat_lt 3 (file_of s)) (file_of s)) (mirrored (nat_lt 3 (rank_of s)) (rank_of s));
+      diagonal = not pawns && nat_lt (mirror_if (nat_lt 3 (file_of s)) (file_of s)) (mirror_if (nat_lt 3 (rank_of s)) (rank_of s));
       colours = false;
     }
 

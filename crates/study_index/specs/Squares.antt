@@ -9,7 +9,7 @@ use Rattle.study_board.specs.Symmetry.{turned_square}
 use Rattle.study_index.specs.declared.slot_order.PlacedMan.{PlacedMan}
 use Rattle.study_values.specs.Slots.{man_slot_number}
 use Rattle.study_values.specs.Number.{place, king_places, side_number}
-use Rattle.study_values.specs.Canonical.{least}
+use Rattle.study_values.specs.Canonical.{option_min}
 
 -- a man as its slot and its square
 abbrev pub placed_man : Bool → Man → PlacedMan
@@ -59,5 +59,5 @@ unfoldable pub least_at : Bool → Side → Bool → Bool → List ℕ → Optio
 least_at pawns to_move colours like [] = None
 least_at pawns to_move colours like (k ∷ rest) =
     if pawns then least_turned pawns to_move (turned_square (square_symmetry pawns false colours k)) like (k ∷ rest)
-    else least (least_turned pawns to_move (turned_square (square_symmetry pawns false colours k)) like (k ∷ rest))
+    else option_min (least_turned pawns to_move (turned_square (square_symmetry pawns false colours k)) like (k ∷ rest))
     (least_turned pawns to_move (turned_square (square_symmetry pawns true colours k)) like (k ∷ rest))

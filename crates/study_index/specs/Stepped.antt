@@ -33,8 +33,8 @@ abbrev pub with_side_swapped : ℕ → ℕ → ℕ
 with_side_swapped count n = if nat_lt n (side_weight count) then n + side_weight count else n - side_weight count
 
 -- the number with the other side to move and the man of slot i on square a
-unfoldable pub stepped : ℕ → ℕ → ℕ → ℕ → ℕ
-stepped count n i a = with_side_swapped count n + a * square_weight count i - square_of_slot count i n * square_weight count i
+unfoldable pub number_after_step : ℕ → ℕ → ℕ → ℕ → ℕ
+number_after_step count n i a = with_side_swapped count n + a * square_weight count i - square_of_slot count i n * square_weight count i
 
 -- the last two of four slots have like men
 abbrev pub are_like_slots : List Slot → Bool
@@ -53,4 +53,4 @@ abbrev pub NumbersStep : Type 0
 NumbersStep =
     (c : Class) (n i a : ℕ) (p : Position) → slots_have_pawn (slots_of c) ≡ true → are_like_slots (slots_of c) ≡ false
     → n < cells_of c → 1 ≤ i → i < length (slots_of c) → IsStepped c n i a p
-    → index_of p ≡ stepped (length (slots_of c)) (without_bit n) i a
+    → index_of p ≡ number_after_step (length (slots_of c)) (without_bit n) i a

@@ -16,12 +16,12 @@ weight Pawn = 5
 weight King = 4
 
 -- ten, minus the weight of a white man or plus that of a black one
-abbrev pub balanced : Side → ℕ → ℕ
-balanced White n = 10 - n
-balanced Black n = 10 + n
+abbrev pub signed_weight : Side → ℕ → ℕ
+signed_weight White n = 10 - n
+signed_weight Black n = 10 + n
 
 abbrev pub balance : Man → ℕ
-balance m = if is_other_than_king m then balanced m.side (weight m.kind) else 10
+balance m = if is_other_than_king m then signed_weight m.side (weight m.kind) else 10
 
 abbrev pub balance_of : List Man → ℕ
 balance_of [] = 0

@@ -1,7 +1,7 @@
 //! The least number of the men that a number encodes, by its squares in base 64.
 ghost use Rattle.std.specs.Prelude.{◌≡◌, ◌<◌, ◌≤◌, ◌+◌, ◌*◌};
 ghost use Rattle.study_index.specs.Decoded.{head};
-ghost use Rattle.study_index.specs.LeastImage.{file_and_rank_swapped, with_squares_transposed, exchanged, ascending_if, is_on_diagonal, least_image};
+ghost use Rattle.study_index.specs.LeastImage.{file_and_rank_swapped, with_squares_transposed, exchange_last_two, ascending_if, is_on_diagonal, least_image};
 
 use crate::decoding::{Slot, head};
 
@@ -37,9 +37,9 @@ fn with_squares_transposed(slots: &[Slot], n: u32) -> u32
 
 /// The number with the last two squares exchanged.
 #[inline]
-#[tactic(auto, unfolding(crate::specs::LeastImage::exchanged))]
-fn exchanged(n: u32) -> u32
-    ensures { result ≡ exchanged n }
+#[tactic(auto, unfolding(crate::specs::LeastImage::exchange_last_two))]
+fn exchange_last_two(n: u32) -> u32
+    ensures { result ≡ exchange_last_two n }
 {
     (n / 64 / 64 * 64 + n % 64) * 64 + n / 64 % 64
 }
@@ -51,7 +51,7 @@ fn ascending_if(like: bool, n: u32) -> u32
     ensures { result ≡ ascending_if like n }
 {
     if like && n % 64 < n / 64 % 64 {
-        exchanged(n)
+        exchange_last_two(n)
     } else {
         n
     }

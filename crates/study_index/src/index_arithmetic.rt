@@ -76,7 +76,7 @@ pub fn square_of_slot(count: u32, slot: u32, number: u32) -> u32
 /// The number with the other side to move and the man of a slot on another square.
 #[inline]
 #[tactic(auto, unfolding(crate::specs::LeastImage::stepped_by))]
-pub fn stepped(pawns: bool, count: u32, number: u32, slot: u32, to: Square) -> u32
+pub fn number_after_step(pawns: bool, count: u32, number: u32, slot: u32, to: Square) -> u32
     requires few { 2 ≤ count }
     requires many { count ≤ 4 }
     requires number { number < 16777216 }

@@ -1,9 +1,9 @@
 //! The index of a position.
 ghost use Rattle.std.specs.Prelude.{◌≡◌, ◌≤◌, ◌<◌, length, [], ◌∷◌};
 ghost use Rattle.study_values.specs.Number.{IsLeastNumber, IsIndex};
-ghost use Rattle.study_values.specs.Index.{least_number, index_of, sorted};
+ghost use Rattle.study_values.specs.Index.{least_number, index_of, sort_by_slot};
 ghost use Rattle.study_board.specs.Symmetry.{turned_square};
-ghost use Rattle.study_values.specs.Canonical.{least, canonical_number};
+ghost use Rattle.study_values.specs.Canonical.{option_min, canonical_number};
 ghost use Rattle.study_index.specs.Squares.{square_symmetry, exchanged_at, descends_at, number_at, least_turned, least_at};
 
 use crate::colour_swap::is_swapped;
@@ -12,7 +12,7 @@ use crate::slot_order::{
     insert_into_three, insert_into_two, man_slot_number, placed_man, side_after, sort_two,
     square_of_man,
 };
-use crate::transform::turned;
+use crate::transform::turned_square;
 use study_board::{Man, Position, Square, Symmetry};
 use study_moves::has_legal_en_passant;
 use study_values::EN_PASSANT_BIT;
@@ -44,8 +44,8 @@ fn square_symmetry(frame: Frame, diagonal: bool, s: Square) -> Symmetry
 
 /// The lesser of two optional numbers, or the only one.
 #[inline]
-fn least(a: Option<u32>, b: Option<u32>) -> Option<u32>
-    ensures { result ≡ least a b }
+fn option_min(a: Option<u32>, b: Option<u32>) -> Option<u32>
+    ensures { result ≡ option_min a b }
 {
     match (a, b) {
         (None, b) => b,
@@ -75,7 +75,7 @@ fn descends(t: Symmetry, squares: &[Square]) -> bool
     ensures { result ≡ descends_at (turned_square t) squares.now }
 {
     match squares {
-        [_, _, x, y] => turned(t, *y).number() < turned(t, *x).number(),
+        [_, _, x, y] => turned_square(t, *y).number() < turned_square(t, *x).number(),
         _ => false,
     }
 }
@@ -109,7 +109,7 @@ fn least_at(frame: Frame, like: bool, squares: &[Square]) -> Option<u32>
                 straight
             } else {
                 let t = square_symmetry(frame, true, *king);
-                least(straight, least_by(frame, t, like, squares))
+                option_min(straight, least_by(frame, t, like, squares))
             }
         }
     }
@@ -178,7 +178,7 @@ fn least_with_two(frame: Frame, a: Man, b: Man, c: Man, d: Man) -> Option<u32>
 fn least_in_slots(frame: Frame, men: &[Man]) -> Option<u32>
     requires { length men.now ≤ 4 }
     ensures { result ≡ canonical_number frame.has_pawns frame.to_move frame.swap_colours
-        (sorted frame.swap_colours men.now) }
+        (sort_by_slot frame.swap_colours men.now) }
 {
     match men {
         [] => None,
@@ -193,7 +193,7 @@ fn least_in_slots(frame: Frame, men: &[Man]) -> Option<u32>
 #[inline]
 fn least_of_two(frame: Frame, a: Man, b: Man) -> Option<u32>
     ensures { result ≡ canonical_number frame.has_pawns frame.to_move frame.swap_colours
-        (sorted frame.swap_colours (a ∷ b ∷ [])) }
+        (sort_by_slot frame.swap_colours (a ∷ b ∷ [])) }
 {
     let swap = frame.swap_colours;
     let (a, b) = sort_two(&placed_man(swap, &a), &placed_man(swap, &b));
@@ -203,7 +203,7 @@ fn least_of_two(frame: Frame, a: Man, b: Man) -> Option<u32>
 #[inline]
 fn least_of_three(frame: Frame, a: Man, b: Man, c: Man) -> Option<u32>
     ensures { result ≡ canonical_number frame.has_pawns frame.to_move frame.swap_colours
-        (sorted frame.swap_colours (a ∷ b ∷ c ∷ [])) }
+        (sort_by_slot frame.swap_colours (a ∷ b ∷ c ∷ [])) }
 {
     let swap = frame.swap_colours;
     let (b, c) = sort_two(&placed_man(swap, &b), &placed_man(swap, &c));
@@ -215,7 +215,7 @@ fn least_of_three(frame: Frame, a: Man, b: Man, c: Man) -> Option<u32>
 #[inline]
 fn least_of_four(frame: Frame, a: Man, b: Man, c: Man, d: Man) -> Option<u32>
     ensures { result ≡ canonical_number frame.has_pawns frame.to_move frame.swap_colours
-        (sorted frame.swap_colours (a ∷ b ∷ c ∷ d ∷ [])) }
+        (sort_by_slot frame.swap_colours (a ∷ b ∷ c ∷ d ∷ [])) }
 {
     let swap = frame.swap_colours;
     let (c, d) = sort_two(&placed_man(swap, &c), &placed_man(swap, &d));

@@ -15,7 +15,7 @@ ghost use Rattle.study_board.specs.Symmetry.{turned_square};
 
 use crate::canonical::least_image;
 use crate::decoding::{Slot, head, man, slots};
-use crate::index_arithmetic::stepped;
+use crate::index_arithmetic::number_after_step;
 use crate::index_of::canonical_number;
 use crate::numbering::{Frame, king_places, number, place, side_number};
 use crate::slot_men::{class_has_pawn, has_like_men, side_of_number, white_king_of};
@@ -45,21 +45,21 @@ fn least_moved(slots: &[Slot], pawns: bool, n: u32, from: Square, to: Square) ->
     let frame = straight_frame(pawns, side_of_number(pawns, head(slots, n)).other());
     match slots {
         [k, b] => {
-            let white = white_king_of(pawns, k, n / 64).moved(from, to);
-            let men = [white, man(b, n % 64).moved(from, to)];
+            let white = white_king_of(pawns, k, n / 64).moved_if(from, to);
+            let men = [white, man(b, n % 64).moved_if(from, to)];
             canonical_number(frame, &men)
         }
         [k, b, x] => {
-            let white = white_king_of(pawns, k, n / 64 / 64).moved(from, to);
-            let black = man(b, n / 64 % 64).moved(from, to);
-            let men = [white, black, man(x, n % 64).moved(from, to)];
+            let white = white_king_of(pawns, k, n / 64 / 64).moved_if(from, to);
+            let black = man(b, n / 64 % 64).moved_if(from, to);
+            let men = [white, black, man(x, n % 64).moved_if(from, to)];
             canonical_number(frame, &men)
         }
         [k, b, x, y] => {
-            let white = white_king_of(pawns, k, n / 64 / 64 / 64).moved(from, to);
-            let black = man(b, n / 64 / 64 % 64).moved(from, to);
-            let further = man(x, n / 64 % 64).moved(from, to);
-            let men = [white, black, further, man(y, n % 64).moved(from, to)];
+            let white = white_king_of(pawns, k, n / 64 / 64 / 64).moved_if(from, to);
+            let black = man(b, n / 64 / 64 % 64).moved_if(from, to);
+            let further = man(x, n / 64 % 64).moved_if(from, to);
+            let men = [white, black, further, man(y, n % 64).moved_if(from, to)];
             canonical_number(frame, &men)
         }
         _ => unreachable!(),
@@ -176,7 +176,7 @@ pub fn index_after_step(class: Class, number: u32, slot: u32, to: Square) -> u32
             None => 0,
         }
     } else {
-        let moved = stepped(pawns, slots.len() as u32, n, slot, to);
+        let moved = number_after_step(pawns, slots.len() as u32, n, slot, to);
         least_image(pawns, like, slots, moved)
     }
 }

@@ -5,7 +5,7 @@ ghost use Rattle.study_board.specs.Symmetry.{turned_square};
 ghost use Rattle.study_values.specs.Number.{place, king_places, side_number, has_pawn, places_before};
 ghost use Rattle.study_index.specs.Squares.{counted_at, number_at};
 
-use crate::transform::turned;
+use crate::transform::turned_square;
 use study_board::{Kind, Man, Side, Square, Symmetry};
 
 /// The offset of a rank in the triangle a1, d1, d4: added to the file, it gives the square's place.
@@ -73,7 +73,7 @@ fn append_square(t: Symmetry, n: u32, x: Square) -> u32
     ensures value { result ≡ n * 64 + turned_square t x }
     ensures small { result < n * 64 + 64 }
 {
-    n * 64 + u32::from(turned(t, x).number())
+    n * 64 + u32::from(turned_square(t, x).number())
 }
 
 /// Appends further squares as digits in base 64.
@@ -133,7 +133,7 @@ pub fn number(frame: Frame, t: Symmetry, squares: &[Square]) -> Option<u32>
 {
     match squares {
         [] => None,
-        [king, rest @ ..] => match place(frame.has_pawns, turned(t, *king)) {
+        [king, rest @ ..] => match place(frame.has_pawns, turned_square(t, *king)) {
             None => None,
             Some(q) => Some(append_squares(
                 t,

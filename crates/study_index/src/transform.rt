@@ -1,7 +1,7 @@
 //! The image of a square, computed on its bits: the file in the low three, the rank in the high three.
 ghost use Rattle.std.specs.Prelude.{◌≡◌, cond};
 ghost use Rattle.study_board.specs.Symmetry.{turned_square};
-ghost use Rattle.study_index.specs.Bits.{transposed, turned_bits};
+ghost use Rattle.study_index.specs.Bits.{transpose_if, turned_bits};
 
 use study_board::{Square, Symmetry};
 
@@ -14,8 +14,8 @@ fn bits_if(flag: bool, bits: u8) -> u8
 
 /// File and rank exchanged, or not.
 #[inline]
-fn transposed(diagonal: bool, square: u8) -> u8
-    ensures { result ≡ transposed diagonal square }
+fn transpose_if(diagonal: bool, square: u8) -> u8
+    ensures { result ≡ transpose_if diagonal square }
 {
     if diagonal {
         square % 8 * 8 + square / 8
@@ -30,13 +30,13 @@ fn turned_bits(t: Symmetry, square: u8) -> u8
     ensures { result ≡ turned_bits t square }
 {
     let mirrored = square ^ bits_if(t.files, 7) ^ bits_if(t.ranks, 56);
-    transposed(t.diagonal, mirrored) ^ bits_if(t.colours, 56)
+    transpose_if(t.diagonal, mirrored) ^ bits_if(t.colours, 56)
 }
 
 /// The image of a square under the symmetry.
 #[inline]
 #[tactic(auto, using(crate::proofs::TurnedBits::turned_is))]
-pub fn turned(t: Symmetry, square: Square) -> Square
+pub fn turned_square(t: Symmetry, square: Square) -> Square
     ensures { result ≡ turned_square t square }
 {
     Square::at(turned_bits(t, square.number()))

@@ -9,7 +9,7 @@ use Rattle.study_script.specs.State.{State}
 use Rattle.study_report.specs.Outcome.{Outcome, Shape}
 use Rattle.study_report.specs.Parts.{Fits}
 use Rattle.study_report.specs.Remarks.{subject, statement, is_left_out}
-use Rattle.study_page.specs.Csv.{quoted, head_record, refused_record, IsRecordOf, IsSomeRecord}
+use Rattle.study_page.specs.Csv.{quoted_text, head_record, refused_record, IsRecordOf, IsSomeRecord}
 use Rattle.study_print.specs.Refusals.{refusal_name}
 
 -- a refused line, by the script's reply to it
@@ -18,7 +18,7 @@ refusal_record number line reply = refused_record number line (refusal_name repl
 
 -- a game that was left out: its place among the games in place of a title, and the reason in place of a verdict
 unfoldable pub left_out_record : List ℕ → List ℕ
-left_out_record line = codes "," ++ (quoted (subject line) ++ (codes ",,,," ++ (quoted (statement line) ++ codes "\r\n")))
+left_out_record line = codes "," ++ (quoted_text (subject line) ++ (codes ",,,," ++ (quoted_text (statement line) ++ codes "\r\n")))
 
 -- an original text has no record
 abbrev pub remark_record : List ℕ → List ℕ

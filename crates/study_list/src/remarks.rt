@@ -1,45 +1,14 @@
 //! A game that was left out as a record.
 ghost use Rattle.std.specs.Prelude.{◌≡◌, ◌++◌, Err, OnOk};
-ghost use Rattle.std.specs.List.{flat_map};
 ghost use Rattle.std.specs.Io.KnownBytes.{Appends};
 ghost use Rattle.study_text.specs.Taken.{TakesPrefix};
-ghost use Rattle.study_page.specs.Csv.{doubled, quoted};
 ghost use Rattle.study_list.specs.List.{left_out_record, remark_record};
 
 use std::alloc::{AllocError, Allocator};
 use std::io::Write;
+use study_page::add_quoted;
 use study_report::{WriteFault, is_left_out, statement, subject};
 use study_text::{Text, write_text};
-
-fn add_doubled<A: Allocator>(text: &mut Text<'_, A>, byte: u8) -> Result<(), AllocError>
-    ensures { OnOk result (text.new ≡ text.old ++ doubled byte) }
-{
-    if byte == b'"' {
-        text.add(b"\"\"")
-    } else {
-        text.add(&[byte])
-    }
-}
-
-/// Adds a text in which each quotation mark is written twice.
-fn add_doubled_each<A: Allocator>(text: &mut Text<'_, A>, bytes: &[u8]) -> Result<(), AllocError>
-    ensures { OnOk result (text.new ≡ text.old ++ flat_map doubled bytes.now) }
-{
-    for byte in bytes {
-        add_doubled(text, *byte)?;
-    }
-    Ok(())
-}
-
-/// Adds a field in quotation marks.
-#[tactic(auto, unfolding(study_page::specs::Csv::quoted))]
-fn add_quoted<A: Allocator>(text: &mut Text<'_, A>, bytes: &[u8]) -> Result<(), AllocError>
-    ensures { OnOk result (text.new ≡ text.old ++ quoted bytes.now) }
-{
-    text.add(b"\"")?;
-    add_doubled_each(text, bytes)?;
-    text.add(b"\"")
-}
 
 #[tactic(auto, unfolding(crate::specs::List::left_out_record))]
 fn add_left_out<A: Allocator>(text: &mut Text<'_, A>, line: &[u8]) -> Result<(), AllocError>

@@ -12,7 +12,7 @@ use Rattle.study_listing.specs.declared.filter_words.Unread.{Unread}
 use Rattle.study_listing.specs.Facts.{IsOneKey}
 use Rattle.study_listing.specs.Filters.{is_let_through, is_key_let_through, HasKeyLetThrough, HasWantedKey}
 use Rattle.study_listing.specs.FilterWords.{with_words}
-use Rattle.study_listing.specs.Lists.{shown, IsOneOfPair, IsListed}
+use Rattle.study_listing.specs.Lists.{listed_image, IsOneOfPair, IsListed}
 use Rattle.study_listing.proofs.OneList.{none-some, same-some}
 
 pub still_refused : (t : Theme) (fault : Unread) (words : List (List ℕ)) → with_words t (Err fault) words ≡ Err fault
@@ -32,7 +32,7 @@ if-asked f p (Ok b) asked h = ((λ e. λ x. h.0 e), (λ k. h.1 (k asked)))
 if-asked f p (Err e) asked h = tt
 
 pub if-listed : {E : Type 0} (s : Selection) (p : Position) (r : Result Bool E) → IsLookedFor s.search p → IsOneOfPair s.search p
-    → is_some (shown s p) ≡ true → IfOk r (λ b. (b ≡ true) ↔ HasWantedKey s.filters p) → IfOk r (λ b. (b ≡ true) ↔ IsListed s p)
+    → is_some (listed_image s p) ≡ true → IfOk r (λ b. (b ≡ true) ↔ HasWantedKey s.filters p) → IfOk r (λ b. (b ≡ true) ↔ IsListed s p)
 if-listed s p (Ok b) sought first placed h =
     ((λ e. record { sought = sought; first = first; placed = placed; key = h.0 e }), (λ l. h.1 l.key))
 if-listed s p (Err e) sought first placed h = tt

@@ -16,7 +16,7 @@ use Rattle.study_listing.specs.declared.text.Form.{Form}
 use Rattle.study_listing.specs.declared.text.Form.TheVariants.{Lines, Script}
 use Rattle.study_listing.specs.Facts.{IsOtherValue, IsOneKey, SaidIf, AreFacts, IsTextOf, has_other, has_key}
 use Rattle.study_listing.specs.Lines.{line_of, study_of}
-use Rattle.study_listing.specs.Lists.{IsListedAt, IsTextAt, AreTexts, AreSoMany, HasWritten, shown}
+use Rattle.study_listing.specs.Lists.{IsListedAt, IsTextAt, AreTexts, AreSoMany, HasWritten, listed_image}
 use Rattle.study_listing.specs.Laws.{ListsAreUnique, ListsHaveAll}
 
 pub found-unique : (P : ℕ → Type 0) (a b : ℕ) (ns ms : List ℕ) → AreFound P a b ns → AreFound P a b ms → ns ≡ ms
@@ -97,7 +97,7 @@ text-unique law Script t p x y (f, h, e) (g, k, d) = e ∙ ap (λ (z : Facts). s
 text-at-unique : EachHasAtMostOneValue → (s : Selection) (form : Form) (n : ℕ) (x y : List ℕ) → IsTextAt s form n x → IsTextAt s form n y → x ≡ y
 text-at-unique law s form n x y (p, e, (i, f, h)) (q, d, (j, g, k)) =
     let same = same-some q p (sym d ∙ e) in
-    let image = same-some j i (sym (subst (λ (r : Position). shown s r ≡ Some j) same g) ∙ f) in
+    let image = same-some j i (sym (subst (λ (r : Position). listed_image s r ≡ Some j) same g) ∙ f) in
     text-unique law form s.search.theme i x y h (subst (λ (r : Position). IsTextOf form s.search.theme r y) image k)
 
 pub lists-unique : EachHasAtMostOneValue → ListsAreUnique

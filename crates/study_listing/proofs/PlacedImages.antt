@@ -12,7 +12,7 @@ use Rattle.study_moves.specs.EnPassant.{has_legal_en_passant, without_idle_passe
 use Rattle.study_moves.specs.Laws.{AllAgreeWithBare}
 use Rattle.study_material.specs.declared.class.Class.{Class}
 use Rattle.study_material.specs.Class.{IsOf}
-use Rattle.study_material.specs.Lists.{Lists, lists, ordered, lists_exchanged, is_exchanged, is_swapped}
+use Rattle.study_material.specs.Lists.{Lists, lists, ordered_lists, lists_exchanged, is_exchanged, is_swapped}
 use Rattle.study_material.proofs.ClassOfImage.{swapped-image}
 use Rattle.study_values.specs.Index.{index_of}
 use Rattle.study_index.specs.Computed.{position_numbered}
@@ -24,8 +24,8 @@ use Rattle.study_listing.specs.Laws.{PlacedAreShown}
 use Rattle.study_listing.proofs.OneList.{same-some}
 use Rattle.study_listing.proofs.Shown.{has-some}
 
-ordered-same : (l : Lists) → l.white ≡ l.black → (ordered l).white ≡ (ordered l).black
-ordered-same l e = go (is_exchanged l)
+ordered_lists-same : (l : Lists) → l.white ≡ l.black → (ordered_lists l).white ≡ (ordered_lists l).black
+ordered_lists-same l e = go (is_exchanged l)
   where
     go : (b : Bool) → (if b then lists_exchanged l else l).white ≡ (if b then lists_exchanged l else l).black
     go false = e
@@ -63,7 +63,7 @@ module _ (law : AllAgreeWithBare) (c : Class) (p q : Position) (valid : IsValid 
       let same : r.0 ≡ q = same-some r.0 q (sym (numbered_of_decoded c n r.0 r.1) ∙ reported) in
       let is : r.0 ≡ image by (without_idle_passed_square p) = sym e.is_bare ∙ alike.alike.images.is in
       let keeps : (lists (without_idle_passed_square p).men).white ≡ (lists (without_idle_passed_square p).men).black → by.colours ≡ false =
-      (λ like. alike.kept (ap (λ l. l.white) home ∙ ordered-same (lists p.men) (subst (λ xs. (lists xs).white ≡ (lists xs).black) (bare-men p) like)
+      (λ like. alike.kept (ap (λ l. l.white) home ∙ ordered_lists-same (lists p.men) (subst (λ xs. (lists xs).white ≡ (lists xs).black) (bare-men p) like)
       ∙ sym (ap (λ l. l.black) home))) in
       record {
         by = by;

@@ -11,7 +11,7 @@ use Rattle.study_search.specs.Pairs.{counterpart}
 use Rattle.study_listing.specs.declared.filters.Placed.{Placed}
 use Rattle.study_listing.specs.declared.filters.Selection.{Selection}
 use Rattle.study_listing.specs.Filters.{no_filters, are_placed, turned_by, turns, or_else, image_placed, first_placed, HasImagePlaced}
-use Rattle.study_listing.specs.Lists.{is_paired, second_placed, shown}
+use Rattle.study_listing.specs.Lists.{is_paired, second_placed, listed_image}
 use Rattle.study_listing.specs.Laws.{HasImageShown, IsShownRightly, ImagesAreShown}
 
 -- ---- wanted men
@@ -149,31 +149,31 @@ module _ (s : Selection) (p : Position) where
   second-is true q e = first-is s.filters.men (counterpart p) turns q e
   second-is false q e = absurd (none-there q e)
 
-  some-shown : is_some (shown s p) ≡ true → HasImageShown s p
+  some-shown : is_some (listed_image s p) ≡ true → HasImageShown s p
   some-shown e = elim (either (first_placed s.filters.men p turns) (second_placed s p) e) [
     | inl here ↦ inl (shown-has s.filters.men p here)
     | inr other ↦ inr (second-has (is_paired s.search) other)
   ]
 
-  shown-some : HasImageShown s p → is_some (shown s p) ≡ true
+  shown-some : HasImageShown s p → is_some (listed_image s p) ≡ true
   shown-some (inl h) = first-there (first_placed s.filters.men p turns) (second_placed s p) (has-shown s.filters.men p h)
   shown-some (inr h) = second-there (first_placed s.filters.men p turns) (second_placed s p) (has-second (is_paired s.search) h.0 h.1)
 
-  pub has-some : HasImagePlaced s.filters.men p → is_some (shown s p) ≡ true
+  pub has-some : HasImagePlaced s.filters.men p → is_some (listed_image s p) ≡ true
   has-some h = shown-some (inl h)
 
-  shown-placed : (q : Position) → shown s p ≡ Some q → are_placed s.filters.men q ≡ true
+  shown-placed : (q : Position) → listed_image s p ≡ Some q → are_placed s.filters.men q ≡ true
   shown-placed q e = elim (either-is (first_placed s.filters.men p turns) (second_placed s p) q e) [
     | inl here ↦ first-is s.filters.men p turns q here
     | inr other ↦ second-is (is_paired s.search) q other
   ]
 
-  shown-alone : IsValid p → s.filters.men ≡ no_filters.men → shown s p ≡ Some p
+  shown-alone : IsValid p → s.filters.men ≡ no_filters.men → listed_image s p ≡ Some p
   shown-alone valid none = subst (λ (ws : List (Option Placed)). or_else (first_placed ws p turns) (second_placed s p) ≡ Some p) (sym none)
       (first-alone p (second_placed s p) valid)
 
   shown-rightly : IsShownRightly s p
   shown-rightly = record { some = (some-shown, shown-some); placed = shown-placed; alone = shown-alone }
 
-pub images-shown : ImagesAreShown
-images-shown s p = shown-rightly s p
+pub images-listed_image : ImagesAreShown
+images-listed_image s p = shown-rightly s p

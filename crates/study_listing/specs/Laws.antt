@@ -12,7 +12,7 @@ use Rattle.study_search.specs.Themes.{HasTheme}
 use Rattle.study_listing.specs.declared.filters.Selection.{Selection}
 use Rattle.study_listing.specs.declared.text.Form.{Form}
 use Rattle.study_listing.specs.Filters.{no_filters, are_placed, HasImagePlaced, HasWantedKey}
-use Rattle.study_listing.specs.Lists.{is_paired, shown, IsListedAt, IsList}
+use Rattle.study_listing.specs.Lists.{is_paired, listed_image, IsListedAt, IsList}
 
 -- A range of numbers has exactly one list.
 abbrev pub ListsAreUnique : Type 0
@@ -30,9 +30,9 @@ HasImageShown s p = HasImagePlaced s.filters.men p ⊎ ((is_paired s.search ≡ 
 
 -- An image is shown exactly if there is such an image, and it has men on the wanted squares; without such filters it is the position itself.
 pub record IsShownRightly (s : Selection) (p : Position) : Type 0 where
-  pub some : (is_some (shown s p) ≡ true) ↔ HasImageShown s p
-  pub placed : (q : Position) → shown s p ≡ Some q → are_placed s.filters.men q ≡ true
-  pub alone : IsValid p → s.filters.men ≡ no_filters.men → shown s p ≡ Some p
+  pub some : (is_some (listed_image s p) ≡ true) ↔ HasImageShown s p
+  pub placed : (q : Position) → listed_image s p ≡ Some q → are_placed s.filters.men q ≡ true
+  pub alone : IsValid p → s.filters.men ≡ no_filters.men → listed_image s p ≡ Some p
 
 abbrev pub ImagesAreShown : Type 0
 ImagesAreShown = (s : Selection) (p : Position) → IsShownRightly s p
@@ -41,7 +41,7 @@ ImagesAreShown = (s : Selection) (p : Position) → IsShownRightly s p
 -- White has the class's first list of men.
 abbrev pub PlacedAreShown : Type 0
 PlacedAreShown = (s : Selection) (p q : Position) → IsValid p → IsOf s.search.class p → is_swapped p.men ≡ false
-    → are_placed s.filters.men p ≡ true → position_numbered s.search.class (index_of p) ≡ Some q → is_some (shown s q) ≡ true
+    → are_placed s.filters.men p ≡ true → position_numbered s.search.class (index_of p) ≡ Some q → is_some (listed_image s q) ≡ true
 
 -- Each position of the class with the theme, White having the class's first list, with the wanted side to move, men on the wanted squares and a key that
 -- passes the filters, is listed by its index. (Of a mutual zugzwang in two placements one is.)

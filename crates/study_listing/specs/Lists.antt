@@ -52,15 +52,15 @@ second_placed s p = if is_paired s.search then first_placed s.filters.men (count
 
 -- The image of the position that is listed: the first, starting with the identity, that has men on the wanted squares; if there is none, and the position
 -- is one placement of a mutual zugzwang, that of the other placement.
-abbrev pub shown : Selection → Position → Option Position
-shown s p = or_else (first_placed s.filters.men p turns) (second_placed s p)
+abbrev pub listed_image : Selection → Position → Option Position
+listed_image s p = or_else (first_placed s.filters.men p turns) (second_placed s p)
 
 -- The position matches the search, and is not the second placement of a mutual zugzwang; some image of it has men on the wanted squares; and its key passes
 -- the filters.
 pub record IsListed (s : Selection) (p : Position) : Type 0 where
   pub sought : IsLookedFor s.search p
   pub first : IsOneOfPair s.search p
-  pub placed : is_some (shown s p) ≡ true
+  pub placed : is_some (listed_image s p) ≡ true
   pub key : HasWantedKey s.filters p
 
 abbrev pub IsListedAt : Selection → ℕ → Type 0
@@ -70,7 +70,7 @@ IsListedAt s n = (p : Position) × (position_numbered s.search.class n ≡ Some 
 abbrev pub IsTextAt : Selection → Form → ℕ → List ℕ → Type 0
 IsTextAt s form n text =
     (p : Position) × (position_numbered s.search.class n ≡ Some p)
-    × ((q : Position) × (shown s p ≡ Some q) × IsTextOf form s.search.theme q text)
+    × ((q : Position) × (listed_image s p ≡ Some q) × IsTextOf form s.search.theme q text)
 
 -- the texts of the numbers, one after the other
 abbrev pub AreTexts : (ℕ → List ℕ → Type 0) → List ℕ → List ℕ → Type 0

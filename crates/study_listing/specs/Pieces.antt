@@ -35,16 +35,16 @@ numbers_parsed (from ∷ to ∷ []) = numbers_of (number_parsed from) (number_pa
 numbers_parsed _ = None
 
 -- the theme and its filters are read before the numbers
-abbrev pub numbered : Result Request Unread → Option Numbers → Result Piece PieceFault
-numbered (Err unread) numbers = Err (fault.Unread unread)
-numbered (Ok request) None = Err fault.NoNumbers
-numbered (Ok request) (Some numbers) = Ok (record { request = request; numbers = numbers })
+abbrev pub piece_with_numbers : Result Request Unread → Option Numbers → Result Piece PieceFault
+piece_with_numbers (Err unread) numbers = Err (fault.Unread unread)
+piece_with_numbers (Ok request) None = Err fault.NoNumbers
+piece_with_numbers (Ok request) (Some numbers) = Ok (record { request = request; numbers = numbers })
 
 -- the last two words are the numbers
 abbrev pub piece_of : Class → List (List ℕ) → Result Piece PieceFault
 piece_of c ws =
     if nat_le 2 (length ws)
-    then numbered (request_of c (take (length ws - 2) ws)) (numbers_parsed (drop (length ws - 2) ws))
+    then piece_with_numbers (request_of c (take (length ws - 2) ws)) (numbers_parsed (drop (length ws - 2) ws))
     else Err fault.NoNumbers
 
 -- ---- the tables

@@ -56,30 +56,30 @@ abbrev pub usual_side : Class → Theme → Option Side
 usual_side c t = if is_of_zugzwangs t || has_like_sides c then Some White else None
 
 -- with the words after the theme
-abbrev pub selected : Class → Theme → Result Behind Unread → Result Request Unread
-selected c t (Err fault) = Err fault
-selected c t (Ok b) = Ok (Positions (record {
+abbrev pub positions_request : Class → Theme → Result Behind Unread → Result Request Unread
+positions_request c t (Err fault) = Err fault
+positions_request c t (Ok b) = Ok (Positions (record {
   search = record { class = c; theme = t; side = or_else b.side (usual_side c t) };
   filters = b.filters;
 }))
 
 abbrev pub positions_of : Class → Theme → List (List ℕ) → Result Request Unread
-positions_of c t rest = selected c t (with_words t (Ok nothing_behind) rest)
+positions_of c t rest = positions_request c t (with_words t (Ok nothing_behind) rest)
 
 abbrev pub longest_for : Class → Option Side → List (List ℕ) → Result Request Unread
 longest_for c None rest = Err NoSuchTheme
 longest_for c (Some side) [] = Ok (Longest c side)
 longest_for c (Some side) (word ∷ more) = Err NoSuchFilter
 
-abbrev pub themed : Class → Option Theme → List (List ℕ) → Result Request Unread
-themed c None rest = Err NoSuchTheme
-themed c (Some t) rest = positions_of c t rest
+abbrev pub request_of_theme : Class → Option Theme → List (List ℕ) → Result Request Unread
+request_of_theme c None rest = Err NoSuchTheme
+request_of_theme c (Some t) rest = positions_of c t rest
 
 abbrev pub by_two : Class → List ℕ → List (List ℕ) → Result Request Unread
 by_two c first [] = Err NoSuchTheme
 by_two c first (second ∷ rest) =
     if bytes_eq first (codes "longest") then longest_for c (side_parsed second) rest
-    else themed c (theme_of_two first second) rest
+    else request_of_theme c (theme_of_two first second) rest
 
 abbrev pub by_one : Class → Option Theme → List ℕ → List (List ℕ) → Result Request Unread
 by_one c None first rest = by_two c first rest

@@ -9,7 +9,7 @@ ghost use Rattle.study_search.specs.Finding.{IsFound, IsLookedFor};
 ghost use Rattle.study_search.specs.Pairs.{counterpart};
 ghost use Rattle.study_zugzwang.specs.Zugzwang.{handed_on};
 ghost use Rattle.study_listing.specs.Filters.{first_placed, turns};
-ghost use Rattle.study_listing.specs.Lists.{has_like_sides, is_of_zugzwangs, is_for_white, is_paired, second_placed, shown};
+ghost use Rattle.study_listing.specs.Lists.{has_like_sides, is_of_zugzwangs, is_for_white, is_paired, second_placed, listed_image};
 ghost use Rattle.study_listing.specs.Lists.{IsOneOfPair, IsListed, IsListedAt, IsTextAt};
 
 use crate::filters::{Selection, first_placed, has_wanted_key};
@@ -103,9 +103,9 @@ fn second_placed(selection: &Selection, p: &Position) -> Option<Position>
 }
 
 /// The image of a position that is listed: the first with men on the wanted squares.
-fn shown(selection: &Selection, p: &Position) -> Option<Position>
+fn listed_image(selection: &Selection, p: &Position) -> Option<Position>
     ensures { (is_paired selection.now.search ≡ true → IsValid (handed_on p.now))
-        → result ≡ shown selection.now p.now }
+        → result ≡ listed_image selection.now p.now }
 {
     match first_placed(selection.filters.men.as_slice(), p) {
         Some(image) => Some(image),
@@ -120,7 +120,7 @@ fn is_listed<V: Values>(
     values: &mut V,
 ) -> Result<bool, ProbeFault>
     ensures game { V.source.is_honest values.old → IsLookedFor selection.now.search p.now
-        → is_some (shown selection.now p.now) ≡ true
+        → is_some (listed_image selection.now p.now) ≡ true
         → IfOk result (λ b. (b ≡ true) ↔ IsListed selection.now p.now) }
     ensures faults { IfErr result (CanReport V.source values.old) }
     ensures honest { V.source.is_honest values.old → V.source.is_honest values.new }
@@ -142,14 +142,14 @@ fn image_listed<V: Values>(
     ensures some { V.source.is_honest values.old → IsLookedFor selection.now.search p.now
         → IfOk result (λ at. IfSome at (λ q. IsListed selection.now p.now)) }
     ensures image { V.source.is_honest values.old → IsLookedFor selection.now.search p.now
-        → IfOk result (λ at. IfSome at (λ q. shown selection.now p.now ≡ Some q)) }
+        → IfOk result (λ at. IfSome at (λ q. listed_image selection.now p.now ≡ Some q)) }
     ensures none { V.source.is_honest values.old → IsLookedFor selection.now.search p.now
         → IfOk result (λ at. IfNone at (¬ (IsListed selection.now p.now))) }
     ensures faults { IfErr result (CanReport V.source values.old) }
     ensures honest { V.source.is_honest values.old → V.source.is_honest values.new }
     ensures tables { HasSameTables V.source values.old values.new }
 {
-    match shown(selection, p) {
+    match listed_image(selection, p) {
         None => Ok(None),
         Some(image) => match is_listed(selection, p, values) {
             Err(fault) => Err(fault),
@@ -170,7 +170,7 @@ pub(crate) fn listed_at<V: Values>(
     ensures image { V.source.is_honest values.old → IsFound selection.now.search number
         → IfOk result (λ at. IfSome at (λ q.
         (p : APosition) × (position_numbered selection.now.search.class number ≡ Some p)
-        × (shown selection.now p ≡ Some q))) }
+        × (listed_image selection.now p ≡ Some q))) }
     ensures none { V.source.is_honest values.old → IsFound selection.now.search number
         → IfOk result (λ at. IfNone at (¬ (IsListedAt selection.now number))) }
     ensures faults { IfErr result (CanReport V.source values.old) }

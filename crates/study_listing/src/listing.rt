@@ -39,7 +39,7 @@ pub struct Numbers {
 /// Receives the progress of a search.
 pub trait Watch: Drop {
     /// The numbers below this one are searched, and so many positions found.
-    fn passed(&mut self, number: u32, end: u32, found: u32);
+    fn report(&mut self, number: u32, end: u32, found: u32);
 }
 
 /// A watcher that does nothing.
@@ -47,7 +47,7 @@ pub trait Watch: Drop {
 pub struct NoWatch;
 
 impl Watch for NoWatch {
-    fn passed(&mut self, _number: u32, _end: u32, _found: u32) {}
+    fn report(&mut self, _number: u32, _end: u32, _found: u32) {}
 }
 
 /// The end of the next piece of a range.
@@ -80,7 +80,7 @@ pub fn count_numbers<V: CellPages, H: Watch>(
             Err(fault) => return Err(fault),
             Ok(None) => {
                 at = end;
-                watch.passed(at, numbers.to, count);
+                watch.report(at, numbers.to, count);
             }
             Ok(Some(number)) => match listed_at(selection, number, values) {
                 Err(fault) => return Err(fault),
@@ -129,7 +129,7 @@ pub fn list_numbers<V: CellPages, W: Write, H: Watch>(
             Err(fault) => return Err(Stop::Values(fault)),
             Ok(None) => {
                 at = end;
-                watch.passed(at, numbers.to, count);
+                watch.report(at, numbers.to, count);
             }
             Ok(Some(number)) => match text_at(selection, form, number, values) {
                 Err(fault) => return Err(Stop::Values(fault)),

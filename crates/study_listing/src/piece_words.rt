@@ -1,6 +1,6 @@
 //! The words of a piece of a list.
 ghost use Rattle.std.specs.Prelude.{◌≡◌, map};
-ghost use Rattle.study_listing.specs.Pieces.{number_parsed, numbers_of, numbers_parsed, numbered, piece_of};
+ghost use Rattle.study_listing.specs.Pieces.{number_parsed, numbers_of, numbers_parsed, piece_with_numbers, piece_of};
 
 use crate::filter_words::Unread;
 use crate::listing::Numbers;
@@ -57,8 +57,11 @@ fn read_numbers(words: &[&[u8]]) -> Option<Numbers>
     }
 }
 
-fn numbered(request: Result<Request, Unread>, numbers: Option<Numbers>) -> Result<Piece, PieceFault>
-    ensures { result ≡ numbered request numbers }
+fn piece_with_numbers(
+    request: Result<Request, Unread>,
+    numbers: Option<Numbers>,
+) -> Result<Piece, PieceFault>
+    ensures { result ≡ piece_with_numbers request numbers }
 {
     match request {
         Err(unread) => Err(PieceFault::Unread(unread)),
@@ -78,5 +81,5 @@ pub fn read_piece(class: Class, words: &[&[u8]]) -> Result<Piece, PieceFault>
         return Err(PieceFault::NoNumbers);
     }
     let (front, back) = words.split_at(words.len() - 2);
-    numbered(read_request(class, front), read_numbers(back))
+    piece_with_numbers(read_request(class, front), read_numbers(back))
 }

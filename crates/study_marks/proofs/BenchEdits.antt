@@ -9,7 +9,7 @@ use Rattle.study_tree.specs.declared.fault.TreeFault.TheVariants as tree
 use Rattle.study_tree.specs.Forest.{Forest, none, more}
 use Rattle.study_tree.specs.Edits.{IsWithin, last_place, place_edited, dropped_at, raised_at}
 use Rattle.study_tree.proofs.TreeDepth.{IsWithin-place, IsWithin-dropped_at, IsWithin-raised_at}
-use Rattle.study_text.specs.Counts.{counted}
+use Rattle.study_text.specs.Counts.{next_count}
 use Rattle.study_tree.specs.Tree.{Plain, has_spot, without, moved_up, removal_refusal, move_up_refusal}
 use Rattle.study_marks.specs.declared.mark.Mark.{Mark}
 use Rattle.study_marks.specs.declared.node_label.NodeLabel.{NodeLabel}
@@ -22,7 +22,7 @@ use Rattle.study_marks.specs.Study.{Study, mapped, mapped_tree, plain_study, IsP
 use Rattle.study_marks.specs.Goals.{aim_of}
 use Rattle.study_marks.specs.Edits.{with_deletion, with_promotion, delete_refusal, promote_refusal}
 use Rattle.study_marks.specs.Queries.{counted_up_by}
-use Rattle.study_marks.specs.BenchState.{BenchState, shown, marked, IsStudy, IsKeptRight, AllAddUp, evaluation_tree}
+use Rattle.study_marks.specs.BenchState.{BenchState, shown_marks, marked_study, IsStudy, IsKeptRight, AllAddUp, evaluation_tree}
 use Rattle.study_marks.specs.Evaluated.{AllAreEvaluated}
 use Rattle.study_marks.proofs.SameShape.{mapped-mapped, mapped-without, mapped-moved_up, has_node-mapped}
 use Rattle.study_marks.proofs.SameShape.{IsPlayable-mapped, mapped-IsPlayable, AreDistinct-mapped}
@@ -33,14 +33,15 @@ abbrev pub bare : {L : Type 0} → Plain L → Plain (Unit {0})
 bare t = mapped_tree (λ _. tt) t
 
 -- showing marks changes no node
-bare-shown : (a : Aim) (d : ℕ) (q : Evaluation) (f : Forest NodeLabel) → mapped (λ (x : Mark). tt {0}) (shown a d q f) ≡ mapped (λ (l : NodeLabel). tt {0}) f
-bare-shown a d q none = refl
-bare-shown a d q (more m l b r) =
-    ap (λ x. more m tt x (mapped (λ _. tt) (shown a d q r))) (bare-shown a (d + 1) l.evaluated b)
-    ∙ ap (more m tt (mapped (λ _. tt) b)) (bare-shown a d q r)
+bare-shown_marks : (a : Aim) (d : ℕ) (q : Evaluation) (f : Forest NodeLabel) → mapped (λ (x : Mark). tt {0}) (shown_marks a d q f)
+    ≡ mapped (λ (l : NodeLabel). tt {0}) f
+bare-shown_marks a d q none = refl
+bare-shown_marks a d q (more m l b r) =
+    ap (λ x. more m tt x (mapped (λ _. tt) (shown_marks a d q r))) (bare-shown_marks a (d + 1) l.evaluated b)
+    ∙ ap (more m tt (mapped (λ _. tt) b)) (bare-shown_marks a d q r)
 
-pub bare-marked : (k : BenchState) → (plain_study (marked k)).tree ≡ bare k.study.tree
-bare-marked k = ap (λ f. record { label = tt; below = f }) (bare-shown (aim_of k.study) 0 k.study.tree.label.evaluated k.study.tree.below)
+pub bare-marked_study : (k : BenchState) → (plain_study (marked_study k)).tree ≡ bare k.study.tree
+bare-marked_study k = ap (λ f. record { label = tt; below = f }) (bare-shown_marks (aim_of k.study) 0 k.study.tree.label.evaluated k.study.tree.below)
 
 -- the evaluations without the faults determine the nodes
 pub bare-evaluated : (t : Plain NodeLabel) → bare (evaluation_tree t) ≡ bare t
@@ -175,27 +176,27 @@ raised-study s u ks e h =
 
 -- the plain study after the edit
 pub same-plain : (k : BenchState) (u : Plain NodeLabel) (n : ℕ)
-    → plain_study (marked (record { study = with_tree k.study u; relabelled = n }))
+    → plain_study (marked_study (record { study = with_tree k.study u; relabelled = n }))
     ≡ record { start = k.study.start; stipulation = k.study.stipulation; tags = k.study.tags; tree = bare u }
 same-plain k u n =
     ap (λ x. record { start = k.study.start; stipulation = k.study.stipulation; tags = k.study.tags; tree = x })
-    (bare-marked (record { study = with_tree k.study u; relabelled = n }))
+    (bare-marked_study (record { study = with_tree k.study u; relabelled = n }))
 
 pub removed-plain : (k : BenchState) (u : Plain NodeLabel) (n : ℕ) (ks : List ℕ)
     → evaluation_tree u ≡ without (evaluation_tree k.study.tree) ks
-    → plain_study (marked (record { study = with_tree k.study u; relabelled = n })) ≡ with_deletion (plain_study (marked k))
+    → plain_study (marked_study (record { study = with_tree k.study u; relabelled = n })) ≡ with_deletion (plain_study (marked_study k))
     ks
 removed-plain k u n ks e = same-plain k u n
     ∙ ap (λ x. record { start = k.study.start; stipulation = k.study.stipulation; tags = k.study.tags; tree = x })
-    (bare-removed k.study.tree u ks e ∙ ap (λ x. without x ks) (sym (bare-marked k)))
+    (bare-removed k.study.tree u ks e ∙ ap (λ x. without x ks) (sym (bare-marked_study k)))
 
 pub raised-plain : (k : BenchState) (u : Plain NodeLabel) (n : ℕ) (ks : List ℕ)
     → evaluation_tree u ≡ moved_up (evaluation_tree k.study.tree) ks
-    → plain_study (marked (record { study = with_tree k.study u; relabelled = n }))
-    ≡ with_promotion (plain_study (marked k)) ks
+    → plain_study (marked_study (record { study = with_tree k.study u; relabelled = n }))
+    ≡ with_promotion (plain_study (marked_study k)) ks
 raised-plain k u n ks e = same-plain k u n
     ∙ ap (λ x. record { start = k.study.start; stipulation = k.study.stipulation; tags = k.study.tags; tree = x })
-    (bare-raised k.study.tree u ks e ∙ ap (λ x. moved_up x ks) (sym (bare-marked k)))
+    (bare-raised k.study.tree u ks e ∙ ap (λ x. moved_up x ks) (sym (bare-marked_study k)))
 
 -- right marks after the edit
 evaluated-without : (p : Position) (t : Plain Evaluation) (ks : List ℕ) → AllAreEvaluated p t → AllAreEvaluated p (without t ks)
@@ -221,14 +222,14 @@ raised-right k u n ks e s h = right-evaluated (record { study = with_tree k.stud
     (AllAreEvaluated-right k h)))
 
 -- refusals
-has_spot-plain : (k : BenchState) (ks : List ℕ) → has_spot (plain_study (marked k)).tree ks ≡ has_spot k.study.tree ks
-has_spot-plain k ks = ap (λ (x : Plain (Unit {0})). has_spot x ks) (bare-marked k) ∙ has_node-mapped (λ (l : NodeLabel). tt {0}) k.study.tree.below ks
+has_spot-plain : (k : BenchState) (ks : List ℕ) → has_spot (plain_study (marked_study k)).tree ks ≡ has_spot k.study.tree ks
+has_spot-plain k ks = ap (λ (x : Plain (Unit {0})). has_spot x ks) (bare-marked_study k) ∙ has_node-mapped (λ (l : NodeLabel). tt {0}) k.study.tree.below ks
 
 abbrev pub refused : {A : Type 0} → Option TreeFault → Option (Refusal A)
 refused None = None
 refused (Some f) = Some (refused_by_tree f)
 
-pub delete-refused : {A : Type 0} (k : BenchState) (ks : List ℕ) → delete_refusal {A = A} (plain_study (marked k)) ks
+pub delete-refused : {A : Type 0} (k : BenchState) (ks : List ℕ) → delete_refusal {A = A} (plain_study (marked_study k)) ks
     ≡ refused (removal_refusal k.study.tree ks)
 delete-refused k [] = refl
 delete-refused {A = A} k (j ∷ js) = ap (λ b. if not b then Some refusal.NoSuchNode else None) (has_spot-plain k (j ∷ js)) ∙ go (has_spot k.study.tree (j ∷ js))
@@ -237,7 +238,7 @@ delete-refused {A = A} k (j ∷ js) = ap (λ b. if not b then Some refusal.NoSuc
     go true = refl
     go false = refl
 
-pub promote-refused : {A : Type 0} (k : BenchState) (ks : List ℕ) → promote_refusal {A = A} (plain_study (marked k)) ks
+pub promote-refused : {A : Type 0} (k : BenchState) (ks : List ℕ) → promote_refusal {A = A} (plain_study (marked_study k)) ks
     ≡ refused (move_up_refusal k.study.tree ks)
 promote-refused k [] = refl
 promote-refused {A = A} k (j ∷ js) =
@@ -262,12 +263,12 @@ refusal-err None r f e h = let no : ⊥ = cc in absurd no
 refusal-err (Some g) r f e h = let same : g ≡ f = cc in ap (λ x. Some (refused_by_tree x)) same
 
 -- counts
-counted_times-counted : (n m : ℕ) → counted_up_by n (counted m) ≡ counted (counted_up_by n m)
-counted_times-counted zero m = refl
-counted_times-counted (suc n) m = counted_times-counted n (counted m)
+counted_times-next_count : (n m : ℕ) → counted_up_by n (next_count m) ≡ next_count (counted_up_by n m)
+counted_times-next_count zero m = refl
+counted_times-next_count (suc n) m = counted_times-next_count n (next_count m)
 
-pub counted-later : (n old new : ℕ) → new ≡ counted_up_by n old → counted new ≡ counted_up_by n (counted old)
-counted-later n old new e = ap counted e ∙ sym (counted_times-counted n old)
+pub next_count-later : (n old new : ℕ) → new ≡ counted_up_by n old → next_count new ≡ counted_up_by n (next_count old)
+next_count-later n old new e = ap next_count e ∙ sym (counted_times-next_count n old)
 
 abbrev err_of : {A : Type 0} → Refusal A → Result (Unit {0}) (Refusal A)
 err_of r = Err r
@@ -284,39 +285,42 @@ match-err {A = A} o (Err x) f e h =
 pub delete-err : {A : Type 0} (b k : BenchState) (steps path : List ℕ) (r : Result (Unit {0}) TreeFault) (f : TreeFault)
     (answer : Result (Unit {0}) (Refusal A)) → b ≡ k → steps ≡ path → r ≡ Err f
     → MatchOption (removal_refusal b.study.tree steps) (IsOk r) (λ g. r ≡ Err g) → IsErrAnd answer (λ x. x ≡ refused_by_tree f)
-    → MatchOption (delete_refusal {A = A} (plain_study (marked k)) path) (IsOk answer) (λ fault. answer ≡ Err fault)
+    → MatchOption (delete_refusal {A = A} (plain_study (marked_study k)) path) (IsOk answer) (λ fault. answer ≡ Err fault)
 delete-err {A = A} b k steps path r f answer same way e h a =
-    match-err (delete_refusal {A = A} (plain_study (marked k)) path) answer (refused_by_tree f)
-    (ap (λ (x : BenchState). delete_refusal {A = A} (plain_study (marked x)) path) (sym same) ∙ ap (delete_refusal {A = A} (plain_study (marked b))) (sym way)
+    match-err (delete_refusal {A = A} (plain_study (marked_study k)) path) answer (refused_by_tree f)
+    (ap (λ (x : BenchState). delete_refusal {A = A} (plain_study (marked_study x)) path) (sym same)
+    ∙ ap (delete_refusal {A = A} (plain_study (marked_study b))) (sym way)
     ∙ delete-refused b steps ∙ refusal-err (removal_refusal b.study.tree steps) r f e h) a
 
 pub delete-ok : {A : Type 0} (b k : BenchState) (steps path : List ℕ) (r : Result (Unit {0}) TreeFault) (u : Unit {0}) → b ≡ k → steps ≡ path → r ≡ Ok u
-    → MatchOption (removal_refusal b.study.tree steps) (IsOk r) (λ g. r ≡ Err g) → delete_refusal {A = A} (plain_study (marked k)) path ≡ None
+    → MatchOption (removal_refusal b.study.tree steps) (IsOk r) (λ g. r ≡ Err g) → delete_refusal {A = A} (plain_study (marked_study k)) path ≡ None
 delete-ok {A = A} b k steps path r u same way e h =
-    ap (λ (x : BenchState). delete_refusal {A = A} (plain_study (marked x)) path) (sym same) ∙ ap (delete_refusal {A = A} (plain_study (marked b))) (sym way)
+    ap (λ (x : BenchState). delete_refusal {A = A} (plain_study (marked_study x)) path) (sym same)
+    ∙ ap (delete_refusal {A = A} (plain_study (marked_study b))) (sym way)
     ∙ delete-refused b steps ∙ refusal-ok (removal_refusal b.study.tree steps) r u e h
 
 pub promote-err : {A : Type 0} (b k : BenchState) (steps path : List ℕ) (r : Result (Unit {0}) TreeFault) (f : TreeFault)
     (answer : Result (Unit {0}) (Refusal A)) → b ≡ k → steps ≡ path → r ≡ Err f
     → MatchOption (move_up_refusal b.study.tree steps) (IsOk r) (λ g. r ≡ Err g) → IsErrAnd answer (λ x. x ≡ refused_by_tree f)
-    → MatchOption (promote_refusal {A = A} (plain_study (marked k)) path) (IsOk answer) (λ fault. answer ≡ Err fault)
+    → MatchOption (promote_refusal {A = A} (plain_study (marked_study k)) path) (IsOk answer) (λ fault. answer ≡ Err fault)
 promote-err {A = A} b k steps path r f answer same way e h a =
-    match-err (promote_refusal {A = A} (plain_study (marked k)) path) answer (refused_by_tree f)
-    (ap (λ (x : BenchState). promote_refusal {A = A} (plain_study (marked x)) path) (sym same)
-    ∙ ap (promote_refusal {A = A} (plain_study (marked b))) (sym way)
+    match-err (promote_refusal {A = A} (plain_study (marked_study k)) path) answer (refused_by_tree f)
+    (ap (λ (x : BenchState). promote_refusal {A = A} (plain_study (marked_study x)) path) (sym same)
+    ∙ ap (promote_refusal {A = A} (plain_study (marked_study b))) (sym way)
     ∙ promote-refused b steps ∙ refusal-err (move_up_refusal b.study.tree steps) r f e h) a
 
 pub promote-ok : {A : Type 0} (b k : BenchState) (steps path : List ℕ) (r : Result (Unit {0}) TreeFault) (u : Unit {0}) → b ≡ k → steps ≡ path → r ≡ Ok u
-    → MatchOption (move_up_refusal b.study.tree steps) (IsOk r) (λ g. r ≡ Err g) → promote_refusal {A = A} (plain_study (marked k)) path ≡ None
+    → MatchOption (move_up_refusal b.study.tree steps) (IsOk r) (λ g. r ≡ Err g) → promote_refusal {A = A} (plain_study (marked_study k)) path ≡ None
 promote-ok {A = A} b k steps path r u same way e h =
-    ap (λ (x : BenchState). promote_refusal {A = A} (plain_study (marked x)) path) (sym same) ∙ ap (promote_refusal {A = A} (plain_study (marked b))) (sym way)
+    ap (λ (x : BenchState). promote_refusal {A = A} (plain_study (marked_study x)) path) (sym same)
+    ∙ ap (promote_refusal {A = A} (plain_study (marked_study b))) (sym way)
     ∙ promote-refused b steps ∙ refusal-ok (move_up_refusal b.study.tree steps) r u e h
 
 pub match-ok : {A : Type 0} (o : Option (Refusal A)) (P : Type 0) (Q : Refusal A → Type 0) → o ≡ None → P → MatchOption o P Q
 match-ok o P Q e h = subst (λ p. MatchOption p P Q) (sym e) h
 
 -- the marks are those of a study
-pub study-marked : (b k : BenchState) → b ≡ k → IsStudy b.study → IsStudy (marked k)
-study-marked b k e h =
-    subst (λ (x : BenchState). IsStudy (marked x)) e
-    (study b.study (marked b).tree h (subst (Fits b.study.start.position) (sym (bare-marked b)) (fits b.study h)))
+pub study-marked_study : (b k : BenchState) → b ≡ k → IsStudy b.study → IsStudy (marked_study k)
+study-marked_study b k e h =
+    subst (λ (x : BenchState). IsStudy (marked_study x)) e
+    (study b.study (marked_study b).tree h (subst (Fits b.study.start.position) (sym (bare-marked_study b)) (fits b.study h)))

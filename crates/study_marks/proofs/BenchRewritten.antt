@@ -15,12 +15,12 @@ use Rattle.study_marks.specs.Queries.{asked_at, asked_below, positions_asked, Is
 use Rattle.study_marks.specs.declared.refusal.Refusal.{Refusal}
 use Rattle.study_material.specs.declared.class.Class.{Class}
 use Rattle.std.specs.Prelude.{Bool, Result, Ok, Err, IfErr, IsErrAnd}
-use Rattle.study_marks.specs.Relabelled.{reevaluated, reevaluated_tree}
+use Rattle.study_marks.specs.Relabelled.{with_evaluations, reevaluated_tree}
 use Rattle.study_marks.specs.declared.mark.Mark.{Mark}
 use Rattle.study_marks.proofs.SameShape.{IsPlayable-mapped, mapped-IsPlayable}
-use Rattle.study_marks.specs.BenchState.{BenchState, marked, IsStudy, IsKeptRight, AllAddUp, evaluation_tree}
+use Rattle.study_marks.specs.BenchState.{BenchState, marked_study, IsStudy, IsKeptRight, AllAddUp, evaluation_tree}
 use Rattle.study_marks.specs.Evaluated.{AllAreEvaluated}
-use Rattle.study_marks.proofs.BenchEdits.{bare, bare-marked, bare-evaluated, Fits, fits, study}
+use Rattle.study_marks.proofs.BenchEdits.{bare, bare-marked_study, bare-evaluated, Fits, fits, study}
 use Rattle.study_marks.proofs.MarksShown.{AllAreEvaluated-right, right-evaluated}
 
 -- the study with another stipulation and other labels
@@ -37,10 +37,11 @@ stipulated-study s stipulation u e h =
     record { valid = x.valid; playable = x.playable; distinct = x.distinct; shallow = x.shallow; printed = x.printed }
 
 pub stipulated-plain : (k : BenchState) (stipulation : Stipulation) (u : Plain NodeLabel) (n : ℕ) → evaluation_tree u ≡ evaluation_tree k.study.tree
-    → plain_study (marked (record { study = restipulated k.study stipulation u; relabelled = n })) ≡ with_stipulation (plain_study (marked k)) stipulation
+    → plain_study (marked_study (record { study = restipulated k.study stipulation u; relabelled = n }))
+    ≡ with_stipulation (plain_study (marked_study k)) stipulation
 stipulated-plain k stipulation u n e =
     ap (λ x. record { start = k.study.start; stipulation = stipulation; tags = k.study.tags; tree = x })
-    (bare-marked (record { study = restipulated k.study stipulation u; relabelled = n }) ∙ same-bare k.study.tree u e ∙ sym (bare-marked k))
+    (bare-marked_study (record { study = restipulated k.study stipulation u; relabelled = n }) ∙ same-bare k.study.tree u e ∙ sym (bare-marked_study k))
 
 pub stipulated-right : (k : BenchState) (stipulation : Stipulation) (u : Plain NodeLabel) (n : ℕ)
     → evaluation_tree u ≡ evaluation_tree k.study.tree → AllAddUp (aim_of (restipulated k.study stipulation u)) u → IsKeptRight k
@@ -50,20 +51,20 @@ stipulated-right k stipulation u n e s h =
     (subst (AllAreEvaluated k.study.start.position) (sym e) (AllAreEvaluated-right k h))
 
 -- an empty list keeps the evaluations
-restated-none : (n : ℕ) (f : Forest Evaluation) → reevaluated [] n f ≡ f
+restated-none : (n : ℕ) (f : Forest Evaluation) → with_evaluations [] n f ≡ f
 restated-none n none = refl
-restated-none n (more m t b r) = ap (λ x. more m t x (reevaluated [] (n + 1 + nodes_in b) r)) (restated-none (n + 1) b)
+restated-none n (more m t b r) = ap (λ x. more m t x (with_evaluations [] (n + 1 + nodes_in b) r)) (restated-none (n + 1) b)
     ∙ ap (more m t b) (restated-none (n + 1 + nodes_in b) r)
 
 pub evaluated-kept : (t u : Plain NodeLabel) → evaluation_tree u ≡ reevaluated_tree [] (evaluation_tree t) → evaluation_tree u ≡ evaluation_tree t
 evaluated-kept t u e = e ∙ ap (λ f. record { label = t.label.evaluated; below = f }) (restated-none 1 (evaluation_tree t).below)
 
 -- no list of evaluations changes a node
-bare-restated : (all : List Evaluation) (n : ℕ) (f : Forest Evaluation) → mapped (λ (x : Evaluation). tt {0}) (reevaluated all n f) ≡ mapped
+bare-restated : (all : List Evaluation) (n : ℕ) (f : Forest Evaluation) → mapped (λ (x : Evaluation). tt {0}) (with_evaluations all n f) ≡ mapped
     (λ (x : Evaluation). tt {0}) f
 bare-restated all n none = refl
 bare-restated all n (more m t b r) =
-    ap (λ x. more m tt x (mapped (λ (y : Evaluation). tt {0}) (reevaluated all (n + 1 + nodes_in b) r)))
+    ap (λ x. more m tt x (mapped (λ (y : Evaluation). tt {0}) (with_evaluations all (n + 1 + nodes_in b) r)))
     (bare-restated all (n + 1) b) ∙ ap (more m tt (mapped (λ (y : Evaluation). tt {0}) b))
     (bare-restated all (n + 1 + nodes_in b) r)
 
@@ -91,10 +92,11 @@ module _ (all : List Evaluation) (k : BenchState) (start : Start) (u : Plain Nod
         printed = x.printed;
       }
 
-  pub shifted-plain : plain_study (marked (record { study = restarted k.study start u; relabelled = n })) ≡ with_start (plain_study (marked k)) start
+  pub shifted-plain : plain_study (marked_study (record { study = restarted k.study start u; relabelled = n }))
+      ≡ with_start (plain_study (marked_study k)) start
   shifted-plain =
       ap (λ x. record { start = start; stipulation = k.study.stipulation; tags = k.study.tags; tree = x })
-      (bare-marked (record { study = restarted k.study start u; relabelled = n }) ∙ bare-rewritten all k.study.tree u e ∙ sym (bare-marked k))
+      (bare-marked_study (record { study = restarted k.study start u; relabelled = n }) ∙ bare-rewritten all k.study.tree u e ∙ sym (bare-marked_study k))
 
   pub shifted-right : AllAddUp (aim_of (restarted k.study start u)) u
       → AllAreEvaluated start.position (reevaluated_tree all (evaluation_tree k.study.tree))
@@ -110,12 +112,12 @@ asked-mapped g p (more m l b r) =
 
 pub asked-shifted : (b k : BenchState) (start : Start) → b ≡ k
     → asked_at start.position ++ asked_below start.position b.study.tree.below
-    ≡ positions_asked (with_start (plain_study (marked k)) start)
+    ≡ positions_asked (with_start (plain_study (marked_study k)) start)
 asked-shifted b k start same =
     ap (λ x. asked_at start.position ++ x)
     (sym (asked-mapped (λ (l : NodeLabel). tt {0}) start.position b.study.tree.below)
-    ∙ ap (λ (t : Plain (Unit {0})). asked_below start.position t.below) (sym (bare-marked b)))
-    ∙ ap (λ (x : BenchState). positions_asked (with_start (plain_study (marked x)) start)) same
+    ∙ ap (λ (t : Plain (Unit {0})). asked_below start.position t.below) (sym (bare-marked_study b)))
+    ∙ ap (λ (x : BenchState). positions_asked (with_start (plain_study (marked_study x)) start)) same
 
 pub asked-plain : (s : Study Mark) → positions_asked (plain_study s) ≡ positions_asked s
 asked-plain s = ap (λ x. asked_at s.start.position ++ x) (asked-mapped (λ (x : Mark). tt {0}) s.start.position s.tree.below)

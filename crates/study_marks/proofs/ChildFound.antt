@@ -7,7 +7,7 @@ use Rattle.study_tree.specs.Edits.{node_in, width, children_at}
 use Rattle.study_tree.specs.Tree.{Plain, Spot, spot_at, twig_spot}
 use Rattle.study_marks.specs.Study.{same_move, place_from, place_at}
 use Rattle.study_marks.specs.Bench.{played_by}
-use Rattle.study_marks.specs.FaultSums.{below_at, skipped}
+use Rattle.study_marks.specs.FaultSums.{below_at, siblings_from}
 use Rattle.study_marks.proofs.MovesToNode.{move_at, move_at-spot}
 
 module _ {L : Type 0} where
@@ -23,7 +23,7 @@ module _ {L : Type 0} where
   place_at-below (more n l b r) (zero ∷ ks) m = place_at-below b ks m
   place_at-below (more n l b r) (suc k ∷ ks) m = place_at-below r (k ∷ ks) m
 
-  pub skipped-end : (k : ℕ) (f : Forest L) → width f ≤ k → skipped k f ≡ none
+  pub skipped-end : (k : ℕ) (f : Forest L) → width f ≤ k → siblings_from k f ≡ none
   skipped-end zero none h = refl
   skipped-end zero (more m l b r) h = absurd (omega (arith, h))
   skipped-end (suc k) none h = refl
@@ -31,7 +31,7 @@ module _ {L : Type 0} where
 
   -- the node at a place, and those after it
   abbrev pub Here : ℕ → Forest L → Option Move → Type 0
-  Here k f r = (n : Move) × (l : L) × (b : Forest L) × (skipped k f ≡ more n l b (skipped (suc k) f)) × (r ≡ Some n)
+  Here k f r = (n : Move) × (l : L) × (b : Forest L) × (siblings_from k f ≡ more n l b (siblings_from (suc k) f)) × (r ≡ Some n)
 
   here-side : (k : ℕ) (f : Forest L) → k < width f → Here k f (move_at f (k ∷ []))
   here-side zero none h = absurd (omega (arith, h))
@@ -54,24 +54,24 @@ module _ {L : Type 0} where
       (x.0, x.1, x.2, x.3, p ∙ move_at-spot t (ks ++ k ∷ []) ∙ move_at-below t.below ks k ∙ x.4)
 
   pub find-none : (t : Plain L) (ks : List ℕ) (k count : ℕ) (m : Move) → count ≡ children_at t.below ks → count ≤ k
-      → None ≡ place_from k m (skipped k (below_at t.below ks))
+      → None ≡ place_from k m (siblings_from k (below_at t.below ks))
   find-none t ks k count m e h =
       let wide : count ≡ width (below_at t.below ks) = e ∙ children-width t.below ks in
       sym (ap (place_from k m) (skipped-end k (below_at t.below ks) (let z : width (below_at t.below ks) ≤ k = omega (arith, h, wide) in z)))
 
   pub find-here : (k : ℕ) (f : Forest L) (r : Option Move) (m other : Move) → Here k f r → r ≡ Some other
-      → same_move m other ≡ true → Some k ≡ place_from k m (skipped k f)
+      → same_move m other ≡ true → Some k ≡ place_from k m (siblings_from k f)
   find-here k f r m other x e h =
       let same : x.0 ≡ other = (let s : Some x.0 ≡ Some other = sym x.4 ∙ e in cc) in
-      sym (ap (place_from k m) x.3 ∙ ap (λ b. if b then Some k else place_from (suc k) m (skipped (suc k) f)) (ap (same_move m) same ∙ h))
+      sym (ap (place_from k m) x.3 ∙ ap (λ b. if b then Some k else place_from (suc k) m (siblings_from (suc k) f)) (ap (same_move m) same ∙ h))
 
   pub find-later : (k next : ℕ) (f : Forest L) (r : Option Move) (m other : Move) (found : Option ℕ) → next ≡ suc k
-      → Here k f r → r ≡ Some other → same_move m other ≡ false → found ≡ place_from next m (skipped next f)
-      → found ≡ place_from k m (skipped k f)
+      → Here k f r → r ≡ Some other → same_move m other ≡ false → found ≡ place_from next m (siblings_from next f)
+      → found ≡ place_from k m (siblings_from k f)
   find-later k next f r m other found n x e h later =
       let same : x.0 ≡ other = (let s : Some x.0 ≡ Some other = sym x.4 ∙ e in cc) in
-      later ∙ ap (λ j. place_from j m (skipped j f)) n
-      ∙ sym (ap (place_from k m) x.3 ∙ ap (λ b. if b then Some k else place_from (suc k) m (skipped (suc k) f)) (ap (same_move m) same ∙ h))
+      later ∙ ap (λ j. place_from j m (siblings_from j f)) n
+      ∙ sym (ap (place_from k m) x.3 ∙ ap (λ b. if b then Some k else place_from (suc k) m (siblings_from (suc k) f)) (ap (same_move m) same ∙ h))
 
   -- a spot shows its number of children
   node-children : (f : Forest L) (k : ℕ) (ks : List ℕ) (s : Spot L) → twig_spot (node_in f k ks) ≡ Some s → s.children ≡ children_at f (k ∷ ks)

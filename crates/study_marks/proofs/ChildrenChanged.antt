@@ -6,7 +6,7 @@ use Rattle.study_tree.specs.Forest.{Forest, none, more, Twig}
 use Rattle.study_tree.specs.Edits.{has_node, node_in, width, with_last, below_edited, place_edited, dropped_at, raised_at, second, children_at, last_place}
 use Rattle.study_tree.specs.declared.fault.TreeFault.{TreeFault}
 use Rattle.study_tree.specs.declared.fault.TreeFault.TheVariants.{NoSuchNode, AlreadyFirst, TooDeep, TreeFull}
-use Rattle.study_text.specs.Counts.{counted}
+use Rattle.study_text.specs.Counts.{next_count}
 use Rattle.study_tree.specs.Tree.{Plain, Spot, spot_at, twig_spot, has_spot, with_child, without, moved_up}
 use Rattle.study_tree.specs.Tree.{removal_refusal, move_up_refusal, child_refusal, size_of}
 use Rattle.study_marks.specs.Queries.{counted_up_by}
@@ -365,6 +365,6 @@ added-off a t new ks m x place plus e ep es eo h =
     (off-added a t ks m x h eo) in
     subst (λ n. FaultsAreOffBy a new ks 0 n) (ap (λ n. counted_faults g n x.faults) (sym ep) ∙ sym es) one
 
-pub count-two : (n old mid new : ℕ) → mid ≡ counted old → new ≡ counted_up_by (n + 1) mid → new ≡ counted_up_by (n + 2) old
+pub count-two : (n old mid new : ℕ) → mid ≡ next_count old → new ≡ counted_up_by (n + 1) mid → new ≡ counted_up_by (n + 2) old
 count-two n old mid new e h =
     let two : suc (n + 1) ≡ n + 2 = omega arith in h ∙ ap (counted_up_by (n + 1)) e ∙ ap (λ k. counted_up_by k old) two

@@ -19,7 +19,7 @@ use Rattle.study_marks.specs.Answers.{TellsFirstFault}
 use Rattle.study_marks.specs.EditLists.{StopsAtFault}
 use Rattle.study_tree.specs.Tree.{Plain}
 use Rattle.study_marks.specs.declared.node_label.Evaluation.{Evaluation}
-use Rattle.study_marks.specs.BenchState.{BenchState, marked, evaluation_tree, IsKeptRight}
+use Rattle.study_marks.specs.BenchState.{BenchState, marked_study, evaluation_tree, IsKeptRight}
 use Rattle.study_marks.specs.EditLists.{questions_of, IsKeptAfter, AreKeptAfter, IsRefusalOf, IsAccepted, AreAccepted, labels_after, labels_by}
 use Rattle.study_marks.specs.EditLists.{IsStopped, asked_after_edits, HasAskedUpTo, IsApplied}
 use Rattle.study_marks.proofs.ValuesAsked.{missing-same, unread-same}
@@ -114,12 +114,12 @@ module _ {A : Type 0} where
 
 -- The effect of these edits, all accepted, with the values before and after.
 pub record IsRun {A V : Type 0} (source : ValueSource V) (values values_now : V) (old new : BenchState) (es : List (Edit A)) : Type 0 where
-  pub accepted : AreAccepted (source.held values) (plain_study (marked old)) es
-  pub edit : plain_study (marked new) ≡ edited_by (plain_study (marked old)) es
+  pub accepted : AreAccepted (source.held values) (plain_study (marked_study old)) es
+  pub edit : plain_study (marked_study new) ≡ edited_by (plain_study (marked_study old)) es
   pub right : source.is_honest values → IsKeptRight old → IsKeptRight new
   pub kept : AreKeptAfter (evaluation_tree old.study.tree) es (evaluation_tree new.study.tree)
-  pub labels : new.relabelled ≡ labels_by (plain_study (marked old)) es old.relabelled
-  pub counts : source.asked_of values_now ≡ asked_after_edits (plain_study (marked old)) es (source.asked_of values)
+  pub labels : new.relabelled ≡ labels_by (plain_study (marked_study old)) es old.relabelled
+  pub counts : source.asked_of values_now ≡ asked_after_edits (plain_study (marked_study old)) es (source.asked_of values)
   pub failures : source.failed_of values_now ≡ source.failed_of values
   pub stays : source.is_honest values → source.is_honest values_now
   pub tables : (c : Class) → source.held values_now c ≡ source.held values c
@@ -142,7 +142,7 @@ run-none source values old = record {
 module _ {A V : Type 0} (source : ValueSource V) (values values_mid values_now : V) (old between new : BenchState) (xs : List (Edit A)) (i : ℕ)
     (e : Edit A) (h : IsRun source values values_mid old between (take i xs)) (short : i < length xs) (is : e ≡ get_or xs i e) where
   abbrev s : PlainStudy
-  s = plain_study (marked old)
+  s = plain_study (marked_study old)
 
   abbrev es : List (Edit A)
   es = take i xs

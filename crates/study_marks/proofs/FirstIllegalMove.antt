@@ -9,25 +9,26 @@ use Rattle.study_tree.specs.Edits.{IsWithin, node_in, width}
 use Rattle.study_marks.specs.declared.node_label.NodeLabel.{NodeLabel}
 use Rattle.study_marks.specs.Edits.{first_illegal_from, first_path}
 use Rattle.study_marks.specs.Study.{IsPlayable}
-use Rattle.study_marks.specs.FaultSums.{skipped}
+use Rattle.study_marks.specs.FaultSums.{siblings_from}
 
-skipped-all : {L : Type 0} (k : ℕ) (f : Forest L) → width f ≤ k → skipped k f ≡ none
-skipped-all zero none h = refl
-skipped-all zero (more m l b r) h = absurd (omega arith)
-skipped-all (suc k) none h = refl
-skipped-all (suc k) (more m l b r) h = skipped-all k r (omega arith)
+siblings_from-all : {L : Type 0} (k : ℕ) (f : Forest L) → width f ≤ k → siblings_from k f ≡ none
+siblings_from-all zero none h = refl
+siblings_from-all zero (more m l b r) h = absurd (omega arith)
+siblings_from-all (suc k) none h = refl
+siblings_from-all (suc k) (more m l b r) h = siblings_from-all k r (omega arith)
 
 -- the nodes from the one at place k on
-skipped-nth : (f : Forest NodeLabel) (k : ℕ) (t : Twig NodeLabel) → node_in f k [] ≡ Some t → skipped k f ≡ more t.played t.label t.below (skipped (suc k) f)
-skipped-nth none k t e = let no : ⊥ = cc in absurd no
-skipped-nth (more m l b r) zero t e =
+siblings_from-nth : (f : Forest NodeLabel) (k : ℕ) (t : Twig NodeLabel) → node_in f k [] ≡ Some t → siblings_from k f
+    ≡ more t.played t.label t.below (siblings_from (suc k) f)
+siblings_from-nth none k t e = let no : ⊥ = cc in absurd no
+siblings_from-nth (more m l b r) zero t e =
     ap (λ (u : Twig NodeLabel). more u.played u.label u.below r) (let s : record { played = m; label = l; below = b }
     ≡ t = cc in s)
-skipped-nth (more m l b r) (suc k) t e = skipped-nth r k t e
+siblings_from-nth (more m l b r) (suc k) t e = siblings_from-nth r k t e
 
 -- all nodes before place k are legal, with all nodes below them
 abbrev pub IsWhole : Position → Forest NodeLabel → ℕ → Type 0
-IsWhole p f k = first_illegal_from 0 p f ≡ first_illegal_from k p (skipped k f)
+IsWhole p f k = first_illegal_from 0 p f ≡ first_illegal_from k p (siblings_from k f)
 
 -- there is no node at place k
 pub no-child : {L : Type 0} (f : Forest L) (k : ℕ) → k < width f → node_in f k [] ≡ None → ⊥
@@ -56,32 +57,32 @@ fewer-below (more m l b r) (suc k) t e = omega (arith, fewer-below r k t e)
 module _ (p : Position) (f : Forest NodeLabel) (k : ℕ) (t : Twig NodeLabel) (e : node_in f k [] ≡ Some t) (h : IsWhole p f k) where
   from-here : first_illegal_from 0 p f
       ≡ (if is_legal p t.played then first_path k (first_illegal_from 0 (after p t.played) t.below)
-      (first_illegal_from (suc k) p (skipped (suc k) f)) else Some (k ∷ []))
-  from-here = h ∙ ap (first_illegal_from k p) (skipped-nth f k t e)
+      (first_illegal_from (suc k) p (siblings_from (suc k) f)) else Some (k ∷ []))
+  from-here = h ∙ ap (first_illegal_from k p) (siblings_from-nth f k t e)
 
   -- the move is not legal
   pub broken-here : is_legal p t.played ≡ false → first_illegal_from 0 p f ≡ Some (k ∷ [])
   broken-here foul = from-here
-      ∙ ap (λ b. if b then first_path k (first_illegal_from 0 (after p t.played) t.below) (first_illegal_from (suc k) p (skipped (suc k) f)) else Some (k
+      ∙ ap (λ b. if b then first_path k (first_illegal_from 0 (after p t.played) t.below) (first_illegal_from (suc k) p (siblings_from (suc k) f)) else Some (k
       ∷ [])) foul
 
   -- one below it is not
   pub broken-below : (next : Position) (path : List ℕ) → is_legal p t.played ≡ true → next ≡ after p t.played → first_illegal_from 0 next t.below ≡ Some path
       → first_illegal_from 0 p f ≡ Some (k ∷ path)
   broken-below next path fair en under = from-here
-      ∙ ap (λ b. if b then first_path k (first_illegal_from 0 (after p t.played) t.below) (first_illegal_from (suc k) p (skipped (suc k) f)) else Some (k
+      ∙ ap (λ b. if b then first_path k (first_illegal_from 0 (after p t.played) t.below) (first_illegal_from (suc k) p (siblings_from (suc k) f)) else Some (k
       ∷ [])) fair
-      ∙ ap (λ o. first_path k o (first_illegal_from (suc k) p (skipped (suc k) f))) (ap (λ x. first_illegal_from 0 x t.below) (sym en) ∙ under)
+      ∙ ap (λ o. first_path k o (first_illegal_from (suc k) p (siblings_from (suc k) f))) (ap (λ x. first_illegal_from 0 x t.below) (sym en) ∙ under)
 
   -- all are legal
   pub whole-next : (next : Position) → is_legal p t.played ≡ true → next ≡ after p t.played → first_illegal_from 0 next t.below ≡ None → IsWhole p f (k + 1)
   whole-next next fair en under = subst (IsWhole p f) (let z : suc k ≡ k + 1 = omega arith in z) (from-here
-      ∙ ap (λ b. if b then first_path k (first_illegal_from 0 (after p t.played) t.below) (first_illegal_from (suc k) p (skipped (suc k) f)) else Some (k
+      ∙ ap (λ b. if b then first_path k (first_illegal_from 0 (after p t.played) t.below) (first_illegal_from (suc k) p (siblings_from (suc k) f)) else Some (k
       ∷ [])) fair
-      ∙ ap (λ o. first_path k o (first_illegal_from (suc k) p (skipped (suc k) f))) (ap (λ x. first_illegal_from 0 x t.below) (sym en) ∙ under))
+      ∙ ap (λ o. first_path k o (first_illegal_from (suc k) p (siblings_from (suc k) f))) (ap (λ x. first_illegal_from 0 x t.below) (sym en) ∙ under))
 
 pub whole-all : (p : Position) (f : Forest NodeLabel) (k : ℕ) → width f ≤ k → IsWhole p f k → first_illegal_from 0 p f ≡ None
-whole-all p f k all h = h ∙ ap (first_illegal_from k p) (skipped-all k f all)
+whole-all p f k all h = h ∙ ap (first_illegal_from k p) (siblings_from-all k f all)
 
 -- in the terms of the loop
 pub longer : (ks push path new : List ℕ) (k : ℕ) → push ≡ ks ++ k ∷ [] → new ≡ push ++ path → new ≡ ks ++ (k ∷ path)

@@ -10,7 +10,7 @@ use Rattle.study_moves.specs.Rules.{is_legal, after}
 use Rattle.study_tree.specs.Forest.{Forest, none, more}
 use Rattle.study_tree.specs.Edits.{IsWithin, has_node, children_at}
 use Rattle.study_tree.proofs.TreeDepth.{IsWithin-add_last}
-use Rattle.study_text.specs.Counts.{counted}
+use Rattle.study_text.specs.Counts.{next_count}
 use Rattle.study_tree.specs.Tree.{Plain, Spot, has_spot, spot_at, size_of, with_child}
 use Rattle.study_material.specs.declared.class.Class.{Class}
 use Rattle.study_values.specs.declared.values.ProbeFault.{ProbeFault}
@@ -22,7 +22,7 @@ use Rattle.study_marks.specs.declared.refusal.Refusal.{Refusal}
 use Rattle.study_marks.specs.declared.refusal.Refusal.TheVariants as refusal
 use Rattle.study_marks.specs.Study.{Study, plain_study, moves_to, position_after, position_at, place_at}
 use Rattle.study_marks.specs.Edits.{there, insert_refusal, with_insertion}
-use Rattle.study_marks.specs.BenchState.{BenchState, marked, IsStudy, IsKeptRight, AllAddUp, evaluation_tree}
+use Rattle.study_marks.specs.BenchState.{BenchState, marked_study, IsStudy, IsKeptRight, AllAddUp, evaluation_tree}
 use Rattle.study_marks.specs.Goals.{aim_of}
 use Rattle.study_marks.specs.Queries.{IsOutside, HasAsked, HasStopped, is_of_tables, counted_up_by}
 use Rattle.study_marks.specs.Refusals.{refused_by}
@@ -32,7 +32,7 @@ use Rattle.study_marks.proofs.PathRenewed.{spot-there, there-spot}
 use Rattle.study_marks.proofs.SameShape.{children_at-mapped, mapped-with_child}
 use Rattle.study_marks.proofs.StudyEdits.{IsPlayable-add_last, AreDistinct-add_last}
 use Rattle.study_marks.proofs.MarksShown.{AllAreEvaluated-right, right-evaluated, AreEvaluated-add_last}
-use Rattle.study_marks.proofs.BenchEdits.{bare, bare-marked, bare-evaluated, Fits, fits, study, with_tree, same-plain, counted-later}
+use Rattle.study_marks.proofs.BenchEdits.{bare, bare-marked_study, bare-evaluated, Fits, fits, study, with_tree, same-plain, next_count-later}
 
 -- no node is deeper than the limit of the study
 pub deep-none : {L : Type 0} (n : ℕ) (f : Forest L) (ks : List ℕ) → IsWithin n f → n < length ks → has_node f ks ≡ false
@@ -87,10 +87,10 @@ reason-bare p t steps m =
     (place_at-mapped (λ (l : NodeLabel). tt {0}) t.below steps m) refl (ap (λ n. nat_le 4096 (1 + n)) (nodes_in-mapped (λ (l : NodeLabel). tt {0}) t.below))
 
 pub insert-reason : {A : Type 0} (b k : BenchState) (steps : List ℕ) (m : Move) → b ≡ k
-    → insert_refusal {A = A} (plain_study (marked k)) steps m ≡ reason b.study.start.position b.study.tree steps m
+    → insert_refusal {A = A} (plain_study (marked_study k)) steps m ≡ reason b.study.start.position b.study.tree steps m
 insert-reason {A = A} b k steps m same =
-    ap (λ (x : BenchState). insert_refusal {A = A} (plain_study (marked x)) steps m) (sym same)
-    ∙ ap (λ (t : Plain (Unit {0})). reason {A = A} b.study.start.position t steps m) (bare-marked b)
+    ap (λ (x : BenchState). insert_refusal {A = A} (plain_study (marked_study x)) steps m) (sym same)
+    ∙ ap (λ (t : Plain (Unit {0})). reason {A = A} b.study.start.position t steps m) (bare-marked_study b)
     ∙ reason-bare b.study.start.position b.study.tree steps m
 
 abbrev pub err_as : {A : Type 0} (T : Type 0) → Refusal A → Result T (Refusal A)
@@ -111,36 +111,36 @@ not-at-most a b h = lt-leb a b h
 
 -- each reason
 module _ {A : Type 0} (b k : BenchState) (steps : List ℕ) (m : Move) (same : b ≡ k) where
-  pub no-node : has_spot b.study.tree steps ≡ false → insert_refusal {A = A} (plain_study (marked k)) steps m ≡ Some refusal.NoSuchNode
+  pub no-node : has_spot b.study.tree steps ≡ false → insert_refusal {A = A} (plain_study (marked_study k)) steps m ≡ Some refusal.NoSuchNode
   no-node f = insert-reason b k steps m same ∙ chosen-same _ false _ _ _ _ _ _ _ _ f refl refl refl refl
 
   pub not-legal : has_spot b.study.tree steps ≡ true → is_legal (position_after b.study.start.position (moves_to b.study.tree.below steps)) m ≡ false
-      → insert_refusal {A = A} (plain_study (marked k)) steps m ≡ Some refusal.IllegalMove
+      → insert_refusal {A = A} (plain_study (marked_study k)) steps m ≡ Some refusal.IllegalMove
   not-legal f l = insert-reason b k steps m same ∙ chosen-same _ true _ false _ _ _ _ _ _ f l refl refl refl
 
   pub is-there : (place : ℕ) → has_spot b.study.tree steps ≡ true
       → is_legal (position_after b.study.start.position (moves_to b.study.tree.below steps)) m ≡ true
       → place_at b.study.tree.below steps m ≡ Some place
-      → insert_refusal {A = A} (plain_study (marked k)) steps m ≡ Some (refusal.AlreadyThere place)
+      → insert_refusal {A = A} (plain_study (marked_study k)) steps m ≡ Some (refusal.AlreadyThere place)
   is-there place f l p = insert-reason b k steps m same ∙ chosen-same _ true _ true _ (Some place) _ _ _ _ f l p refl refl
 
   pub too-deep : has_spot b.study.tree steps ≡ true
       → is_legal (position_after b.study.start.position (moves_to b.study.tree.below steps)) m ≡ true
       → place_at b.study.tree.below steps m ≡ None → 256 ≤ length steps
-      → insert_refusal {A = A} (plain_study (marked k)) steps m ≡ Some refusal.TooDeep
+      → insert_refusal {A = A} (plain_study (marked_study k)) steps m ≡ Some refusal.TooDeep
   too-deep f l p d = insert-reason b k steps m same ∙ chosen-same _ true _ true _ None _ true _ _ f l p (at-most 256 (length steps) d) refl
 
   pub too-full : has_spot b.study.tree steps ≡ true
       → is_legal (position_after b.study.start.position (moves_to b.study.tree.below steps)) m ≡ true
       → place_at b.study.tree.below steps m ≡ None → length steps < 256
-      → 4096 ≤ size_of b.study.tree → insert_refusal {A = A} (plain_study (marked k)) steps m ≡ Some refusal.TreeFull
+      → 4096 ≤ size_of b.study.tree → insert_refusal {A = A} (plain_study (marked_study k)) steps m ≡ Some refusal.TreeFull
   too-full f l p d n = insert-reason b k steps m same ∙ chosen-same _ true _ true _ None _ false _ true f l p
       (not-at-most 256 (length steps) d) (at-most 4096 (size_of b.study.tree) n)
 
   pub no-reason : has_spot b.study.tree steps ≡ true
       → is_legal (position_after b.study.start.position (moves_to b.study.tree.below steps)) m ≡ true
       → place_at b.study.tree.below steps m ≡ None → length steps < 256
-      → size_of b.study.tree < 4096 → insert_refusal {A = A} (plain_study (marked k)) steps m ≡ None
+      → size_of b.study.tree < 4096 → insert_refusal {A = A} (plain_study (marked_study k)) steps m ≡ None
   no-reason f l p d n = insert-reason b k steps m same ∙ chosen-same _ true _ true _ None _ false _ false f l p
       (not-at-most 256 (length steps) d) (not-at-most 4096 (size_of b.study.tree) n)
 
@@ -165,7 +165,7 @@ none-refused None r x e h = refl
 none-refused (Some f) r x e h = let no : Ok x ≡ Err f = sym e ∙ h in absurd cc
 
 pub allowed : {A T : Type 0} (b : BenchState) (steps : List ℕ) (m : Move) (r : Result T (Refusal A)) (x : T) → r ≡ Ok x
-    → MatchOption (insert_refusal {A = A} (plain_study (marked b)) steps m) (IsOk r) (λ g. r ≡ Err g)
+    → MatchOption (insert_refusal {A = A} (plain_study (marked_study b)) steps m) (IsOk r) (λ g. r ≡ Err g)
     → Open b.study.start.position b.study.tree steps m
 allowed {A = A} b steps m r x e h =
     let all = chosen-open _ _ _ _ _ (sym (insert-reason {A = A} b b steps m refl) ∙ none-refused _ r x e h) in
@@ -176,18 +176,18 @@ pub open-as : (b k : BenchState) (steps : List ℕ) (m : Move) → b ≡ k → O
 open-as b k steps m same o = subst (λ (y : BenchState). Open y.study.start.position y.study.tree steps m) (sym same) o
 
 pub unrefused : {A T : Type 0} (k : BenchState) (steps path : List ℕ) (m : Move) (r : Result T (Refusal A)) (x : T)
-    → steps ≡ path → r ≡ Ok x → MatchOption (insert_refusal {A = A} (plain_study (marked k)) steps m) (IsOk r)
+    → steps ≡ path → r ≡ Ok x → MatchOption (insert_refusal {A = A} (plain_study (marked_study k)) steps m) (IsOk r)
     (λ g. r ≡ Err g)
-    → insert_refusal {A = A} (plain_study (marked k)) path m ≡ None
-unrefused {A = A} k steps path m r x way e h = ap (λ p. insert_refusal {A = A} (plain_study (marked k)) p m) (sym way) ∙ none-refused _ r x e h
+    → insert_refusal {A = A} (plain_study (marked_study k)) path m ≡ None
+unrefused {A = A} k steps path m r x way e h = ap (λ p. insert_refusal {A = A} (plain_study (marked_study k)) p m) (sym way) ∙ none-refused _ r x e h
 
 pub refused-before : {A T U : Type 0} (k : BenchState) (steps path : List ℕ) (m : Move) (r : Result T (Refusal A))
     (f : Refusal A) (answer : Result U (Refusal A)) (P : Type 0) → steps ≡ path → r ≡ Err f
-    → MatchOption (insert_refusal {A = A} (plain_study (marked k)) steps m) (IsOk r) (λ g. r ≡ Err g) → IsErrAnd answer (λ x. x ≡ f)
-    → MatchOption (insert_refusal {A = A} (plain_study (marked k)) path m) P (λ g. answer ≡ Err g)
+    → MatchOption (insert_refusal {A = A} (plain_study (marked_study k)) steps m) (IsOk r) (λ g. r ≡ Err g) → IsErrAnd answer (λ x. x ≡ f)
+    → MatchOption (insert_refusal {A = A} (plain_study (marked_study k)) path m) P (λ g. answer ≡ Err g)
 refused-before {A = A} {U = U} k steps path m r f answer P way e h a =
-    subst (λ p. MatchOption (insert_refusal {A = A} (plain_study (marked k)) p m) P (λ g. answer ≡ Err g)) way
-    (go (insert_refusal {A = A} (plain_study (marked k)) steps m) h)
+    subst (λ p. MatchOption (insert_refusal {A = A} (plain_study (marked_study k)) p m) P (λ g. answer ≡ Err g)) way
+    (go (insert_refusal {A = A} (plain_study (marked_study k)) steps m) h)
   where
     evaluated : (x : Refusal A) (q : Result U (Refusal A)) → IsErrAnd q (λ y. y ≡ x) → q ≡ Err x
     evaluated x (Ok u) h = absurd h
@@ -230,21 +230,21 @@ asked-answer {A = A} n old new f (Err x) e h = subst (λ (y : Refusal A). HasSto
     go (probe.PageDamaged c k) = h
 
 -- the same node with the marks shown
-pub children-marked : (b k : BenchState) (steps path : List ℕ) → b ≡ k → steps ≡ path → children_at b.study.tree.below steps
-    ≡ children_at (marked k).tree.below path
-children-marked b k steps path same way =
+pub children-marked_study : (b k : BenchState) (steps path : List ℕ) → b ≡ k → steps ≡ path → children_at b.study.tree.below steps
+    ≡ children_at (marked_study k).tree.below path
+children-marked_study b k steps path same way =
     sym (children_at-mapped (λ (l : NodeLabel). tt {0}) b.study.tree.below steps)
-    ∙ ap (λ (t : Plain (Unit {0})). children_at t.below steps) (sym (bare-marked b))
-    ∙ children_at-mapped (λ (x : Mark). tt {0}) (marked b).tree.below steps
-    ∙ ap (λ (x : BenchState). children_at (marked x).tree.below steps) same ∙ ap (children_at (marked k).tree.below) way
+    ∙ ap (λ (t : Plain (Unit {0})). children_at t.below steps) (sym (bare-marked_study b))
+    ∙ children_at-mapped (λ (x : Mark). tt {0}) (marked_study b).tree.below steps
+    ∙ ap (λ (x : BenchState). children_at (marked_study x).tree.below steps) same ∙ ap (children_at (marked_study k).tree.below) way
 
-pub position-marked : (b k : BenchState) (steps path : List ℕ) → b ≡ k → steps ≡ path → position_at b.study steps ≡ position_at (marked k) path
-position-marked b k steps path same way =
+pub position-marked_study : (b k : BenchState) (steps path : List ℕ) → b ≡ k → steps ≡ path → position_at b.study steps ≡ position_at (marked_study k) path
+position-marked_study b k steps path same way =
     ap (position_after b.study.start.position)
     (sym (moves_to-mapped (λ (l : NodeLabel). tt {0}) b.study.tree.below steps)
-    ∙ ap (λ (t : Plain (Unit {0})). moves_to t.below steps) (sym (bare-marked b))
-    ∙ moves_to-mapped (λ (x : Mark). tt {0}) (marked b).tree.below steps)
-    ∙ ap (λ (x : BenchState). position_at (marked x) steps) same ∙ ap (position_at (marked k)) way
+    ∙ ap (λ (t : Plain (Unit {0})). moves_to t.below steps) (sym (bare-marked_study b))
+    ∙ moves_to-mapped (λ (x : Mark). tt {0}) (marked_study b).tree.below steps)
+    ∙ ap (λ (x : BenchState). position_at (marked_study x) steps) same ∙ ap (position_at (marked_study k)) way
 
 -- the nodes after the edit
 bare-inserted : (t u : Plain NodeLabel) (ks : List ℕ) (m : Move) (x : Evaluation) → evaluation_tree u ≡ with_child (evaluation_tree t) ks m x
@@ -271,10 +271,10 @@ inserted-study s u ks m x e o h =
 
 pub inserted-plain : (k : BenchState) (u : Plain NodeLabel) (n : ℕ) (ks : List ℕ) (m : Move) (x : Evaluation)
     → evaluation_tree u ≡ with_child (evaluation_tree k.study.tree) ks m x
-    → plain_study (marked (record { study = with_tree k.study u; relabelled = n })) ≡ with_insertion (plain_study (marked k)) ks m
+    → plain_study (marked_study (record { study = with_tree k.study u; relabelled = n })) ≡ with_insertion (plain_study (marked_study k)) ks m
 inserted-plain k u n ks m x e = same-plain k u n
     ∙ ap (λ y. record { start = k.study.start; stipulation = k.study.stipulation; tags = k.study.tags; tree = y })
-    (bare-inserted k.study.tree u ks m x e ∙ ap (λ y. with_child y ks m tt) (sym (bare-marked k)))
+    (bare-inserted k.study.tree u ks m x e ∙ ap (λ y. with_child y ks m tt) (sym (bare-marked_study k)))
 
 pub inserted-right : (k : BenchState) (u : Plain NodeLabel) (n : ℕ) (ks : List ℕ) (m : Move) (x : Evaluation)
     → evaluation_tree u ≡ with_child (evaluation_tree k.study.tree) ks m x → AllAddUp (aim_of k.study) u
@@ -289,5 +289,5 @@ inserted-right k u n ks m x e s g h =
     (subst (AllAreEvaluated p) (sym e) (old.0, AreEvaluated-add_last p (evaluation_tree k.study.tree).below ks m x old.1 here))
 
 -- the number of labels written
-pub inserted-count : (n old mid new : ℕ) → mid ≡ old → new ≡ counted_up_by n mid → counted new ≡ counted_up_by n (counted old)
-inserted-count n old mid new same e = counted-later n old new (e ∙ ap (counted_up_by n) same)
+pub inserted-count : (n old mid new : ℕ) → mid ≡ old → new ≡ counted_up_by n mid → next_count new ≡ counted_up_by n (next_count old)
+inserted-count n old mid new same e = next_count-later n old new (e ∙ ap (counted_up_by n) same)

@@ -11,7 +11,7 @@ use Rattle.study_marks.specs.declared.mark_rules.Aim.{Aim}
 use Rattle.study_marks.specs.Goals.{hero_moves}
 use Rattle.study_marks.specs.BenchState.{own_fault, all_faults, faults_below, AllAddUp, evaluation_tree}
 use Rattle.study_marks.specs.FaultSums.{counted_faults}
-use Rattle.study_marks.specs.Relabelled.{evaluation_in, reevaluated_tree, refreshed, refreshing}
+use Rattle.study_marks.specs.Relabelled.{evaluation_in, reevaluated_tree, with_faults, fault_pass}
 use Rattle.study_marks.proofs.PathRenewed.{own≤1}
 use Rattle.study_marks.proofs.LabelsWritten.{evaluated-refreshed, adds-refreshed, few-refreshed}
 
@@ -43,11 +43,11 @@ module _ (all : List Evaluation) (a : Aim) where
       → x + 1 + nodes_in b + nodes_in r ≤ 4096 → own_count ≤ 1
       → faults_below (hero_moves a (d + 1)) below ≤ nodes_in b
       → t ≡ evaluation_in all n l.evaluated → own_count ≡ own_fault a d q t.value
-      → rewritten (refreshing all a) (d + 1) 0 (n + 1) (record { evaluated = t; faults = own_count }) b
+      → rewritten (fault_pass all a) (d + 1) 0 (n + 1) (record { evaluated = t; faults = own_count }) b
       ≡ (record { evaluated = t; faults = own_count + faults_below (hero_moves a (d + 1)) below }, below)
-      → ((y : ℕ) → y + nodes_in r ≤ 4096 → rewritten (refreshing all a) d (suc k) (n + 1 + nodes_in b) (record { evaluated = q; faults = y }) r
+      → ((y : ℕ) → y + nodes_in r ≤ 4096 → rewritten (fault_pass all a) d (suc k) (n + 1 + nodes_in b) (record { evaluated = q; faults = y }) r
       ≡ (record { evaluated = q; faults = y + counts_from (hero_moves a d) (suc k) later }, later))
-      → rewritten (refreshing all a) d k n (record { evaluated = q; faults = x }) (more m l b r)
+      → rewritten (fault_pass all a) d k n (record { evaluated = q; faults = x }) (more m l b r)
       ≡ (
         record {
           evaluated = q;
@@ -57,11 +57,11 @@ module _ (all : List Evaluation) (a : Aim) where
         more m (record { evaluated = t; faults = own_count + faults_below (hero_moves a (d + 1)) below }) below later,
       )
   step d k n q x m l b r t below later own_count few one small et eo under rest =
-      ap whole (ap (λ (y : Evaluation). rewritten (refreshing all a) (d + 1) 0 (n + 1) (record { evaluated = y; faults = own_fault a d q y.value }) b) (sym et)
-      ∙ ap (λ y. rewritten (refreshing all a) (d + 1) 0 (n + 1) (record { evaluated = t; faults = y }) b) (sym eo) ∙ under)
+      ap whole (ap (λ (y : Evaluation). rewritten (fault_pass all a) (d + 1) 0 (n + 1) (record { evaluated = y; faults = own_fault a d q y.value }) b) (sym et)
+      ∙ ap (λ y. rewritten (fault_pass all a) (d + 1) 0 (n + 1) (record { evaluated = t; faults = y }) b) (sym eo) ∙ under)
       ∙ ap (λ y. (
-        (rewritten (refreshing all a) d (suc k) (n + 1 + nodes_in b) (record { evaluated = q; faults = y }) r).0,
-        more m child below (rewritten (refreshing all a) d (suc k) (n + 1 + nodes_in b) (record { evaluated = q; faults = y }) r).1,
+        (rewritten (fault_pass all a) d (suc k) (n + 1 + nodes_in b) (record { evaluated = q; faults = y }) r).0,
+        more m child below (rewritten (fault_pass all a) d (suc k) (n + 1 + nodes_in b) (record { evaluated = q; faults = y }) r).1,
       )) joined
       ∙ ap (λ (s : NodeLabel × Forest NodeLabel). (s.0, more m child below s.1)) (rest (x + share) (omega (arith, few, one, small, fewer)))
       ∙ ap (λ y. (record { evaluated = q; faults = y }, more m child below later)) sum
@@ -74,8 +74,8 @@ module _ (all : List Evaluation) (a : Aim) where
 
       whole : NodeLabel × Forest NodeLabel → NodeLabel × Forest NodeLabel
       whole c = (
-        (rewritten (refreshing all a) d (suc k) (n + 1 + nodes_in b) ((refreshing all a).joined d k (record { evaluated = q; faults = x }) c.0) r).0,
-        more m c.0 c.1 (rewritten (refreshing all a) d (suc k) (n + 1 + nodes_in b) ((refreshing all a).joined d k (record { evaluated = q; faults = x }) c.0)
+        (rewritten (fault_pass all a) d (suc k) (n + 1 + nodes_in b) ((fault_pass all a).joined d k (record { evaluated = q; faults = x }) c.0) r).0,
+        more m c.0 c.1 (rewritten (fault_pass all a) d (suc k) (n + 1 + nodes_in b) ((fault_pass all a).joined d k (record { evaluated = q; faults = x }) c.0)
             r).1,
       )
 
@@ -89,14 +89,14 @@ module _ (all : List Evaluation) (a : Aim) where
       sum = omega (arith, counts-more (hero_moves a d) k m child below later)
 
   are-refreshed : (d k n : ℕ) (q : Evaluation) (x : ℕ) (f : Forest NodeLabel) → x + nodes_in f ≤ 4096
-      → rewritten (refreshing all a) d k n (record { evaluated = q; faults = x }) f
-      ≡ (record { evaluated = q; faults = x + counts_from (hero_moves a d) k (refreshed all a d n q f) }, refreshed all a d n q f)
+      → rewritten (fault_pass all a) d k n (record { evaluated = q; faults = x }) f
+      ≡ (record { evaluated = q; faults = x + counts_from (hero_moves a d) k (with_faults all a d n q f) }, with_faults all a d n q f)
   are-refreshed d k n q x none few =
       ap (λ y. (record { evaluated = q; faults = y }, none))
       (let same : x ≡ x + counts_from (hero_moves a d) k none = omega (arith, counts-none (hero_moves a d) k) in same)
   are-refreshed d k n q x (more m l b r) few =
-      step d k n q x m l b r (evaluation_in all n l.evaluated) (refreshed all a (d + 1) (n + 1) (evaluation_in all n l.evaluated) b)
-      (refreshed all a d (n + 1 + nodes_in b) q r) (own_fault a d q (evaluation_in all n l.evaluated).value)
+      step d k n q x m l b r (evaluation_in all n l.evaluated) (with_faults all a (d + 1) (n + 1) (evaluation_in all n l.evaluated) b)
+      (with_faults all a d (n + 1 + nodes_in b) q r) (own_fault a d q (evaluation_in all n l.evaluated).value)
       (omega (arith, few)) (own≤1 a d q (evaluation_in all n l.evaluated).value)
       (few-refreshed all a (d + 1) (n + 1) (hero_moves a (d + 1)) (evaluation_in all n l.evaluated) b) refl refl
       (are-refreshed (d + 1) 0 (n + 1) (evaluation_in all n l.evaluated) (own_fault a d q (evaluation_in all n l.evaluated).value) b
@@ -105,29 +105,29 @@ module _ (all : List Evaluation) (a : Aim) where
 
   -- the whole tree
   pub tree-refreshed : (t : Plain NodeLabel) → size_of t ≤ 4096
-      → rewritten_tree (refreshing all a) t
+      → rewritten_tree (fault_pass all a) t
       ≡ record {
         label = record {
           evaluated = evaluation_in all 0 t.label.evaluated;
-          faults = faults_below (hero_moves a 0) (refreshed all a 0 1 (evaluation_in all 0 t.label.evaluated) t.below);
+          faults = faults_below (hero_moves a 0) (with_faults all a 0 1 (evaluation_in all 0 t.label.evaluated) t.below);
         };
-        below = refreshed all a 0 1 (evaluation_in all 0 t.label.evaluated) t.below;
+        below = with_faults all a 0 1 (evaluation_in all 0 t.label.evaluated) t.below;
       }
   tree-refreshed t few =
       ap (λ (s : NodeLabel × Forest NodeLabel). record { label = s.0; below = s.1 })
       (are-refreshed 0 0 1 (evaluation_in all 0 t.label.evaluated) 0 t.below (omega (arith, few)))
       ∙ ap (λ n. record {
         label = record { evaluated = evaluation_in all 0 t.label.evaluated; faults = n };
-        below = refreshed all a 0 1 (evaluation_in all 0 t.label.evaluated) t.below;
+        below = with_faults all a 0 1 (evaluation_in all 0 t.label.evaluated) t.below;
       })
-      (let sum : 0 + counts_from (hero_moves a 0) 0 (refreshed all a 0 1 (evaluation_in all 0 t.label.evaluated) t.below)
-      ≡ faults_below (hero_moves a 0) (refreshed all a 0 1 (evaluation_in all 0 t.label.evaluated) t.below) = omega arith in sum)
+      (let sum : 0 + counts_from (hero_moves a 0) 0 (with_faults all a 0 1 (evaluation_in all 0 t.label.evaluated) t.below)
+      ≡ faults_below (hero_moves a 0) (with_faults all a 0 1 (evaluation_in all 0 t.label.evaluated) t.below) = omega arith in sum)
 
-  pub right-refreshed : (t new : Plain NodeLabel) → size_of t ≤ 4096 → new ≡ rewritten_tree (refreshing all a) t → AllAddUp a new
+  pub right-refreshed : (t new : Plain NodeLabel) → size_of t ≤ 4096 → new ≡ rewritten_tree (fault_pass all a) t → AllAddUp a new
   right-refreshed t new few e =
       subst (AllAddUp a) (sym (e ∙ tree-refreshed t few)) (refl, adds-refreshed all a 0 1 (evaluation_in all 0 t.label.evaluated) t.below)
 
-  pub evaluated-restated : (t new : Plain NodeLabel) → size_of t ≤ 4096 → new ≡ rewritten_tree (refreshing all a) t
+  pub evaluated-restated : (t new : Plain NodeLabel) → size_of t ≤ 4096 → new ≡ rewritten_tree (fault_pass all a) t
       → evaluation_tree new ≡ reevaluated_tree all (evaluation_tree t)
   evaluated-restated t new few e =
       ap evaluation_tree (e ∙ tree-refreshed t few)

@@ -4,14 +4,14 @@ use Rattle.std.proofs.Common.{refl, sym, ap, ◌∙◌, arith, zero, suc}
 use Rattle.std.specs.Prelude.{take, ◌-◌}
 use Rattle.study_tree.specs.Forest.{Forest, none, more, nodes_in}
 use Rattle.study_tree.specs.Edits.{width}
-use Rattle.study_text.specs.Counts.{counted}
+use Rattle.study_text.specs.Counts.{next_count}
 use Rattle.study_marks.specs.declared.node_label.NodeLabel.{NodeLabel}
 use Rattle.study_marks.specs.declared.node_label.Evaluation.{Evaluation}
 use Rattle.study_marks.specs.declared.mark_rules.Aim.{Aim}
 use Rattle.study_marks.specs.Queries.{counted_up_by}
 use Rattle.study_marks.specs.Study.{mapped}
 use Rattle.study_marks.specs.BenchState.{faults_below, FaultsAddUp}
-use Rattle.study_marks.specs.Relabelled.{evaluation_in, reevaluated, refreshed, firsts}
+use Rattle.study_marks.specs.Relabelled.{evaluation_in, with_evaluations, with_faults, firsts}
 use Rattle.study_marks.proofs.SameShape.{nodes_in-mapped}
 use Rattle.study_marks.proofs.PathRenewed.{below≤all, all≤nodes}
 
@@ -25,24 +25,24 @@ module _ {L : Type 0} where
 module _ (all : List Evaluation) (a : Aim) where
   -- the evaluations come from the list
   pub evaluated-refreshed : (d n : ℕ) (q : Evaluation) (f : Forest NodeLabel)
-      → mapped (λ (l : NodeLabel). l.evaluated) (refreshed all a d n q f) ≡ reevaluated all n (mapped (λ l. l.evaluated) f)
+      → mapped (λ (l : NodeLabel). l.evaluated) (with_faults all a d n q f) ≡ with_evaluations all n (mapped (λ l. l.evaluated) f)
   evaluated-refreshed d n q none = refl
   evaluated-refreshed d n q (more m l b r) =
       ap
       (λ x. more m (evaluation_in all n l.evaluated) x
-      (mapped (λ (y : NodeLabel). y.evaluated) (refreshed all a d (n + 1 + nodes_in b) q r)))
+      (mapped (λ (y : NodeLabel). y.evaluated) (with_faults all a d (n + 1 + nodes_in b) q r)))
       (evaluated-refreshed (d + 1) (n + 1) (evaluation_in all n l.evaluated) b)
-      ∙ ap (more m (evaluation_in all n l.evaluated) (reevaluated all (n + 1) (mapped (λ (y : NodeLabel). y.evaluated) b)))
+      ∙ ap (more m (evaluation_in all n l.evaluated) (with_evaluations all (n + 1) (mapped (λ (y : NodeLabel). y.evaluated) b)))
       (evaluated-refreshed d (n + 1 + nodes_in b) q r
-      ∙ ap (λ x. reevaluated all (n + 1 + x) (mapped (λ (y : NodeLabel). y.evaluated) r))
+      ∙ ap (λ x. with_evaluations all (n + 1 + x) (mapped (λ (y : NodeLabel). y.evaluated) r))
       (sym (nodes_in-mapped (λ (y : NodeLabel). y.evaluated) b)))
 
   -- the faults add up
-  pub adds-refreshed : (d n : ℕ) (q : Evaluation) (f : Forest NodeLabel) → FaultsAddUp a d q (refreshed all a d n q f)
+  pub adds-refreshed : (d n : ℕ) (q : Evaluation) (f : Forest NodeLabel) → FaultsAddUp a d q (with_faults all a d n q f)
   adds-refreshed d n q none = tt
   adds-refreshed d n q (more m l b r) = (refl, adds-refreshed (d + 1) (n + 1) (evaluation_in all n l.evaluated) b, adds-refreshed d (n + 1 + nodes_in b) q r)
 
-  nodes-refreshed : (d n : ℕ) (q : Evaluation) (f : Forest NodeLabel) → nodes_in (refreshed all a d n q f) ≡ nodes_in f
+  nodes-refreshed : (d n : ℕ) (q : Evaluation) (f : Forest NodeLabel) → nodes_in (with_faults all a d n q f) ≡ nodes_in f
   nodes-refreshed d n q none = refl
   nodes-refreshed d n q (more m l b r) = omega (
     arith,
@@ -50,12 +50,12 @@ module _ (all : List Evaluation) (a : Aim) where
     nodes-refreshed d (n + 1 + nodes_in b) q r,
   )
 
-  pub few-refreshed : (d n : ℕ) (hero : Bool) (q : Evaluation) (f : Forest NodeLabel) → faults_below hero (refreshed all a d n q f) ≤ nodes_in f
+  pub few-refreshed : (d n : ℕ) (hero : Bool) (q : Evaluation) (f : Forest NodeLabel) → faults_below hero (with_faults all a d n q f) ≤ nodes_in f
   few-refreshed d n hero q f =
       omega (
         arith,
-        below≤all hero (refreshed all a d n q f),
-        all≤nodes a d q (refreshed all a d n q f)
+        below≤all hero (with_faults all a d n q f),
+        all≤nodes a d q (with_faults all a d n q f)
             (adds-refreshed d n q f),
         nodes-refreshed d n q f,
       )
@@ -76,4 +76,4 @@ back ks zs k e = ap (λ xs. take (length xs - 1) xs) e ∙ take-front ks (k ∷ 
 
 pub counted_times-sum : (b c n : ℕ) → counted_up_by (b + c) n ≡ counted_up_by c (counted_up_by b n)
 counted_times-sum zero c n = ap (λ x. counted_up_by x n) (let z : 0 + c ≡ c = omega arith in z)
-counted_times-sum (suc b) c n = ap (λ x. counted_up_by x n) (let z : suc b + c ≡ suc (b + c) = omega arith in z) ∙ counted_times-sum b c (counted n)
+counted_times-sum (suc b) c n = ap (λ x. counted_up_by x n) (let z : suc b + c ≡ suc (b + c) = omega arith in z) ∙ counted_times-sum b c (next_count n)

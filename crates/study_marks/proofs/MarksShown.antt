@@ -21,7 +21,7 @@ use Rattle.study_marks.specs.Goals.{aim_of, hero_moves, holds, keeps_goal, plies
 use Rattle.study_marks.specs.Marks.{mark_of, move_mark, faults_in}
 use Rattle.study_marks.specs.Annotated.{AreAnnotated}
 use Rattle.study_marks.specs.MoveOutcomes.{tally_of}
-use Rattle.study_marks.specs.BenchState.{BenchState, count_holding, mark_by_label, shown, AreTallied, IsKeptRight}
+use Rattle.study_marks.specs.BenchState.{BenchState, count_holding, mark_by_label, shown_marks, AreTallied, IsKeptRight}
 use Rattle.study_marks.specs.BenchState.{own_fault, all_faults, faults_below, FaultsAddUp, AllAddUp, evaluation_tree}
 use Rattle.study_marks.specs.Evaluated.{IsEvaluationOf, AreEvaluated, AllAreEvaluated}
 
@@ -70,7 +70,7 @@ AreEvaluated-raised = AreEvaluated-place_edited raised_at AreEvaluated-raised_at
 
 -- from right marks to right evaluations
 AreEvaluated-annotated : (a : Aim) (d : ℕ) (p : Position) (v : Value) (q : Evaluation) (f : Forest NodeLabel)
-    → AreAnnotated a d p v (shown a d q f) → AreTallied p f → AreEvaluated p (mapped (λ l. l.evaluated) f)
+    → AreAnnotated a d p v (shown_marks a d q f) → AreTallied p f → AreEvaluated p (mapped (λ l. l.evaluated) f)
 AreEvaluated-annotated a d p v q none h t = tt
 AreEvaluated-annotated a d p v q (more m l b r) h t =
     ((h.0, t.0), AreEvaluated-annotated a (d + 1) (after p m) l.evaluated.value l.evaluated b h.3 t.1, AreEvaluated-annotated a d p v q r h.4 t.2)
@@ -207,25 +207,26 @@ below-opponent : (f : Forest NodeLabel) → faults_below false f ≡ all_faults 
 below-opponent none = refl
 below-opponent (more n k c s) = refl
 
-sums-shown : (hero : Bool) (n later counted : ℕ) (r : Forest NodeLabel) → faults_below hero r ≡ counted → n ≡ later
+sums-shown_marks : (hero : Bool) (n later counted : ℕ) (r : Forest NodeLabel) → faults_below hero r ≡ counted → n ≡ later
     → n + (if hero then 0 else all_faults r) ≡ later + (if hero then 0 else counted)
-sums-shown true n later counted r e h = omega (arith, h)
-sums-shown false n later counted r e h = let two : all_faults r ≡ counted = sym (below-opponent r) ∙ e in omega (arith, h, two)
+sums-shown_marks true n later counted r e h = omega (arith, h)
+sums-shown_marks false n later counted r e h = let two : all_faults r ≡ counted = sym (below-opponent r) ∙ e in omega (arith, h, two)
 
-faults-shown : (a : Aim) (d : ℕ) (q : Evaluation) (f : Forest NodeLabel) → FaultsAddUp a d q f → faults_below (hero_moves a d) f ≡ faults_in a d (shown a d q f)
-faults-shown a d q none h = refl
-faults-shown a d q (more m l b r) h =
-    sums-shown (hero_moves a d) l.faults (own_fault a d q l.evaluated.value + faults_in a (d + 1) (shown a (d + 1) l.evaluated b))
-    (faults_in a d (shown a d q r)) r
-    (faults-shown a d q r h.2) (h.0 ∙ ap (λ n. own_fault a d q l.evaluated.value + n) (faults-shown a (d + 1) l.evaluated b h.1))
+faults-shown_marks : (a : Aim) (d : ℕ) (q : Evaluation) (f : Forest NodeLabel) → FaultsAddUp a d q f → faults_below (hero_moves a d) f
+    ≡ faults_in a d (shown_marks a d q f)
+faults-shown_marks a d q none h = refl
+faults-shown_marks a d q (more m l b r) h =
+    sums-shown_marks (hero_moves a d) l.faults (own_fault a d q l.evaluated.value + faults_in a (d + 1) (shown_marks a (d + 1) l.evaluated b))
+    (faults_in a d (shown_marks a d q r)) r
+    (faults-shown_marks a d q r h.2) (h.0 ∙ ap (λ n. own_fault a d q l.evaluated.value + n) (faults-shown_marks a (d + 1) l.evaluated b h.1))
 
 AreAnnotated-evaluated : (a : Aim) (d : ℕ) (p : Position) (q : Evaluation) (f : Forest NodeLabel) → FaultsAddUp a d q f → IsEvaluationOf p q
-    → AreEvaluated p (mapped (λ l. l.evaluated) f) → AreAnnotated a d p q.value (shown a d q f)
+    → AreEvaluated p (mapped (λ l. l.evaluated) f) → AreAnnotated a d p q.value (shown_marks a d q f)
 AreAnnotated-evaluated a d p q none s h t = tt
 AreAnnotated-evaluated a d p q (more m l b r) s h t = (
   t.0.0,
   (mark_by_label a d q l.evaluated.value, refl, (h.1.0, h.1.1, kept-move a d q h.1.0 l.evaluated.value h.1.2)),
-  s.0 ∙ ap (λ n. own_fault a d q l.evaluated.value + n) (faults-shown a (d + 1) l.evaluated b s.1),
+  s.0 ∙ ap (λ n. own_fault a d q l.evaluated.value + n) (faults-shown_marks a (d + 1) l.evaluated b s.1),
   AreAnnotated-evaluated a (d + 1) (after p m) l.evaluated b s.1 t.0 t.1,
   AreAnnotated-evaluated a d p q r s.2 h t.2,
 )
@@ -237,7 +238,7 @@ right-evaluated k s t = record {
   marks = record {
     value = t.0.0;
     no_move = refl;
-    faults = s.0 ∙ faults-shown (aim_of k.study) 0 k.study.tree.label.evaluated k.study.tree.below s.1;
+    faults = s.0 ∙ faults-shown_marks (aim_of k.study) 0 k.study.tree.label.evaluated k.study.tree.below s.1;
     below = AreAnnotated-evaluated (aim_of k.study) 0 k.study.start.position k.study.tree.label.evaluated k.study.tree.below s.1 t.0 t.1;
   };
   root = t.0.1;

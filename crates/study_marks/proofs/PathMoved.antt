@@ -10,7 +10,7 @@ use Rattle.study_tree.specs.declared.fault.TreeFault.{TreeFault}
 use Rattle.study_tree.specs.declared.fault.TreeFault.TheVariants.{NoSuchNode}
 use Rattle.study_tree.specs.Tree.{Plain, has_spot, size_of, label_refusal}
 use Rattle.study_tree.specs.Changes.{changed_along, with_changes, counted_by}
-use Rattle.study_text.specs.Counts.{counted}
+use Rattle.study_text.specs.Counts.{next_count}
 use Rattle.study_marks.specs.declared.node_label.NodeLabel.{NodeLabel}
 use Rattle.study_marks.specs.declared.node_label.Evaluation.{Evaluation}
 use Rattle.study_marks.specs.declared.mark_rules.Aim.{Aim}
@@ -22,21 +22,21 @@ use Rattle.study_marks.specs.FaultSums.{FaultsAddUpExceptOnPath, FaultsAreOffBy,
 use Rattle.study_marks.proofs.PathRenewed.{below≤all, all≤nodes, own≤1}
 
 -- a count, increased by one or by so many
-counted_by-one : (k n : ℕ) → counted_by k (counted n) ≡ counted_by (suc k) n
+counted_by-one : (k n : ℕ) → counted_by k (next_count n) ≡ counted_by (suc k) n
 counted_by-one k n = omega arith
 
 counted_by-times : (k n : ℕ) → n < 2 ^ 64 → counted_by k n ≡ counted_up_by k n
 counted_by-times zero n h = omega arith
 counted_by-times (suc k) n h =
-    let few : counted n < 2 ^ 64 = omega arith in
-    sym (counted_by-one k n) ∙ counted_by-times k (counted n) few
+    let few : next_count n < 2 ^ 64 = omega arith in
+    sym (counted_by-one k n) ∙ counted_by-times k (next_count n) few
 
 -- increased by at least one
 pub counted_by-more : (k n : ℕ) → counted_by (k + 1) n ≡ counted_up_by (k + 1) n
 counted_by-more k n =
-    let few : counted n < 2 ^ 64 = omega arith in
+    let few : next_count n < 2 ^ 64 = omega arith in
     let one : k + 1 ≡ suc k = omega arith in
-    ap (λ j. counted_by j n) one ∙ sym (counted_by-one k n) ∙ counted_by-times k (counted n) few ∙ ap (λ j. counted_up_by j n) (sym one)
+    ap (λ j. counted_by j n) one ∙ sym (counted_by-one k n) ∙ counted_by-times k (next_count n) few ∙ ap (λ j. counted_up_by j n) (sym one)
 
 pub counted_by-size : {L : Type 0} (t : Plain L) (n : ℕ) → counted_by (size_of t) n ≡ counted_up_by (size_of t) n
 counted_by-size t n =

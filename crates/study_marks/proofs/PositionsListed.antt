@@ -17,7 +17,7 @@ use Rattle.study_marks.specs.Study.{mapped, IsPlayable}
 use Rattle.study_marks.specs.Queries.{asked_at, asked_below, AreTablesHeld, IsFirstMissing, IsFirstUnread, counted_up_by}
 use Rattle.study_marks.specs.Evaluated.{IsEvaluationOf, AreEvaluated, AllAreEvaluated, IsProbeFaultOf, ProbeCount}
 use Rattle.study_marks.specs.BenchState.{evaluation_tree}
-use Rattle.study_marks.specs.Relabelled.{evaluation_in, reevaluated, reevaluated_tree, firsts, positions_in, asked_each, AreEvaluationsOf}
+use Rattle.study_marks.specs.Relabelled.{evaluation_in, with_evaluations, reevaluated_tree, firsts, positions_in, asked_each, AreEvaluationsOf}
 use Rattle.study_marks.proofs.ValuesAsked.{missing-same, unread-same}
 use Rattle.study_marks.proofs.LabelsWritten.{firsts-all, counted_times-sum}
 
@@ -253,7 +253,7 @@ positions-mapped g p (more m l b r) =
     ∙ ap (λ x. after p m ∷ (positions_in (after p m) b ++ x)) (positions-mapped g p r)
 
 restated-evaluated : (all : List Evaluation) (p : Position) (n : ℕ) (f : Forest Evaluation) → AreAt all n (positions_in p f)
-    → AreEvaluated p (reevaluated all n f)
+    → AreEvaluated p (with_evaluations all n f)
 unfolding AreAt
 restated-evaluated all p n none h = tt
 restated-evaluated all p n (more m t b r) h =

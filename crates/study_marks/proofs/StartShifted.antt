@@ -15,9 +15,9 @@ use Rattle.study_marks.specs.declared.mark.Mark.{Mark}
 use Rattle.study_marks.specs.Study.{mapped, plain_study, IsPlayable}
 use Rattle.study_marks.specs.Queries.{IsOutside}
 use Rattle.study_marks.specs.Edits.{first_path, first_illegal_from, broken, shift_refusal}
-use Rattle.study_marks.specs.BenchState.{BenchState, marked}
+use Rattle.study_marks.specs.BenchState.{BenchState, marked_study}
 use Rattle.study_marks.specs.EditLists.{IsShiftRefusal}
-use Rattle.study_marks.proofs.BenchEdits.{bare-marked}
+use Rattle.study_marks.proofs.BenchEdits.{bare-marked_study}
 use Rattle.study_marks.proofs.FirstIllegalMove.{whole-playable}
 
 broken-mapped : {L M : Type 0} (g : L → M) (k : ℕ) (p : Position) (f : Forest L) → first_illegal_from k p (mapped g f) ≡ first_illegal_from k p f
@@ -28,14 +28,15 @@ broken-mapped g k p (more m l b r) =
 
 -- the first broken move is that of the shown study
 pub broken-shown : (b k : BenchState) (p : Position) → b ≡ k
-    → first_illegal_from 0 p b.study.tree.below ≡ first_illegal_from 0 p (plain_study (marked k)).tree.below
+    → first_illegal_from 0 p b.study.tree.below ≡ first_illegal_from 0 p (plain_study (marked_study k)).tree.below
 broken-shown b k p same =
     sym (broken-mapped (λ (l : NodeLabel). tt {0}) 0 p b.study.tree.below)
-    ∙ ap (λ (t : Plain (Unit {0})). first_illegal_from 0 p t.below) (sym (bare-marked b))
-    ∙ ap (λ (x : BenchState). first_illegal_from 0 p (plain_study (marked x)).tree.below) same
+    ∙ ap (λ (t : Plain (Unit {0})). first_illegal_from 0 p t.below) (sym (bare-marked_study b))
+    ∙ ap (λ (x : BenchState). first_illegal_from 0 p (plain_study (marked_study x)).tree.below) same
 
-pub broken-marked : (k : BenchState) (p : Position) → first_illegal_from 0 p (plain_study (marked k)).tree.below ≡ first_illegal_from 0 p (marked k).tree.below
-broken-marked k p = broken-mapped (λ (x : Mark). tt {0}) 0 p (marked k).tree.below
+pub broken-marked_study : (k : BenchState) (p : Position) → first_illegal_from 0 p (plain_study (marked_study k)).tree.below
+    ≡ first_illegal_from 0 p (marked_study k).tree.below
+broken-marked_study k p = broken-mapped (λ (x : Mark). tt {0}) 0 p (marked_study k).tree.below
 
 pub legal-shifted : (b k : BenchState) (p : Position) → b ≡ k
     → first_illegal_from 0 p b.study.tree.below ≡ None → IsPlayable p k.study.tree.below
@@ -56,18 +57,18 @@ module _ {A : Type 0} (held : Class → Bool) (asked : List Position) (b k : Ben
   pub shift-broken : (steps path found now : List ℕ) (r : Refusal A) → steps ≡ []
       → first_illegal_from 0 start.position b.study.tree.below ≡ Some path → found ≡ steps ++ path
       → now ≡ found
-      → (r ≡ refusal.ShiftBroken now) ⊎ (r ≡ refusal.OutOfMemory) → IsShiftRefusal held asked (shift_refusal (plain_study (marked k)) start) r
+      → (r ≡ refusal.ShiftBroken now) ⊎ (r ≡ refusal.OutOfMemory) → IsShiftRefusal held asked (shift_refusal (plain_study (marked_study k)) start) r
   shift-broken steps path found now r e h way is answer =
       let at : now ≡ path = is ∙ way ∙ ap (λ x. x ++ path) e in
-      let first : shift_refusal {A = A} (plain_study (marked k)) start ≡ Some (refusal.ShiftBroken path) =
+      let first : shift_refusal {A = A} (plain_study (marked_study k)) start ≡ Some (refusal.ShiftBroken path) =
       ap (broken {A = A}) (sym (broken-shown b k start.position same) ∙ h) in
       subst (λ o. IsShiftRefusal {A = A} held asked o r) (sym first) (elim answer [ inl x ↦ inl (x ∙ ap refusal.ShiftBroken at) | inr x ↦ inr x ])
 
   pub shift-outside : {T : Type 0} (r : Result T (Refusal A))
       → first_illegal_from 0 start.position b.study.tree.below ≡ None → IfErr r (IsOutside held asked)
-      → IfErr r (IsShiftRefusal held asked (shift_refusal (plain_study (marked k)) start))
+      → IfErr r (IsShiftRefusal held asked (shift_refusal (plain_study (marked_study k)) start))
   shift-outside r h o =
-      let first : shift_refusal {A = A} (plain_study (marked k)) start ≡ None = ap (broken {A = A}) (sym (broken-shown b k start.position same) ∙ h) in
+      let first : shift_refusal {A = A} (plain_study (marked_study k)) start ≡ None = ap (broken {A = A}) (sym (broken-shown b k start.position same) ∙ h) in
       subst (λ x. IfErr r (IsShiftRefusal {A = A} held asked x)) (sym first) o
 
 pub on-ok : {T E : Type 0} (r : Result T E) (P : Type 0) → P → OnOk r P

@@ -20,17 +20,17 @@ use Rattle.study_marks.specs.Study.{plain_study, mapped, moves_to, position_afte
 use Rattle.study_marks.specs.Edits.{PlainStudy, insert_refusal}
 use Rattle.study_marks.specs.Goals.{aim_of}
 use Rattle.study_marks.specs.Annotated.{AreAnnotated}
-use Rattle.study_marks.specs.BenchState.{BenchState, marked, mark_by_label, own_fault, mark_of_new_node, IsKeptRight}
+use Rattle.study_marks.specs.BenchState.{BenchState, marked_study, mark_by_label, own_fault, mark_of_new_node, IsKeptRight}
 use Rattle.study_marks.specs.Evaluated.{IsEvaluationOf, AreEvaluated}
 use Rattle.study_marks.specs.FaultSums.{evaluation_at}
 use Rattle.study_marks.specs.Trial.{trial_refusal, IsMarkOf}
 use Rattle.study_marks.proofs.SameShape.{has_node-mapped, moves_to-mapped}
-use Rattle.study_marks.proofs.BenchEdits.{bare-marked}
+use Rattle.study_marks.proofs.BenchEdits.{bare-marked_study}
 use Rattle.study_marks.proofs.MarksShown.{AllAreEvaluated-right, kept-move}
 use Rattle.study_marks.proofs.ChildrenChanged.{evaluated-spot}
 use Rattle.study_marks.proofs.PathRenewed.{there-spot}
-use Rattle.study_marks.proofs.Readers.{shown-spot}
-use Rattle.study_marks.proofs.InsertedMoves.{position-marked, chosen}
+use Rattle.study_marks.proofs.Readers.{shown_marks-spot}
+use Rattle.study_marks.proofs.InsertedMoves.{position-marked_study, chosen}
 use Rattle.study_marks.specs.Bench.{on_move_of}
 
 -- the first reason, checked in order
@@ -42,11 +42,11 @@ tried-same {A = A} found found' legal legal' a b = ap (λ x. tried {A = A} x leg
 
 pub trial-reason : {A : Type 0} (b k : BenchState) (steps : List ℕ) (m : Move) (found legal : Bool) → b ≡ k → has_spot b.study.tree steps ≡ found
     → is_legal (position_after b.study.start.position (moves_to b.study.tree.below steps)) m ≡ legal
-    → trial_refusal {A = A} (plain_study (marked k)) steps m ≡ tried found legal
+    → trial_refusal {A = A} (plain_study (marked_study k)) steps m ≡ tried found legal
 trial-reason {A = A} b k steps m found legal same e l =
     let p = b.study.start.position in
-    ap (λ (x : BenchState). trial_refusal {A = A} (plain_study (marked x)) steps m) (sym same)
-    ∙ ap (λ (t : Plain (Unit {0})). tried {A = A} (has_spot t steps) (is_legal (position_after p (moves_to t.below steps)) m)) (bare-marked b)
+    ap (λ (x : BenchState). trial_refusal {A = A} (plain_study (marked_study x)) steps m) (sym same)
+    ∙ ap (λ (t : Plain (Unit {0})). tried {A = A} (has_spot t steps) (is_legal (position_after p (moves_to t.below steps)) m)) (bare-marked_study b)
     ∙ tried-same _ found _ legal (has_node-mapped (λ (x : NodeLabel). tt {0}) b.study.tree.below steps ∙ e)
     (ap (λ ms. is_legal (position_after p ms) m) (moves_to-mapped (λ (x : NodeLabel). tt {0}) b.study.tree.below steps) ∙ l)
 
@@ -107,20 +107,20 @@ evaluated-node p q (more m l b r) (suc k ∷ ks) h t n = evaluated-node p q r (k
 
 -- the mark of the move, from the evaluation of the node
 pub tried-mark : (k : BenchState) (steps : List ℕ) (m : Move) (w : Value) (mark : Mark) (s : Spot NodeLabel) → spot_at k.study.tree steps ≡ Some s
-    → mark ≡ mark_of_new_node (aim_of k.study) (length steps) s.label.evaluated w → IsValueOf (after (position_at (marked k) steps) m) w → IsKeptRight k
-    → IsMarkOf (marked k) steps m mark
+    → mark ≡ mark_of_new_node (aim_of k.study) (length steps) s.label.evaluated w → IsValueOf (after (position_at (marked_study k) steps) m) w → IsKeptRight k
+    → IsMarkOf (marked_study k) steps m mark
 tried-mark k steps m w mark s there is game right = λ x seen.
     let t = k.study.tree in
     let a = aim_of k.study in
     let q = s.label.evaluated in
     let d = length steps in
-    let p = position_at (marked k) steps in
+    let p = position_at (marked_study k) steps in
     let old = AllAreEvaluated-right k right in
     let kept : IsEvaluationOf (position_at k.study steps) (evaluation_at t.label.evaluated t.below steps) =
     evaluated-node k.study.start.position t.label.evaluated t.below steps old.0 old.1 (there-spot t steps s there) in
-    let evaluated : IsEvaluationOf p q = subst (λ (y : Position). IsEvaluationOf y q) (position-marked k k steps steps refl refl)
+    let evaluated : IsEvaluationOf p q = subst (λ (y : Position). IsEvaluationOf y q) (position-marked_study k k steps steps refl refl)
     (subst (λ (u : Evaluation). IsEvaluationOf (position_at k.study steps) u) (evaluated-spot t steps s there) kept) in
-    let value : q.value ≡ x.label.value = same-value _ x (shown-spot k steps s (on_move_of (spot_at (marked k).tree steps)) there refl ∙ seen) in
+    let value : q.value ≡ x.label.value = same-value _ x (shown_marks-spot k steps s (on_move_of (spot_at (marked_study k).tree steps)) there refl ∙ seen) in
     let none_more : own_fault a d q w ≡ own_fault a d q w + 0 = omega arith in
     subst (λ (y : Mark). AreAnnotated a d p x.label.value (more m y none none)) (sym is)
     (subst (λ (v : Value). AreAnnotated a d p v (more m (mark_of_new_node a d q w) none none)) value

@@ -14,7 +14,7 @@ use Rattle.study_values.specs.declared.value.Value.TheVariants.{Win, Loss, Draw}
 use Rattle.study_values.specs.Game.{IsValueOf}
 use Rattle.study_values.specs.declared.values.ProbeFault.{ProbeFault}
 use Rattle.study_values.specs.declared.values.ProbeFault.TheVariants as probe
-use Rattle.study_text.specs.Counts.{counted}
+use Rattle.study_text.specs.Counts.{next_count}
 use Rattle.study_marks.specs.Annotated.{AreValuesAfter}
 use Rattle.study_marks.specs.MoveOutcomes.{MoveOutcomes, tally_of, with_value, with_last_value, tallies_joined}
 use Rattle.study_values.specs.Values.{page_number}
@@ -33,13 +33,13 @@ joined-with t u Draw =
 abbrev pub AreCounted : Position → List Move → MoveOutcomes → MoveOutcomes → Type 0
 AreCounted p ms old new = (all : List Value) × AreValuesAfter p ms all × (new ≡ tallies_joined old (tally_of all))
 
-pub counted-more : {T : Type 0} (p : Position) (m : Move) (ms rest : List Move) (v : Value) (old mid new : MoveOutcomes)
+pub next_count-more : {T : Type 0} (p : Position) (m : Move) (ms rest : List Move) (v : Value) (old mid new : MoveOutcomes)
     (r : Result T ProbeFault) → ms ≡ m ∷ rest → IsValueOf (after p m) v → mid ≡ with_last_value old v
     → OnOk r (AreCounted p rest mid new) → OnOk r (AreCounted p ms old new)
-counted-more p m ms rest v old mid new (Ok x) e g t h =
+next_count-more p m ms rest v old mid new (Ok x) e g t h =
     subst (λ (l : List Move). AreCounted p l old new) (sym e)
     (v ∷ h.0, (g, h.1), h.2 ∙ ap (λ u. tallies_joined u (tally_of h.0)) t ∙ joined-with old (tally_of h.0) v)
-counted-more p m ms rest v old mid new (Err f) e g t h = tt
+next_count-more p m ms rest v old mid new (Err f) e g t h = tt
 
 -- tables that are loaded
 pub held-evaluated : {V : Type 0} (held : Class → Bool) (p : Position) (r : Result V ProbeFault) (v : V) → r ≡ Ok v
@@ -106,7 +106,7 @@ no_value-more held now p ps a v (Ok x) e k same h = tt
 no_value-more held now p ps a v (Err f) e k same h = no_value-later held now p ps f (held-evaluated held p a v e k) same h
 
 -- the number of probes
-pub asked-more : (n : ℕ) (b : Bool) (old mid new : ℕ) → mid ≡ counted old → ProbeCount n b mid new → ProbeCount (suc n) b old new
+pub asked-more : (n : ℕ) (b : Bool) (old mid new : ℕ) → mid ≡ next_count old → ProbeCount n b mid new → ProbeCount (suc n) b old new
 asked-more n true old mid new e h = h ∙ ap (counted_up_by n) e
 asked-more n false old mid new e h = (suc h.0, (let z : suc h.0 < suc n = omega (arith, h.1) in z), h.2 ∙ ap (counted_up_by (suc h.0)) e)
 

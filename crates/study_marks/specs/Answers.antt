@@ -1,7 +1,7 @@
 -- The answers of values, probe after probe.
 use Rattle.std.specs.Prelude.{◌≡◌, ◌⊎◌, List, [], ◌∷◌, Ok, Err, IsErrOf}
 use Rattle.study_board.specs.Position.{Position, IsValid}
-use Rattle.study_text.specs.Counts.{counted}
+use Rattle.study_text.specs.Counts.{next_count}
 use Rattle.study_material.specs.declared.class.Class.{Class}
 use Rattle.study_material.specs.Class.{IsOf}
 use Rattle.study_values.specs.declared.value.Value.{Value}
@@ -20,7 +20,7 @@ module _ {V : Type 0} where
   pub record Answers (source : ValueSource V) (old : V) (p : Position) (answer : ProbeAnswer) (new : V) : Type 0 where
     pub valid : IsValid p
     pub given : source.gives old p answer
-    pub asked : source.asked_of new ≡ counted (source.asked_of old)
+    pub asked : source.asked_of new ≡ next_count (source.asked_of old)
     pub failed_so : (c : Class) (f : SourceFault) → IsOf c p → IsErrOf answer (probe.TableRead f) → source.may_fail old c f
     pub fails_as_before : (c : Class) (f : SourceFault) → source.may_fail new c f → source.may_fail old c f
 

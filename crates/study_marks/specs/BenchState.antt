@@ -45,19 +45,19 @@ mark_by_label a d q w = mark_of (hero_moves a d) (holds a d q.value) (holds a (d
 abbrev pub shown_mark : Aim → ℕ → Evaluation → NodeLabel → Mark
 shown_mark a d q l = record { value = l.evaluated.value; on_move = Some (mark_by_label a d q l.evaluated.value); faults = l.faults }
 
-abbrev pub shown : Aim → ℕ → Evaluation → Forest NodeLabel → Forest Mark
-shown a d q none = none
-shown a d q (more m l b r) = more m (shown_mark a d q l) (shown a (d + 1) l.evaluated b) (shown a d q r)
+abbrev pub shown_marks : Aim → ℕ → Evaluation → Forest NodeLabel → Forest Mark
+shown_marks a d q none = none
+shown_marks a d q (more m l b r) = more m (shown_mark a d q l) (shown_marks a (d + 1) l.evaluated b) (shown_marks a d q r)
 
 abbrev pub shown_root : NodeLabel → Mark
 shown_root l = record { value = l.evaluated.value; on_move = None; faults = l.faults }
 
 abbrev pub shown_tree : Aim → Plain NodeLabel → Plain Mark
-shown_tree a t = record { label = shown_root t.label; below = shown a 0 t.label.evaluated t.below }
+shown_tree a t = record { label = shown_root t.label; below = shown_marks a 0 t.label.evaluated t.below }
 
 -- the study with the marks that the readers show
-abbrev pub marked : BenchState → Study Mark
-marked k = record { start = k.study.start; stipulation = k.study.stipulation; tags = k.study.tags; tree = shown_tree (aim_of k.study) k.study.tree }
+abbrev pub marked_study : BenchState → Study Mark
+marked_study k = record { start = k.study.start; stipulation = k.study.stipulation; tags = k.study.tags; tree = shown_tree (aim_of k.study) k.study.tree }
 
 -- the tally of the game's values after each legal move
 abbrev pub IsTallied : Position → MoveOutcomes → Type 0
@@ -69,7 +69,7 @@ AreTallied p (more m l b r) = IsTallied (after p m) l.evaluated.tally × AreTall
 
 -- The marks are those of annotating from scratch, and the evaluations from which they are computed are right.
 pub record IsKeptRight (k : BenchState) : Type 0 where
-  pub marks : IsAnnotated (marked k)
+  pub marks : IsAnnotated (marked_study k)
   pub root : IsTallied k.study.start.position k.study.tree.label.evaluated.tally
   pub tallies : AreTallied k.study.start.position k.study.tree.below
 

@@ -4,7 +4,7 @@ use Rattle.std.specs.Prelude.{Option, None, Result, Ok, Err, IfErr, OnOk, OnErr,
 use Rattle.study_board.specs.Position.{Position}
 use Rattle.study_moves.specs.Rules.{after}
 use Rattle.study_material.specs.declared.class.Class.{Class}
-use Rattle.study_text.specs.Counts.{counted}
+use Rattle.study_text.specs.Counts.{next_count}
 use Rattle.study_tree.specs.Tree.{Plain, size_of, with_child, without, moved_up}
 use Rattle.study_marks.specs.declared.node_label.Evaluation.{Evaluation}
 use Rattle.study_marks.specs.declared.refusal.Refusal.{Refusal}
@@ -16,7 +16,7 @@ use Rattle.study_marks.specs.Study.{plain_study, position_at}
 use Rattle.study_marks.specs.Queries.{asked_at, positions_asked, AllHeld, IsOutside, HasAsked, HasStopped}
 use Rattle.study_marks.specs.Queries.{is_of_tables, is_of_device, counted_up_by, failures_after}
 use Rattle.study_marks.specs.Edits.{PlainStudy, with_start, edited, edit_refusal, insert_refusal, delete_refusal, promote_refusal, shift_refusal, tag_refusal}
-use Rattle.study_marks.specs.BenchState.{BenchState, marked, IsKeptRight, evaluation_tree}
+use Rattle.study_marks.specs.BenchState.{BenchState, marked_study, IsKeptRight, evaluation_tree}
 use Rattle.study_marks.specs.Answers.{TellsFirstFault}
 use Rattle.study_values.specs.Values.{ValueSource}
 use Rattle.study_values.specs.declared.fault.SourceFault.{SourceFault}
@@ -108,7 +108,7 @@ module _ {A : Type 0} where
   -- the count of failures rises exactly if the refusal is a device's
   abbrev pub failures_stopped : Result (Unit {0}) (Stopped A) → ℕ → ℕ
   failures_stopped (Ok x) old = old
-  failures_stopped (Err s) old = if is_of_device s.refusal then counted old else old
+  failures_stopped (Err s) old = if is_of_device s.refusal then next_count old else old
 
   -- after n of the edits, the next is refused with the fault of the first value that could not be read, of the values in their state then
   abbrev pub StopsAtFault : {V : Type 0} → ValueSource V → V → PlainStudy → List (Edit A)
@@ -128,13 +128,13 @@ module _ {A : Type 0} where
   -- Not part of any public contract: the effect of one edit of a bench, with the values before and after.
   pub record IsApplied {V : Type 0} (source : ValueSource V) (values values_now : V) (old new : BenchState) (e : Edit A)
       (r : Result (Unit {0}) (Refusal A)) : Type 0 where
-    pub refusal : IfErr r (IsRefusalOf (source.held values) (plain_study (marked old)) e)
-    pub accepted : OnOk r (IsAccepted (source.held values) (plain_study (marked old)) e)
-    pub edit : OnOk r (plain_study (marked new) ≡ edited (plain_study (marked old)) e)
+    pub refusal : IfErr r (IsRefusalOf (source.held values) (plain_study (marked_study old)) e)
+    pub accepted : OnOk r (IsAccepted (source.held values) (plain_study (marked_study old)) e)
+    pub edit : OnOk r (plain_study (marked_study new) ≡ edited (plain_study (marked_study old)) e)
     pub right : source.is_honest values → IsKeptRight old → OnOk r (IsKeptRight new)
     pub kept : OnOk r (IsKeptAfter (evaluation_tree old.study.tree) e (evaluation_tree new.study.tree))
-    pub labels : OnOk r (new.relabelled ≡ labels_after (plain_study (marked old)) e old.relabelled)
-    pub counts : HasAsked (length (questions_of (plain_study (marked old)) e)) r (source.asked_of values) (source.asked_of values_now)
+    pub labels : OnOk r (new.relabelled ≡ labels_after (plain_study (marked_study old)) e old.relabelled)
+    pub counts : HasAsked (length (questions_of (plain_study (marked_study old)) e)) r (source.asked_of values) (source.asked_of values_now)
     pub failures : source.failed_of values_now ≡ failures_after r (source.failed_of values)
     pub stays : source.is_honest values → source.is_honest values_now
     pub tables : (c : Class) → source.held values_now c ≡ source.held values c

@@ -7,7 +7,7 @@ use Rattle.study_values.specs.declared.values.ProbeFault.{ProbeFault}
 use Rattle.study_values.specs.declared.values.ProbeFault.TheVariants.{NoTable, TableRead, PageDamaged}
 use Rattle.study_moves.specs.Rules.{after}
 use Rattle.study_tree.specs.Forest.{Forest, none, more}
-use Rattle.study_text.specs.Counts.{counted}
+use Rattle.study_text.specs.Counts.{next_count}
 use Rattle.study_tree.specs.Tree.{Plain}
 use Rattle.study_marks.specs.declared.node_label.Evaluation.{Evaluation}
 use Rattle.study_marks.specs.Queries.{IsFirstMissing, IsFirstUnread, counted_up_by}
@@ -30,8 +30,8 @@ ProbeCount n false old new = (k : ℕ) × (k < n) × (new ≡ counted_up_by (suc
 abbrev pub failures_of : {T : Type 0} → Result T ProbeFault → ℕ → ℕ
 failures_of (Ok x) old = old
 failures_of (Err (NoTable c)) old = old
-failures_of (Err (TableRead f)) old = counted old
-failures_of (Err (PageDamaged c n)) old = counted old
+failures_of (Err (TableRead f)) old = next_count old
+failures_of (Err (PageDamaged c n)) old = next_count old
 
 -- the evaluation at each node is that of its position
 abbrev pub AreEvaluated : Position → Forest Evaluation → Type 0

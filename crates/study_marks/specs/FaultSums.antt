@@ -71,10 +71,10 @@ below_at (more m l b r) (zero ∷ ks) = below_at b ks
 below_at (more m l b r) (suc k ∷ ks) = below_at r (k ∷ ks)
 
 -- the nodes from a place on
-abbrev pub skipped : {L : Type 0} → ℕ → Forest L → Forest L
-skipped zero f = f
-skipped (suc k) none = none
-skipped (suc k) (more m l b r) = skipped k r
+abbrev pub siblings_from : {L : Type 0} → ℕ → Forest L → Forest L
+siblings_from zero f = f
+siblings_from (suc k) none = none
+siblings_from (suc k) (more m l b r) = siblings_from k r
 
 -- when a node is deleted: the faults of its successor that the parent did not count before
 abbrev pub faults_newly_first : Bool → ℕ → ℕ → ℕ

@@ -9,7 +9,7 @@ use Rattle.study_values.specs.Values.{page_number}
 use Rattle.study_values.specs.declared.values.ProbeFault.{ProbeFault}
 use Rattle.study_values.specs.declared.values.ProbeFault.TheVariants as probe
 use Rattle.study_tree.specs.Forest.{Forest, none, more}
-use Rattle.study_text.specs.Counts.{counted}
+use Rattle.study_text.specs.Counts.{next_count}
 use Rattle.study_marks.specs.declared.refusal.Refusal.{Refusal}
 use Rattle.study_marks.specs.declared.refusal.Refusal.TheVariants.{NoSuchNode, RootNotAllowed, AlreadyFirst, IllegalMove}
 use Rattle.study_marks.specs.declared.refusal.Refusal.TheVariants.{AlreadyThere, TooDeep, TreeFull, ShiftBroken, TagText}
@@ -106,7 +106,7 @@ module _ {A : Type 0} where
 -- a count, increased k times
 abbrev pub counted_up_by : ℕ → ℕ → ℕ
 counted_up_by zero n = n
-counted_up_by (suc k) n = counted_up_by k (counted n)
+counted_up_by (suc k) n = counted_up_by k (next_count n)
 
 -- values were probed up to one that could not be read, after some that were; or none was probed
 abbrev pub HasStopped : Bool → ℕ → ℕ → ℕ → Type 0
@@ -122,4 +122,4 @@ module _ {T A : Type 0} where
   -- the count of failures rises exactly if the refusal is a device's
   abbrev pub failures_after : Result T (Refusal A) → ℕ → ℕ
   failures_after (Ok x) old = old
-  failures_after (Err e) old = if is_of_device e then counted old else old
+  failures_after (Err e) old = if is_of_device e then next_count old else old

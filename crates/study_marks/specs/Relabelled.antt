@@ -19,29 +19,29 @@ abbrev pub evaluation_in : List Evaluation → ℕ → Evaluation → Evaluation
 evaluation_in all n t = slice_index_or all n t
 
 -- the same sibling nodes with the list's evaluations; the first of them is node n
-abbrev pub reevaluated : List Evaluation → ℕ → Forest Evaluation → Forest Evaluation
-reevaluated all n none = none
-reevaluated all n (more m t b r) = more m (evaluation_in all n t) (reevaluated all (n + 1) b) (reevaluated all (n + 1 + nodes_in b) r)
+abbrev pub with_evaluations : List Evaluation → ℕ → Forest Evaluation → Forest Evaluation
+with_evaluations all n none = none
+with_evaluations all n (more m t b r) = more m (evaluation_in all n t) (with_evaluations all (n + 1) b) (with_evaluations all (n + 1 + nodes_in b) r)
 
 -- the tree with the list's evaluations of its nodes; the root is node 0
 abbrev pub reevaluated_tree : List Evaluation → Plain Evaluation → Plain Evaluation
-reevaluated_tree all t = record { label = evaluation_in all 0 t.label; below = reevaluated all 1 t.below }
+reevaluated_tree all t = record { label = evaluation_in all 0 t.label; below = with_evaluations all 1 t.below }
 
 -- the same nodes with their faults; their moves are made at depth d at the node with the evaluation q
-abbrev pub refreshed : List Evaluation → Aim → ℕ → ℕ → Evaluation → Forest NodeLabel → Forest NodeLabel
-refreshed all a d n q none = none
-refreshed all a d n q (more m l b r) =
+abbrev pub with_faults : List Evaluation → Aim → ℕ → ℕ → Evaluation → Forest NodeLabel → Forest NodeLabel
+with_faults all a d n q none = none
+with_faults all a d n q (more m l b r) =
     more m
     (record {
       evaluated = evaluation_in all n l.evaluated;
       faults = own_fault a d q (evaluation_in all n l.evaluated).value + faults_below
-          (hero_moves a (d + 1)) (refreshed all a (d + 1) (n + 1) (evaluation_in all n l.evaluated) b);
+          (hero_moves a (d + 1)) (with_faults all a (d + 1) (n + 1) (evaluation_in all n l.evaluated) b);
     })
-    (refreshed all a (d + 1) (n + 1) (evaluation_in all n l.evaluated) b) (refreshed all a d (n + 1 + nodes_in b) q r)
+    (with_faults all a (d + 1) (n + 1) (evaluation_in all n l.evaluated) b) (with_faults all a d (n + 1 + nodes_in b) q r)
 
--- `refreshed`, as labels are written one after the other: a node begins with its own faults, and each child adds its count
-abbrev pub refreshing : List Evaluation → Aim → Pass NodeLabel
-refreshing all a = record {
+-- `with_faults`, as labels are written one after the other: a node begins with its own faults, and each child adds its count
+abbrev pub fault_pass : List Evaluation → Aim → Pass NodeLabel
+fault_pass all a = record {
   begun = λ l. record { evaluated = evaluation_in all 0 l.evaluated; faults = 0 };
   entered = λ d n q l. record { evaluated = evaluation_in all n l.evaluated; faults = own_fault a d q.evaluated (evaluation_in all n l.evaluated).value };
   joined = λ d k q l. record { evaluated = q.evaluated; faults = min (q.faults + counted_faults (hero_moves a d) k l.faults) (2 ^ 32 - 1) };

@@ -11,7 +11,7 @@ ghost use Rattle.study_marks.specs.Bench.{text_of};
 ghost use Rattle.study_marks.specs.Study.{plain_study, position_at, tag_index, IsPlayable};
 ghost use Rattle.study_tree.specs.Tree.{with_child, without, moved_up};
 ghost use Rattle.study_marks.specs.declared.node_label.Evaluation.{Evaluation as AnEvaluation};
-ghost use Rattle.study_marks.specs.BenchState.{marked, evaluation_tree, IsKeptRight};
+ghost use Rattle.study_marks.specs.BenchState.{marked_study, evaluation_tree, IsKeptRight};
 ghost use Rattle.study_marks.specs.Queries.{asked_at, positions_asked, is_of_tables, AllHeld, IsOutside, HasAsked, failures_after, counted_up_by};
 ghost use Rattle.study_marks.specs.EditLists.{AreKeptAfter, IsShiftRefusal, IsStopped, TellsStop, questions_of, AreAccepted, labels_by, HasAskedBy};
 ghost use Rattle.study_marks.specs.EditLists.{failures_stopped, IsApplied};
@@ -57,7 +57,7 @@ impl<'a, A: Allocator> Bench<'a, A> {
         ensures first { IfErr result
             (TellsFirstFault V.source values.old (asked_at start.position) values.new) }
         ensures found { OnOk result (AllHeld (V.source.held values.old) (asked_at start.position)) }
-        ensures made { IfOk result (λ b. plain_study (marked b) ≡ record {
+        ensures made { IfOk result (λ b. plain_study (marked_study b) ≡ record {
           start = start;
           stipulation = stipulation;
           tags = None ∷ None ∷ None ∷ None ∷ None ∷ None ∷ [];
@@ -105,7 +105,8 @@ impl<'a, A: Allocator> Bench<'a, A> {
             (TellsFirstFault V.source values.old (asked_at start.position) values.new) }
         ensures found { OnOk result (AllHeld (V.source.held values.old) (asked_at start.position)) }
         ensures edited { OnOk result
-            (plain_study (marked self.new) ≡ with_position (plain_study (marked self.old)) start) }
+            (plain_study (marked_study self.new) ≡ with_position
+            (plain_study (marked_study self.old)) start) }
         ensures right { V.source.is_honest values.old → OnOk result (IsKeptRight self.new) }
         ensures relabelled { OnOk result (self.new.relabelled ≡ 1) }
         ensures asked { HasAsked (length (asked_at start.position)) result
@@ -138,25 +139,26 @@ impl<'a, A: Allocator> Bench<'a, A> {
     ) -> Result<(), Refusal<'a, A>>
         // Many clauses: those of the study after the edit, and those of the values that it probes.
         ensures broken { OnOk result
-            (first_illegal_from 0 start.position (marked self.old).tree.below ≡ None) }
+            (first_illegal_from 0 start.position (marked_study self.old).tree.below ≡ None) }
         ensures refusal { IfErr result
             (IsShiftRefusal (V.source.held values.old)
-            (positions_asked (with_start (plain_study (marked self.old)) start))
-            (shift_refusal (plain_study (marked self.old)) start)) }
+            (positions_asked (with_start (plain_study (marked_study self.old)) start))
+            (shift_refusal (plain_study (marked_study self.old)) start)) }
         ensures edited { OnOk result
-            (plain_study (marked self.new) ≡ with_start (plain_study (marked self.old)) start) }
+            (plain_study (marked_study self.new) ≡ with_start
+            (plain_study (marked_study self.old)) start) }
         ensures right { V.source.is_honest values.old → OnOk result (IsKeptRight self.new) }
         ensures relabelled { OnOk result
             (self.new.relabelled
-            ≡ counted_up_by (size_of (marked self.old).tree) self.old.relabelled) }
+            ≡ counted_up_by (size_of (marked_study self.old).tree) self.old.relabelled) }
         ensures no_damage { V.source.is_honest values.old → IfErr result IsUndamaged }
         ensures first { IfErr result (TellsFirstFault V.source values.old
-            (positions_asked (with_start (plain_study (marked self.old)) start)) values.new) }
+            (positions_asked (with_start (plain_study (marked_study self.old)) start)) values.new) }
         ensures found { OnOk result
             (AllHeld (V.source.held values.old)
-            (positions_asked (with_start (plain_study (marked self.old)) start))) }
+            (positions_asked (with_start (plain_study (marked_study self.old)) start))) }
         ensures asked { HasAsked
-            (length (positions_asked (with_start (plain_study (marked self.old)) start))) result
+            (length (positions_asked (with_start (plain_study (marked_study self.old)) start))) result
             (V.source.asked_of values.old) (V.source.asked_of values.new) }
         ensures failures { V.source.failed_of values.new
             ≡ failures_after result (V.source.failed_of values.old) }
@@ -181,30 +183,32 @@ impl<'a, A: Allocator> Bench<'a, A> {
         values: &mut V,
     ) -> Result<u16, Refusal<'a, A>>
         // Many clauses: those of the study after the edit, and those of the values that it probes.
-        ensures refusal { MatchOption (insert_refusal (plain_study (marked self.old)) path.now m)
+        ensures refusal { MatchOption
+            (insert_refusal (plain_study (marked_study self.old)) path.now m)
             (IfErr result
             (IsOutside (V.source.held values.old)
-            (asked_at (after (position_at (marked self.old) path.now) m))))
+            (asked_at (after (position_at (marked_study self.old) path.now) m))))
             (λ fault. result ≡ Err fault) }
         ensures no_damage { V.source.is_honest values.old → IfErr result IsUndamaged }
         ensures first { IfErr result (TellsFirstFault V.source values.old
-            (asked_at (after (position_at (marked self.old) path.now) m)) values.new) }
+            (asked_at (after (position_at (marked_study self.old) path.now) m)) values.new) }
         ensures found { OnOk result
             (AllHeld (V.source.held values.old)
-            (asked_at (after (position_at (marked self.old) path.now) m))) }
+            (asked_at (after (position_at (marked_study self.old) path.now) m))) }
         ensures edited { OnOk result
-            (plain_study (marked self.new)
-            ≡ with_insertion (plain_study (marked self.old)) path.now m) }
+            (plain_study (marked_study self.new)
+            ≡ with_insertion (plain_study (marked_study self.old)) path.now m) }
         ensures kept { OnOk result ((evaluated : AnEvaluation)
             × (evaluation_tree self.new.study.tree
             ≡ with_child (evaluation_tree self.old.study.tree) path.now m evaluated)) }
-        ensures place { IfOk result (λ k. k ≡ children_at (marked self.old).tree.below path.now) }
+        ensures place { IfOk result
+            (λ k. k ≡ children_at (marked_study self.old).tree.below path.now) }
         ensures right { V.source.is_honest values.old → IsKeptRight self.old
             → OnOk result (IsKeptRight self.new) }
         ensures relabelled { OnOk result
             (self.new.relabelled ≡ counted_up_by (length path.now + 2) self.old.relabelled) }
         ensures asked { HasAsked
-            (length (asked_at (after (position_at (marked self.old) path.now) m))) result
+            (length (asked_at (after (position_at (marked_study self.old) path.now) m))) result
             (V.source.asked_of values.old)
             (V.source.asked_of values.new) }
         ensures failures { V.source.failed_of values.new
@@ -228,12 +232,12 @@ impl<'a, A: Allocator> Bench<'a, A> {
 
     /// Sets another stipulation.
     pub fn set_stipulation(&mut self, stipulation: Stipulation)
-        ensures edited { plain_study (marked self.new)
-            ≡ with_stipulation (plain_study (marked self.old)) stipulation }
+        ensures edited { plain_study (marked_study self.new)
+            ≡ with_stipulation (plain_study (marked_study self.old)) stipulation }
         ensures kept { evaluation_tree self.new.study.tree ≡ evaluation_tree self.old.study.tree }
         ensures right { IsKeptRight self.old → IsKeptRight self.new }
         ensures relabelled { self.new.relabelled
-            ≡ counted_up_by (size_of (marked self.old).tree) self.old.relabelled }
+            ≡ counted_up_by (size_of (marked_study self.old).tree) self.old.relabelled }
     {
         let aim = aim_of(&stipulation, self.start.position.to_move());
         relabel_all(&aim, &mut self.tree, &[]);
@@ -242,11 +246,12 @@ impl<'a, A: Allocator> Bench<'a, A> {
 
     /// Removes the node, with all nodes below it.
     pub fn delete(&mut self, path: &Path<'a, A>) -> Result<(), Refusal<'a, A>>
-        ensures refusal { MatchOption (delete_refusal (plain_study (marked self.old)) path.now)
+        ensures refusal { MatchOption
+            (delete_refusal (plain_study (marked_study self.old)) path.now)
             (IsOk result) (λ fault. result ≡ Err fault) }
         ensures edited { OnOk result
-            (plain_study (marked self.new)
-            ≡ with_deletion (plain_study (marked self.old)) path.now) }
+            (plain_study (marked_study self.new)
+            ≡ with_deletion (plain_study (marked_study self.old)) path.now) }
         ensures kept { OnOk result
             (evaluation_tree self.new.study.tree
             ≡ without (evaluation_tree self.old.study.tree) path.now) }
@@ -262,11 +267,12 @@ impl<'a, A: Allocator> Bench<'a, A> {
 
     /// Exchanges the node with the one before it.
     pub fn promote(&mut self, path: &Path<'a, A>) -> Result<(), Refusal<'a, A>>
-        ensures refusal { MatchOption (promote_refusal (plain_study (marked self.old)) path.now)
+        ensures refusal { MatchOption
+            (promote_refusal (plain_study (marked_study self.old)) path.now)
             (IsOk result) (λ fault. result ≡ Err fault) }
         ensures edited { OnOk result
-            (plain_study (marked self.new)
-            ≡ with_promotion (plain_study (marked self.old)) path.now) }
+            (plain_study (marked_study self.new)
+            ≡ with_promotion (plain_study (marked_study self.old)) path.now) }
         ensures kept { OnOk result
             (evaluation_tree self.new.study.tree
             ≡ moved_up (evaluation_tree self.old.study.tree) path.now) }
@@ -285,8 +291,8 @@ impl<'a, A: Allocator> Bench<'a, A> {
         ensures refusal { MatchOption (tag_refusal text.now) (IsOk result)
             (λ fault. result ≡ Err fault) }
         ensures edited { OnOk result
-            (plain_study (marked self.new)
-            ≡ with_tag (plain_study (marked self.old)) name text.now) }
+            (plain_study (marked_study self.new)
+            ≡ with_tag (plain_study (marked_study self.old)) name text.now) }
         ensures kept { self.new.study.tree ≡ self.old.study.tree }
         ensures right { IsKeptRight self.old → OnOk result (IsKeptRight self.new) }
         ensures relabelled { self.new.relabelled ≡ self.old.relabelled }
@@ -308,19 +314,19 @@ impl<'a, A: Allocator> Bench<'a, A> {
     pub fn reannotate<V: Values>(&mut self, values: &mut V) -> Result<(), Refusal<'a, A>>
         // Many clauses: those of the study after the edit, and those of the values that it probes.
         ensures refusal { IfErr result
-            (IsOutside (V.source.held values.old) (positions_asked (marked self.old))) }
+            (IsOutside (V.source.held values.old) (positions_asked (marked_study self.old))) }
         ensures study { OnOk result
-            (plain_study (marked self.new) ≡ plain_study (marked self.old)) }
+            (plain_study (marked_study self.new) ≡ plain_study (marked_study self.old)) }
         ensures right { V.source.is_honest values.old → OnOk result (IsKeptRight self.new) }
         ensures relabelled { OnOk result
             (self.new.relabelled
-            ≡ counted_up_by (size_of (marked self.old).tree) self.old.relabelled) }
+            ≡ counted_up_by (size_of (marked_study self.old).tree) self.old.relabelled) }
         ensures no_damage { V.source.is_honest values.old → IfErr result IsUndamaged }
         ensures first { IfErr result
-            (TellsFirstFault V.source values.old (positions_asked (marked self.old)) values.new) }
+            (TellsFirstFault V.source values.old (positions_asked (marked_study self.old)) values.new) }
         ensures found { OnOk result
-            (AllHeld (V.source.held values.old) (positions_asked (marked self.old))) }
-        ensures asked { HasAsked (length (positions_asked (marked self.old))) result
+            (AllHeld (V.source.held values.old) (positions_asked (marked_study self.old))) }
+        ensures asked { HasAsked (length (positions_asked (marked_study self.old))) result
             (V.source.asked_of values.old) (V.source.asked_of values.new) }
         ensures failures { V.source.failed_of values.new
             ≡ failures_after result (V.source.failed_of values.old) }
@@ -343,23 +349,24 @@ impl<'a, A: Allocator> Bench<'a, A> {
         // Many clauses: those of the study after the edit, and those of the values that it probes.
         ensures stopped { IfErr result (λ s.
             IsStopped (V.source.held values.old)
-            (plain_study (marked self.old)) edits.now s.done s.refusal) }
+            (plain_study (marked_study self.old)) edits.now s.done s.refusal) }
         ensures no_damage { V.source.is_honest values.old
             → IfErr result (λ s. IsUndamaged s.refusal) }
         ensures first { IfErr result
-            (TellsStop V.source values.old values.new (plain_study (marked self.old)) edits.now) }
-        ensures accepted { AreAccepted (V.source.held values.old) (plain_study (marked self.old))
+            (TellsStop V.source values.old values.new (plain_study (marked_study self.old)) edits.now) }
+        ensures accepted { AreAccepted (V.source.held values.old)
+            (plain_study (marked_study self.old))
             (accepted_of result edits.now) }
-        ensures edited { plain_study (marked self.new)
-            ≡ edited_by (plain_study (marked self.old)) (accepted_of result edits.now) }
+        ensures edited { plain_study (marked_study self.new)
+            ≡ edited_by (plain_study (marked_study self.old)) (accepted_of result edits.now) }
         ensures kept { AreKeptAfter (evaluation_tree self.old.study.tree)
             (accepted_of result edits.now) (evaluation_tree self.new.study.tree) }
         ensures right { V.source.is_honest values.old
             → IsKeptRight self.old → IsKeptRight self.new }
         ensures relabelled { self.new.relabelled
-            ≡ labels_by (plain_study (marked self.old))
+            ≡ labels_by (plain_study (marked_study self.old))
             (accepted_of result edits.now) self.old.relabelled }
-        ensures asked { HasAskedBy (plain_study (marked self.old)) edits.now result
+        ensures asked { HasAskedBy (plain_study (marked_study self.old)) edits.now result
             (V.source.asked_of values.old) (V.source.asked_of values.new) }
         ensures failures { V.source.failed_of values.new
             ≡ failures_stopped result (V.source.failed_of values.old) }
@@ -382,7 +389,7 @@ impl<'a, A: Allocator> Bench<'a, A> {
     /// The position of the node, if the move may be inserted there.
     fn check_insert(&self, steps: &[u16], m: &Move) -> Result<Position, Refusal<'a, A>>
         ensures refusal { MatchOption
-            (insert_refusal (plain_study (marked self.now)) steps.now m.now) (IsOk result)
+            (insert_refusal (plain_study (marked_study self.now)) steps.now m.now) (IsOk result)
             (λ fault. result ≡ Err fault) }
         ensures position { IfOk result (λ p. p ≡ position_at self.now.study steps.now) }
     {
@@ -405,21 +412,22 @@ impl<'a, A: Allocator> Bench<'a, A> {
         requires playable { IsPlayable start.position self.old.study.tree.below }
         ensures refusal { IfErr result
             (IsOutside (V.source.held values.old)
-            (positions_asked (with_start (plain_study (marked self.old)) start))) }
+            (positions_asked (with_start (plain_study (marked_study self.old)) start))) }
         ensures no_damage { V.source.is_honest values.old → IfErr result IsUndamaged }
         ensures first { IfErr result (TellsFirstFault V.source values.old
-            (positions_asked (with_start (plain_study (marked self.old)) start)) values.new) }
+            (positions_asked (with_start (plain_study (marked_study self.old)) start)) values.new) }
         ensures found { OnOk result
             (AllHeld (V.source.held values.old)
-            (positions_asked (with_start (plain_study (marked self.old)) start))) }
+            (positions_asked (with_start (plain_study (marked_study self.old)) start))) }
         ensures edited { OnOk result
-            (plain_study (marked self.new) ≡ with_start (plain_study (marked self.old)) start) }
+            (plain_study (marked_study self.new) ≡ with_start
+            (plain_study (marked_study self.old)) start) }
         ensures right { V.source.is_honest values.old → OnOk result (IsKeptRight self.new) }
         ensures relabelled { OnOk result
             (self.new.relabelled
-            ≡ counted_up_by (size_of (marked self.old).tree) self.old.relabelled) }
+            ≡ counted_up_by (size_of (marked_study self.old).tree) self.old.relabelled) }
         ensures asked { HasAsked
-            (length (positions_asked (with_start (plain_study (marked self.old)) start))) result
+            (length (positions_asked (with_start (plain_study (marked_study self.old)) start))) result
             (V.source.asked_of values.old) (V.source.asked_of values.new) }
         ensures failures { V.source.failed_of values.new
             ≡ failures_after result (V.source.failed_of values.old) }
@@ -444,7 +452,7 @@ impl<'a, A: Allocator> Bench<'a, A> {
             → V.source.may_fail values.old c f }
         ensures no_damage { V.source.is_honest values.old → IfErr result IsUndamaged }
         ensures first { IfErr result (TellsFirstFault V.source values.old
-            (questions_of (plain_study (marked self.old)) edit.now) values.new) }
+            (questions_of (plain_study (marked_study self.old)) edit.now) values.new) }
     {
         match edit {
             Edit::Position(start) => self.set_position(start.copied(), values),

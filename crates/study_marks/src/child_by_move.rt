@@ -4,7 +4,7 @@ ghost use Rattle.study_tree.specs.Edits.{children_at};
 ghost use Rattle.study_tree.specs.Tree.{plain_tree, has_spot, spot_at};
 ghost use Rattle.study_marks.specs.Study.{place_from, place_at};
 ghost use Rattle.study_marks.specs.Bench.{played_by};
-ghost use Rattle.study_marks.specs.FaultSums.{below_at, skipped};
+ghost use Rattle.study_marks.specs.FaultSums.{below_at, siblings_from};
 
 use crate::node_label::NodeLabel;
 use arrayvec::ArrayVec;
@@ -45,7 +45,7 @@ fn find_from<'a, A: Allocator>(
     requires within { place ≤ count }
     requires all { count ≡ children_at (plain_tree tree.now).below steps.now }
     ensures { result ≡ place_from place m.now
-        (skipped place (below_at (plain_tree tree.now).below steps.now)) }
+        (siblings_from place (below_at (plain_tree tree.now).below steps.now)) }
 {
     if place >= count {
         return None;

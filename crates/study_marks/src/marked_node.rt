@@ -26,7 +26,7 @@ impl<'t, 'a, A: Allocator> Model for MarkedNode<'t, 'a, A> {
     ghost use Rattle.study_tree.specs.Tree.{Plain};
     ghost use Rattle.study_marks.specs.declared.mark.Mark.{Mark as AMark};
     ghost use Rattle.study_marks.specs.Bench.{marked_code};
-    ghost use Rattle.study_marks.specs.BenchState.{shown};
+    ghost use Rattle.study_marks.specs.BenchState.{shown_marks};
 
     ghost Value = { Plain AMark };
 
@@ -34,7 +34,7 @@ impl<'t, 'a, A: Allocator> Model for MarkedNode<'t, 'a, A> {
 
     ghost view = { λ n. record {
       label = n.mark;
-      below = shown n.aim n.depth n.branch.label.evaluated n.branch.below;
+      below = shown_marks n.aim n.depth n.branch.label.evaluated n.branch.below;
     } };
 
     ghost invariant = { λ n. (n.depth ≤ 256) × IsWithin (256 - n.depth) n.branch.below };

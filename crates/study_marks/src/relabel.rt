@@ -61,9 +61,9 @@ struct RelabelPass<'r> {
 }
 
 impl<'r> Rewriting<NodeLabel> for RelabelPass<'r> {
-    ghost use Rattle.study_marks.specs.Relabelled.{refreshing};
+    ghost use Rattle.study_marks.specs.Relabelled.{fault_pass};
 
-    ghost pass = { λ s. refreshing s.all.now s.aim.now };
+    ghost pass = { λ s. fault_pass s.all.now s.aim.now };
 
     fn begin(&self, label: &mut NodeLabel) {
         set_evaluation(self.all, 0, &mut label.evaluated);

@@ -7,7 +7,7 @@ ghost use Rattle.study_tree.specs.Tree.{Spot, has_spot, spot_at};
 ghost use Rattle.study_marks.specs.declared.node_label.NodeLabel.{NodeLabel as ALabel};
 ghost use Rattle.study_marks.specs.Study.{plain_study, position_at};
 ghost use Rattle.study_marks.specs.Goals.{aim_of};
-ghost use Rattle.study_marks.specs.BenchState.{marked, mark_of_new_node, IsKeptRight};
+ghost use Rattle.study_marks.specs.BenchState.{marked_study, mark_of_new_node, IsKeptRight};
 ghost use Rattle.study_marks.specs.Queries.{AllHeld, IsOutside, HasAsked, failures_after};
 ghost use Rattle.study_marks.specs.Answers.{TellsFirstFault, IsUndamaged};
 ghost use Rattle.study_marks.specs.Trial.{trial_refusal, IsMarkOf};
@@ -34,20 +34,21 @@ impl<'a, A: Allocator> Bench<'a, A> {
         values: &mut V,
     ) -> Result<Mark, Refusal<'a, A>>
         // Many clauses: callers use each fact of the probes by itself.
-        ensures refusal { MatchOption (trial_refusal (plain_study (marked self.now)) path.now m)
+        ensures refusal { MatchOption
+            (trial_refusal (plain_study (marked_study self.now)) path.now m)
             (IfErr result
             (IsOutside (V.source.held values.old)
-            (after (position_at (marked self.now) path.now) m ∷ [])))
+            (after (position_at (marked_study self.now) path.now) m ∷ [])))
             (λ fault. result ≡ Err fault) }
         ensures takes_no_memory { IsErrOf result Refusal.OutOfMemory → ⊥ }
         ensures no_damage { V.source.is_honest values.old → IfErr result IsUndamaged }
         ensures first { IfErr result (TellsFirstFault V.source values.old
-            (after (position_at (marked self.now) path.now) m ∷ []) values.new) }
+            (after (position_at (marked_study self.now) path.now) m ∷ []) values.new) }
         ensures found { OnOk result
             (AllHeld (V.source.held values.old)
-            (after (position_at (marked self.now) path.now) m ∷ [])) }
+            (after (position_at (marked_study self.now) path.now) m ∷ [])) }
         ensures mark { V.source.is_honest values.old → IsKeptRight self.now
-            → IfOk result (IsMarkOf (marked self.now) path.now m) }
+            → IfOk result (IsMarkOf (marked_study self.now) path.now m) }
         ensures asked { HasAsked 1 result (V.source.asked_of values.old)
             (V.source.asked_of values.new) }
         ensures failures { V.source.failed_of values.new
@@ -66,7 +67,7 @@ impl<'a, A: Allocator> Bench<'a, A> {
     /// The position of the node, if the move is legal there.
     pub(crate) fn check_move(&self, steps: &[u16], m: &Move) -> Result<Position, Refusal<'a, A>>
         ensures refusal { MatchOption
-            (trial_refusal (plain_study (marked self.now)) steps.now m.now) (IsOk result)
+            (trial_refusal (plain_study (marked_study self.now)) steps.now m.now) (IsOk result)
             (λ fault. result ≡ Err fault) }
         ensures short { OnOk result (length steps.now ≤ 256) }
         ensures found { OnOk result (IsTrue (has_spot self.now.study.tree steps.now)) }

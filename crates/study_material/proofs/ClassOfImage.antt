@@ -15,15 +15,17 @@ use Rattle.study_board.specs.EqualLaws.{kind_self}
 use Rattle.study_board.specs.Symmetry.{turned_side, turned_man, turned_men}
 use Rattle.study_board.specs.Images.{differ}
 use Rattle.study_board.proofs.Coordinates.{same_side-turned}
-use Rattle.study_board.proofs.MenInOrder.{IsPermutation-placed}
-use Rattle.study_material.specs.Lists.{Lists, of, kind_place, kinds_of, lists, is_earlier, comes_before, lists_exchanged, is_exchanged, ordered, is_swapped}
+use Rattle.study_board.proofs.MenInOrder.{IsPermutation-insert_man}
+use Rattle.study_material.specs.Lists.{Lists, of, kind_place, kinds_of, lists, is_earlier, comes_before, lists_exchanged, is_exchanged, ordered_lists}
+use Rattle.study_material.specs.Lists.{is_swapped}
 use Rattle.study_material.proofs.KindCounts.{lists-IsPermutation}
 
 -- the men of an image are the men turned
 pub IsPermutation-turned : (t : Symmetry) (xs : List Man) → IsPermutation (map (turned_man t) xs) (turned_men t xs)
 IsPermutation-turned t [] = IsPermutation-refl []
 IsPermutation-turned t (x ∷ xs) =
-    IsPermutation-trans _ _ _ (IsPermutation-cons (turned_man t x) _ _ (IsPermutation-turned t xs)) (IsPermutation-placed (turned_man t x) (turned_men t xs))
+    IsPermutation-trans _ _ _ (IsPermutation-cons (turned_man t x) _ _ (IsPermutation-turned t xs))
+    (IsPermutation-insert_man (turned_man t x) (turned_men t xs))
 
 kinds_of-turned : (t : Symmetry) (side : Side) (xs : List Man) → kinds_of (turned_side t.colours side) (map (turned_man t) xs) ≡ kinds_of side xs
 kinds_of-turned t side [] = refl
@@ -204,20 +206,20 @@ compare_lists l = by_tests (is_exchanged l) (is_exchanged (lists_exchanged l)) r
     by_tests false true e f = white_first e f
     by_tests false false e f = equal e f (neither l.white l.black f e)
 
-pub ordered-exchanged : (l : Lists) → ordered (lists_exchanged l) ≡ ordered l
-ordered-exchanged l = elim (compare_lists l)
+pub ordered_lists-exchanged : (l : Lists) → ordered_lists (lists_exchanged l) ≡ ordered_lists l
+ordered_lists-exchanged l = elim (compare_lists l)
     [ black_first e f ↦ rw (f, e) refl | white_first e f ↦ rw (f, e) refl | equal e f s ↦ rw (f, e) (same l.white l.black s) ]
   where
     same : (xs ys : List Kind) → xs ≡ ys → of ys xs ≡ of xs ys
     same xs ys s = rw s refl
 
-pub ordered-turned : (c : Bool) (l : Lists) → ordered (turned_lists c l) ≡ ordered l
-ordered-turned true l = ordered-exchanged l
-ordered-turned false l = refl
+pub ordered_lists-turned : (c : Bool) (l : Lists) → ordered_lists (turned_lists c l) ≡ ordered_lists l
+ordered_lists-turned true l = ordered_lists-exchanged l
+ordered_lists-turned false l = refl
 
 -- the class of an image is that of the position
-pub ordered-image : (t : Symmetry) (xs : List Man) → ordered (lists (turned_men t xs)) ≡ ordered (lists xs)
-ordered-image t xs = ap (λ l. ordered l) (lists-image t xs) ∙ ordered-turned t.colours (lists xs)
+pub ordered_lists-image : (t : Symmetry) (xs : List Man) → ordered_lists (lists (turned_men t xs)) ≡ ordered_lists (lists xs)
+ordered_lists-image t xs = ap (λ l. ordered_lists l) (lists-image t xs) ∙ ordered_lists-turned t.colours (lists xs)
 
 -- the colours of an image are swapped for the class if exactly one of the position and the symmetry swaps them
 pub swapped-image : (t : Symmetry) (xs : List Man) → ((lists xs).white ≡ (lists xs).black → t.colours ≡ false)
@@ -229,5 +231,5 @@ swapped-image t xs h = ap (λ l. is_exchanged l) (lists-image t xs) ∙ by_colou
     by_colours true l h = elim (compare_lists l) [ black_first e f ↦ rw (f, e) | white_first e f ↦ rw (f, e) | equal e f s ↦ absurd (false≢true (sym (h s))) ]
 
 -- a class has its lists in order
-pub ordered-twice : (l : Lists) → is_exchanged (ordered l) ≡ false
-ordered-twice l = elim (compare_lists l) [ black_first e f ↦ rw (e, f) | white_first e f ↦ rw (e, e) | equal e f s ↦ rw (e, e) ]
+pub ordered_lists-twice : (l : Lists) → is_exchanged (ordered_lists l) ≡ false
+ordered_lists-twice l = elim (compare_lists l) [ black_first e f ↦ rw (e, f) | white_first e f ↦ rw (e, e) | equal e f s ↦ rw (e, e) ]

@@ -12,7 +12,7 @@ use Rattle.study_material.specs.declared.class.Class.TheVariants.{KBNK, KBPK, KN
 use Rattle.study_material.specs.declared.class.Class.TheVariants.{KQKB, KQKN, KQKP, KRKR, KRKB, KRKN, KRKP}
 use Rattle.study_material.specs.declared.class.Class.TheVariants.{KBKB, KBKN, KBKP, KNKN, KNKP, KPKP}
 use Rattle.study_board.specs.Position.{Position}
-use Rattle.study_material.specs.Lists.{Lists, of, lists, ordered}
+use Rattle.study_material.specs.Lists.{Lists, of, lists, ordered_lists}
 use Rattle.study_material.specs.Class.{lists_of, class_list, same_kinds, same_lists, IsOf, is_of}
 use Rattle.study_material.specs.Needs.{is_in}
 
@@ -107,7 +107,7 @@ Contains-is_in ds d k = go ds k.0 k.1 k.2
 
 -- the test is true exactly if the position is of the class
 pub IsOf-is_of : (c : Class) (p : Position) → is_of c p ≡ true → IsOf c p
-IsOf-is_of c p e = same_lists-equal (lists_of c) (ordered (lists p.men)) e
+IsOf-is_of c p e = same_lists-equal (lists_of c) (ordered_lists (lists p.men)) e
 
 pub is_of-IsOf : (c : Class) (p : Position) → IsOf c p → is_of c p ≡ true
 is_of-IsOf c p o = subst (λ (l : Lists). same_lists (lists_of c) l ≡ true) o (same_lists-self (lists_of c))

@@ -10,7 +10,7 @@ use Rattle.study_board.specs.declared.men.Kind.TheVariants.{King, Queen, Rook, B
 use Rattle.study_board.specs.Men.{same_kind}
 use Rattle.study_board.specs.Position.{Position, IsValid}
 use Rattle.study_material.specs.declared.class.Class.{Class}
-use Rattle.study_material.specs.Lists.{Lists, of, lists, ordered, is_other_than_king}
+use Rattle.study_material.specs.Lists.{Lists, of, lists, ordered_lists, is_other_than_king}
 use Rattle.study_material.specs.Class.{lists_of, class_list, same_lists, IsOf}
 use Rattle.study_material.proofs.Classes.{first, same_lists-equal}
 use Rattle.study_material.proofs.MenBesideKings.{lists-others, none_king, few_others}
@@ -42,25 +42,25 @@ at_officer p e Pawn h =
 abbrev man : Side → Kind → ℕ → Man
 man s k x = record { side = s; kind = k; at = x }
 
-one_has : (s : Side) (x : ℕ) → all_officers (λ k. has_class (ordered (lists (man s k x ∷ [])))) ≡ true
+one_has : (s : Side) (x : ℕ) → all_officers (λ k. has_class (ordered_lists (lists (man s k x ∷ [])))) ≡ true
 one_has White x = refl
 one_has Black x = refl
 
-two_have : (s t : Side) (x y : ℕ) → all_officers (λ k. all_officers (λ l. has_class (ordered (lists (man s k x ∷ man t l y ∷ []))))) ≡ true
+two_have : (s t : Side) (x y : ℕ) → all_officers (λ k. all_officers (λ l. has_class (ordered_lists (lists (man s k x ∷ man t l y ∷ []))))) ≡ true
 two_have White White x y = refl
 two_have White Black x y = refl
 two_have Black White x y = refl
 two_have Black Black x y = refl
 
-class_of_others : (xs : List Man) → length xs ≤ 2 → All (λ m. same_kind m.kind King ≡ false) xs → (c : Class) × (lists_of c ≡ ordered (lists xs))
+class_of_others : (xs : List Man) → length xs ≤ 2 → All (λ m. same_kind m.kind King ≡ false) xs → (c : Class) × (lists_of c ≡ ordered_lists (lists xs))
 class_of_others [] l h = a_class (of [] []) refl
 class_of_others (a ∷ []) l h =
-    a_class (ordered (lists (a ∷ []))) (at_officer (λ k. has_class (ordered (lists (man a.side k a.at ∷ []))))
+    a_class (ordered_lists (lists (a ∷ []))) (at_officer (λ k. has_class (ordered_lists (lists (man a.side k a.at ∷ []))))
     (one_has a.side a.at) a.kind (h 0 a (omega arith)))
 class_of_others (a ∷ b ∷ []) l h =
-    a_class (ordered (lists (a ∷ b ∷ [])))
-    (at_officer (λ k. has_class (ordered (lists (a ∷ man b.side k b.at ∷ []))))
-    (at_officer (λ j. all_officers (λ k. has_class (ordered (lists (man a.side j a.at ∷ man b.side k b.at ∷ [])))))
+    a_class (ordered_lists (lists (a ∷ b ∷ [])))
+    (at_officer (λ k. has_class (ordered_lists (lists (a ∷ man b.side k b.at ∷ []))))
+    (at_officer (λ j. all_officers (λ k. has_class (ordered_lists (lists (man a.side j a.at ∷ man b.side k b.at ∷ [])))))
     (two_have a.side b.side a.at b.at) a.kind (h 0 a (omega arith)))
     b.kind (h 1 b (omega arith)))
 class_of_others (a ∷ b ∷ x ∷ xs) l h = absurd (omega arith)
@@ -68,4 +68,4 @@ class_of_others (a ∷ b ∷ x ∷ xs) l h = absurd (omega arith)
 pub class_exists : (p : Position) → IsValid p → (c : Class) × IsOf c p
 class_exists p v =
     let r = class_of_others (filter is_other_than_king p.men) (few_others p v) (none_king p.men) in
-    (r.0, r.1 ∙ ap (λ l. ordered l) (lists-others p.men))
+    (r.0, r.1 ∙ ap (λ l. ordered_lists l) (lists-others p.men))

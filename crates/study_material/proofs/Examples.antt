@@ -6,9 +6,9 @@ use Rattle.study_board.specs.declared.men.Side.TheVariants.{White, Black}
 use Rattle.study_board.specs.declared.men.Kind.{Kind}
 use Rattle.study_board.specs.declared.men.Kind.TheVariants.{King, Queen, Rook, Bishop, Knight, Pawn}
 use Rattle.study_material.specs.declared.class.Class.TheVariants.{KPK, KQPK, KQKR}
-use Rattle.study_material.specs.Lists.{of, lists, comes_before, is_swapped, ordered}
+use Rattle.study_material.specs.Lists.{of, lists, comes_before, is_swapped, ordered_lists}
 use Rattle.study_material.specs.Class.{lists_of}
-use Rattle.study_material.specs.Needs.{lists_promoted, reached}
+use Rattle.study_material.specs.Needs.{lists_promoted, reached_lists}
 
 abbrev man : Side → Kind → ℕ → Man
 man s k a = record { side = s; kind = k; at = a }
@@ -18,7 +18,7 @@ pawn_and_queen : lists (man White King 0 ∷ man White Pawn 8 ∷ man White Quee
 pawn_and_queen = refl
 
 -- a rook against a queen is the class of the queen, with the colours swapped; a queen against a queen is not swapped
-rook_against_queen : ordered (lists (man White King 0 ∷ man White Rook 8 ∷ man Black Queen 9 ∷ man Black King 63 ∷ [])) ≡ lists_of KQKR
+rook_against_queen : ordered_lists (lists (man White King 0 ∷ man White Rook 8 ∷ man Black Queen 9 ∷ man Black King 63 ∷ [])) ≡ lists_of KQKR
 rook_against_queen = refl
 
 swapped : is_swapped (man White King 0 ∷ man White Rook 8 ∷ man Black Queen 9 ∷ man Black King 63 ∷ []) ≡ true
@@ -32,7 +32,7 @@ longer : comes_before (Pawn ∷ Pawn ∷ []) (Queen ∷ []) ≡ true
 longer = refl
 
 -- a pawn can be captured or promoted
-pawn : reached (lists_of KPK) ≡ of (Queen ∷ []) [] ∷ of (Rook ∷ []) [] ∷ of (Bishop ∷ []) [] ∷ of (Knight ∷ []) [] ∷ of [] [] ∷ []
+pawn : reached_lists (lists_of KPK) ≡ of (Queen ∷ []) [] ∷ of (Rook ∷ []) [] ∷ of (Bishop ∷ []) [] ∷ of (Knight ∷ []) [] ∷ of [] [] ∷ []
 pawn = refl
 
 -- one of two pawns is promoted

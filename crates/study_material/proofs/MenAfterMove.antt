@@ -9,9 +9,9 @@ use Rattle.study_board.specs.declared.men.Man.{Man}
 use Rattle.study_board.specs.Geometry.{file_of, rank_of}
 use Rattle.study_board.specs.Position.{Position, AllAbove, IsAscending}
 use Rattle.study_board.proofs.Lists.{count_by-cons, or_false}
-use Rattle.study_board.proofs.MenInOrder.{IsPermutation-placed}
+use Rattle.study_board.proofs.MenInOrder.{IsPermutation-insert_man}
 use Rattle.study_moves.specs.declared.moves.Move.{Move}
-use Rattle.study_moves.specs.Rules.{survives, moved, men_after, is_en_passant}
+use Rattle.study_moves.specs.Rules.{survives, moved_man, men_after, is_en_passant}
 
 -- a man that the move takes away, the mover included
 abbrev pub goes_away : Option ℕ → Man → ℕ → Man → Bool
@@ -99,7 +99,7 @@ count-taken passed man x xs h empty =
 -- the men before a move and after it
 pub record IsStep (p : Position) (man : Man) (m : Move) : Type 0 where
   pub before : IsPermutation p.men (filter (survives p.passed man m.target) p.men ++ filter (goes_away p.passed man m.target) p.men)
-  pub after : IsPermutation (moved man m ∷ filter (survives p.passed man m.target) p.men) (men_after p man m)
+  pub after : IsPermutation (moved_man man m ∷ filter (survives p.passed man m.target) p.men) (men_after p man m)
   pub few : length (filter (goes_away p.passed man m.target) p.men) ≤ 2
 
 pub IsStep-move : (p : Position) (man : Man) (m : Move) → IsAscending p.men
@@ -107,7 +107,7 @@ pub IsStep-move : (p : Position) (man : Man) (m : Move) → IsAscending p.men
 unfolding men_after survives
 IsStep-move p man m h empty = record {
   before = IsPermutation-filter_both (survives p.passed man m.target) (goes_away p.passed man m.target) (λ y. refl) p.men;
-  after = IsPermutation-placed (moved man m) (filter (survives p.passed man m.target) p.men);
+  after = IsPermutation-insert_man (moved_man man m) (filter (survives p.passed man m.target) p.men);
   few =
       (let few = count_by-either (goes_away p.passed man m.target) (λ y. y.at == man.at)
       (taken p.passed man m.target)

@@ -20,20 +20,20 @@ use Rattle.study_board.proofs.Lists.{not_true}
 use Rattle.study_board.proofs.Valid.{IsFaultless-from_first}
 use Rattle.study_board.proofs.Ascending.{IsAscending-filter}
 use Rattle.study_moves.specs.declared.moves.Move.{Move}
-use Rattle.study_moves.specs.Rules.{is_en_passant, is_square, has_side, survives, moved, is_legal, after, is_promotion_choice, is_promotion_piece}
+use Rattle.study_moves.specs.Rules.{is_en_passant, is_square, has_side, survives, moved_man, is_legal, after, is_promotion_choice, is_promotion_piece}
 use Rattle.study_moves.specs.Rules.{reaches_last_rank, last_rank}
 use Rattle.study_moves.specs.Alike.{Leads}
 use Rattle.study_moves.proofs.MenOfList.{IsAmong, none_among, IsAmong-filter, found_among}
 use Rattle.study_moves.proofs.NoMoveBetween.{HasMover-from_is_legal}
 use Rattle.study_moves.proofs.AfterMove.{IsMoveFrom-is_legal, IsValid-after}
 use Rattle.study_material.specs.declared.class.Class.{Class}
-use Rattle.study_material.specs.Lists.{Lists, of, put_kind, kinds_of, lists, ordered}
+use Rattle.study_material.specs.Lists.{Lists, of, put_kind, kinds_of, lists, ordered_lists}
 use Rattle.study_material.specs.Class.{IsOf}
-use Rattle.study_material.specs.Needs.{officers, reached, LeadsOn}
+use Rattle.study_material.specs.Needs.{officers, reached_lists, LeadsOn}
 use Rattle.study_board.specs.EqualLaws.{kinds_equal}
 use Rattle.study_material.proofs.KindCounts.{many, many-count, many-IsPermutation, lists-IsPermutation}
 use Rattle.study_material.proofs.EachHasClass.{class_exists}
-use Rattle.study_material.proofs.ClassOfImage.{ordered-exchanged}
+use Rattle.study_material.proofs.ClassOfImage.{ordered_lists-exchanged}
 use Rattle.study_material.proofs.MenBesideKings.{one_king}
 use Rattle.study_material.proofs.ReachedLists.{In, captured_by_white, promoted_by_white, both_by_white, by_white, by_black, needed}
 use Rattle.study_material.proofs.MenAfterMove.{goes_away, IsStep-move}
@@ -43,10 +43,10 @@ man s k a = record { side = s; kind = k; at = a }
 
 -- the lists stay, or are reached
 abbrev Goes : Lists → Lists → Type 0
-Goes l m = (m ≡ l) ⊎ In m (reached l)
+Goes l m = (m ≡ l) ⊎ In m (reached_lists l)
 
 -- a man is captured
-taken : (t : Side) (j : Kind) (b : ℕ) (xs : List Man) → same_kind j King ≡ false → In (lists xs) (reached (lists (man t j b ∷ xs)))
+taken : (t : Side) (j : Kind) (b : ℕ) (xs : List Man) → same_kind j King ≡ false → In (lists xs) (reached_lists (lists (man t j b ∷ xs)))
 taken White j b xs e =
     rw e
     (by_black (of (put_kind j (kinds_of White xs)) (kinds_of Black xs)) (of (kinds_of Black xs) (kinds_of White xs))
@@ -65,7 +65,8 @@ officer King e = absurd (false≢true e)
 officer Pawn e = absurd (false≢true e)
 
 -- a pawn is promoted
-promotes : (s : Side) (k : Kind) (a b : ℕ) (xs : List Man) → is_promotion_piece k ≡ true → In (lists (man s k b ∷ xs)) (reached (lists (man s Pawn a ∷ xs)))
+promotes : (s : Side) (k : Kind) (a b : ℕ) (xs : List Man) → is_promotion_piece k ≡ true
+    → In (lists (man s k b ∷ xs)) (reached_lists (lists (man s Pawn a ∷ xs)))
 promotes White k a b xs e =
     let o = officer k e in
     let none : same_kind k King ≡ false = o.1 in
@@ -82,7 +83,7 @@ promotes Black k a b xs e =
 -- a pawn captures and is promoted
 promotes_taking : (s t : Side) (k j : Kind) (a b d : ℕ) (xs : List Man) → is_promotion_piece k ≡ true
     → same_side t s ≡ false → same_kind j King ≡ false → same_kind j Pawn ≡ false
-    → In (lists (man s k b ∷ xs)) (reached (lists (man s Pawn a ∷ man t j d ∷ xs)))
+    → In (lists (man s k b ∷ xs)) (reached_lists (lists (man s Pawn a ∷ man t j d ∷ xs)))
 promotes_taking White Black k j a b d xs e h f g =
     let o = officer k e in
     let none : same_kind k King ≡ false = o.1 in
@@ -227,7 +228,7 @@ module _ (p : Position) (m : Move) (v : IsValid p) (legal : is_legal p m ≡ tru
       (IsPermutation-trans (left ++ gone) (gone ++ left) (mover ∷ more ++ left)
       (IsPermutation-append_comm left gone) (IsPermutation-append_left left gone (mover ∷ more) has_gone.are))
 
-  after_men : IsPermutation (moved mover m ∷ left) (after p m).men
+  after_men : IsPermutation (moved_man mover m ∷ left) (after p m).men
   unfolding after
   after_men = (let e = (HasMover-from_is_legal p m legal).here in rw e (IsStep-move p mover m v.ordered step_empty).after)
 
@@ -255,8 +256,8 @@ module _ (p : Position) (m : Move) (v : IsValid p) (legal : is_legal p m ≡ tru
           subst (λ ys. many x.side King (mover ∷ ys ++ left) ≡ 1) e
           (many-IsPermutation x.side King p.men (mover ∷ more ++ left) before ∙ one_before x.side)
 
-      counted_after : many x.side King (moved mover m ∷ left) ≡ 1
-      counted_after = sym (many-IsPermutation x.side King (moved mover m ∷ left) (after p m).men after_men) ∙ one_after x.side
+      counted_after : many x.side King (moved_man mover m ∷ left) ≡ 1
+      counted_after = sym (many-IsPermutation x.side King (moved_man mover m ∷ left) (after p m).men after_men) ∙ one_after x.side
 
       moved_king : (o : Option Kind) → is_promotion_choice (reaches_last_rank mover m.target) o ≡ true
           → is_man x.side King (moved_as o) ≡ true → is_man x.side King mover ≡ true
@@ -270,7 +271,7 @@ module _ (p : Position) (m : Move) (v : IsValid p) (legal : is_legal p m ≡ tru
           chosen true c = c
           chosen false c = absurd (false≢true c)
 
-      contradiction : (b d : Bool) → is_man x.side King mover ≡ b → is_man x.side King (moved mover m) ≡ d → is_man x.side King x ≡ true
+      contradiction : (b d : Bool) → is_man x.side King mover ≡ b → is_man x.side King (moved_man mover m) ≡ d → is_man x.side King x ≡ true
           → cond b (suc (cond true (suc (many x.side King left)) (many x.side King left))) (cond true (suc (many x.side King left)) (many x.side King left)) ≡ 1
           → cond d (suc (many x.side King left)) (many x.side King left) ≡ 1 → ⊥
       contradiction true d f g k a b = omega arith
@@ -281,7 +282,7 @@ module _ (p : Position) (m : Move) (v : IsValid p) (legal : is_legal p m ≡ tru
       by_king false f = refl
       by_king true f =
           let k : is_man x.side King x ≡ true = rw (same_side-self x.side, f) in
-          absurd (contradiction (is_man x.side King mover) (is_man x.side King (moved mover m)) refl refl k (rw k at counted_before) counted_after)
+          absurd (contradiction (is_man x.side King mover) (is_man x.side King (moved_man mover m)) refl refl k (rw k at counted_before) counted_after)
 
   -- if a pawn is promoted, the captured man stands on the target
   on_target : (x : Man) → more ≡ x ∷ [] → reaches_last_rank mover m.target ≡ true → IsAmong x p.men × (x.at ≡ m.target)
@@ -361,7 +362,7 @@ module _ (p : Position) (m : Move) (v : IsValid p) (legal : is_legal p m ≡ tru
   goes_on [] e l None c = inl refl
   goes_on [] e l (Some k) c =
       let end = ended (reaches_last_rank mover m.target) c in
-      inr (subst (λ j. In (lists (moved_as (Some k) ∷ left)) (reached (lists (man mover.side j mover.at ∷ left))))
+      inr (subst (λ j. In (lists (moved_as (Some k) ∷ left)) (reached_lists (lists (man mover.side j mover.at ∷ left))))
       (sym
       (kinds_equal mover.kind Pawn
       (and_parts (is_pawn mover) (rank_of m.target == last_rank mover.side) end.0).0))
@@ -372,7 +373,7 @@ module _ (p : Position) (m : Move) (v : IsValid p) (legal : is_legal p m ≡ tru
       ended false c = absurd (false≢true c)
   goes_on (x ∷ []) e l None c =
       inr
-      (subst (λ k. In (lists (mover ∷ left)) (reached k))
+      (subst (λ k. In (lists (mover ∷ left)) (reached_lists k))
       (lists-IsPermutation (mover ∷ x ∷ left) (x ∷ mover ∷ left)
       (IsPermutation-append_left left (mover ∷ x ∷ []) (x ∷ mover ∷ [])
       (IsPermutation-append_comm (mover ∷ []) (x ∷ []))))
@@ -381,7 +382,7 @@ module _ (p : Position) (m : Move) (v : IsValid p) (legal : is_legal p m ≡ tru
       let end = ended (reaches_last_rank mover m.target) c in
       let there = on_target x e end.0 in
       inr
-      (subst (λ j. In (lists (moved_as (Some k) ∷ left)) (reached (lists (man mover.side j mover.at ∷ x ∷ left))))
+      (subst (λ j. In (lists (moved_as (Some k) ∷ left)) (reached_lists (lists (man mover.side j mover.at ∷ x ∷ left))))
       (sym
       (kinds_equal mover.kind Pawn
       (and_parts (is_pawn mover) (rank_of m.target == last_rank mover.side) end.0).0))
@@ -396,7 +397,7 @@ module _ (p : Position) (m : Move) (v : IsValid p) (legal : is_legal p m ≡ tru
   lists_after : Goes (lists p.men) (lists (after p m).men)
   lists_after =
       let b : lists (mover ∷ more ++ left) ≡ lists p.men = lists-IsPermutation p.men (mover ∷ more ++ left) before in
-      let a : lists (after p m).men ≡ lists (moved mover m ∷ left) = lists-IsPermutation (moved mover m ∷ left) (after p m).men after_men in
+      let a : lists (after p m).men ≡ lists (moved_man mover m ∷ left) = lists-IsPermutation (moved_man mover m ∷ left) (after p m).men after_men in
       subst (λ l. Goes l (lists (after p m).men)) b (subst (λ k. Goes (lists (mover ∷ more ++ left)) k) (sym a)
       (goes_on more refl has_gone.one m.promoted (HasMover-from_is_legal p m legal).moves.choice))
 
@@ -407,7 +408,7 @@ moves_lead_on c p q v o l =
     subst (λ (r : Position). LeadsOn c r) l.2 (record {
       valid = w;
       of_class = elim (lists_after p l.0 v l.1) [
-        | inl e ↦ inl (o ∙ ap (λ k. ordered k) (sym e))
-        | inr i ↦ inr (d.0, needed c d.0 (lists p.men) (lists (after p l.0).men) o d.1 i (ordered-exchanged (lists (after p l.0).men)), d.1)
+        | inl e ↦ inl (o ∙ ap (λ k. ordered_lists k) (sym e))
+        | inr i ↦ inr (d.0, needed c d.0 (lists p.men) (lists (after p l.0).men) o d.1 i (ordered_lists-exchanged (lists (after p l.0).men)), d.1)
       ];
     })

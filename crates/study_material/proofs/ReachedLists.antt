@@ -6,10 +6,10 @@ use Rattle.std.proofs.lemmas.Bool.{false≢true}
 use Rattle.study_board.specs.declared.men.Kind.{Kind}
 use Rattle.study_board.specs.declared.men.Kind.TheVariants.{Pawn}
 use Rattle.study_material.specs.declared.class.Class.{Class}
-use Rattle.study_material.specs.Lists.{Lists, of, kind_place, put_kind, lists_exchanged, ordered, is_exchanged}
+use Rattle.study_material.specs.Lists.{Lists, of, kind_place, put_kind, lists_exchanged, ordered_lists, is_exchanged}
 use Rattle.study_material.specs.Class.{lists_of, same_lists}
 use Rattle.study_material.specs.Needs.{by_size, without_one, any_kind, is_pawn_kind, no_pawn, officers, lists_promoted, pairs}
-use Rattle.study_material.specs.Needs.{reached_by_white, reached, ordered_reached, has_lists, needs_of}
+use Rattle.study_material.specs.Needs.{reached_by_white, reached_lists, ordered_reached, has_lists, needs_of}
 use Rattle.study_material.proofs.Classes.{same_lists-self, is_in-Contains}
 use Rattle.study_material.proofs.NeedsTables.{size_table, by_size_is}
 use Rattle.study_material.proofs.InSize.{in_size_table}
@@ -98,19 +98,19 @@ both_by_white w b k j i e =
     (In-pairs (put_kind k w) b (lists_promoted (put_kind Pawn w)) (without_one no_pawn (put_kind j b)) (In-promoted k w i) (In-without no_pawn j b e))
 
 -- the lists reached by White's move, and by Black's
-pub by_white : (l m : Lists) → In m (reached_by_white l) → In m (reached l)
+pub by_white : (l m : Lists) → In m (reached_by_white l) → In m (reached_lists l)
 by_white l m i = In-left m (reached_by_white l) (map lists_exchanged (reached_by_white (lists_exchanged l))) i
 
-pub by_black : (l m : Lists) → In m (reached_by_white (lists_exchanged l)) → In (lists_exchanged m) (reached l)
+pub by_black : (l m : Lists) → In m (reached_by_white (lists_exchanged l)) → In (lists_exchanged m) (reached_lists l)
 by_black l m i = In-right (lists_exchanged m) (reached_by_white l) (map lists_exchanged (reached_by_white (lists_exchanged l)))
     (In-map lists_exchanged m (reached_by_white (lists_exchanged l)) i)
 
 -- the same for the lists exchanged
-exchanged_reached : (l m : Lists) → In m (reached l) → In (lists_exchanged m) (reached (lists_exchanged l))
+exchanged_reached : (l m : Lists) → In m (reached_lists l) → In (lists_exchanged m) (reached_lists (lists_exchanged l))
 exchanged_reached l m i = elim (In-cases m (reached_by_white l) (map lists_exchanged (reached_by_white (lists_exchanged l))) i) [
   | inl j ↦ by_black (lists_exchanged l) m j
   | inr j ↦ (let r = In-unmapped lists_exchanged m (reached_by_white (lists_exchanged l)) j in
-      subst (λ n. In n (reached (lists_exchanged l))) (sym (ap lists_exchanged r.2)) (by_white (lists_exchanged l) r.0 r.1))
+      subst (λ n. In n (reached_lists (lists_exchanged l))) (sym (ap lists_exchanged r.2)) (by_white (lists_exchanged l) r.0 r.1))
 ]
 
 list_any-In : {X : Type 0} (p : X → Bool) (z : X) (xs : List X) → In z xs → p z ≡ true → list_any p xs ≡ true
@@ -135,18 +135,18 @@ Contains-filter p cs d k e = go cs k.0 k.1 k.2
         later false h = h
 
 -- a class whose lists are reached is needed
-pub needed : (c d : Class) (l m : Lists) → lists_of c ≡ ordered l → lists_of d ≡ ordered m → In m (reached l)
-    → ordered (lists_exchanged m) ≡ ordered m → Contains (needs_of c) d
+pub needed : (c d : Class) (l m : Lists) → lists_of c ≡ ordered_lists l → lists_of d ≡ ordered_lists m → In m (reached_lists l)
+    → ordered_lists (lists_exchanged m) ≡ ordered_lists m → Contains (needs_of c) d
 unfolding needs_of ordered_reached
 needed c d l m e f i same =
     let r = by_order (is_exchanged l) in
-    let here : In (lists_of d) (map ordered (reached (lists_of c))) =
-    subst (λ k. In k (map ordered (reached (lists_of c)))) (r.2 ∙ sym f)
-    (In-map ordered r.0 (reached (lists_of c)) (subst (λ k. In r.0 (reached k)) (sym e) r.1)) in
-    Contains-filter (has_lists (map ordered (reached (lists_of c)))) by_size d
+    let here : In (lists_of d) (map ordered_lists (reached_lists (lists_of c))) =
+    subst (λ k. In k (map ordered_lists (reached_lists (lists_of c)))) (r.2 ∙ sym f)
+    (In-map ordered_lists r.0 (reached_lists (lists_of c)) (subst (λ k. In r.0 (reached_lists k)) (sym e) r.1)) in
+    Contains-filter (has_lists (map ordered_lists (reached_lists (lists_of c)))) by_size d
     (subst (λ ds. Contains ds d) (sym by_size_is) (is_in-Contains size_table d (in_size_table d)))
-    (list_any-In (λ k. same_lists k (lists_of d)) (lists_of d) (map ordered (reached (lists_of c))) here (same_lists-self (lists_of d)))
+    (list_any-In (λ k. same_lists k (lists_of d)) (lists_of d) (map ordered_lists (reached_lists (lists_of c))) here (same_lists-self (lists_of d)))
   where
-    by_order : (b : Bool) → (n : Lists) × In n (reached (cond b (lists_exchanged l) l)) × (ordered n ≡ ordered m)
+    by_order : (b : Bool) → (n : Lists) × In n (reached_lists (cond b (lists_exchanged l) l)) × (ordered_lists n ≡ ordered_lists m)
     by_order true = (lists_exchanged m, exchanged_reached l m i, same)
     by_order false = (m, i, refl)

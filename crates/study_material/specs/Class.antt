@@ -5,7 +5,7 @@ use Rattle.study_board.specs.declared.men.Kind.TheVariants.{King, Queen, Rook, B
 use Rattle.study_board.specs.Men.{same_kind}
 use Rattle.study_board.specs.Letters.{letter}
 use Rattle.study_board.specs.Position.{Position, IsValid}
-use Rattle.study_material.specs.Lists.{Lists, of, lists, ordered}
+use Rattle.study_material.specs.Lists.{Lists, of, lists, ordered_lists}
 use Rattle.study_material.specs.declared.class.Class.{Class}
 use Rattle.study_material.specs.declared.class.Class.TheVariants.{KK, KQK, KRK, KBK, KNK, KPK, KQQK, KQRK, KQBK}
 use Rattle.study_material.specs.declared.class.Class.TheVariants.{KQNK, KQPK, KRRK, KRBK, KRNK, KRPK, KBBK}
@@ -75,11 +75,11 @@ same_lists l m = same_kinds l.white m.white && same_kinds l.black m.black
 
 -- the position is of the class: its lists, exchanged if Black's comes first, are the lists of the class
 abbrev pub IsOf : Class → Position → Type 0
-IsOf c p = lists_of c ≡ ordered (lists p.men)
+IsOf c p = lists_of c ≡ ordered_lists (lists p.men)
 
 -- `IsOf` as a test
 abbrev pub is_of : Class → Position → Bool
-is_of c p = same_lists (lists_of c) (ordered (lists p.men))
+is_of c p = same_lists (lists_of c) (ordered_lists (lists p.men))
 
 -- the class with these lists, among some classes
 abbrev pub class_in : List Class → Lists → Class
@@ -88,7 +88,7 @@ class_in (c ∷ cs) l = if same_lists (lists_of c) l then c else class_in cs l
 
 -- the class of a position
 unfoldable pub class_found : Position → Class
-class_found p = class_in class_list (ordered (lists p.men))
+class_found p = class_in class_list (ordered_lists (lists p.men))
 
 -- the position is of exactly one class
 pub record HasOneClass (p : Position) : Type 0 where

@@ -60,8 +60,8 @@ abbrev pub is_exchanged : Lists → Bool
 is_exchanged l = comes_before l.black l.white
 
 -- the lists, exchanged if Black's comes first
-abbrev pub ordered : Lists → Lists
-ordered l = if is_exchanged l then lists_exchanged l else l
+abbrev pub ordered_lists : Lists → Lists
+ordered_lists l = if is_exchanged l then lists_exchanged l else l
 
 -- the colours are swapped for the class
 abbrev pub is_swapped : List Man → Bool

@@ -7,7 +7,7 @@ use Rattle.study_board.specs.Men.{same_kind}
 use Rattle.study_board.specs.Position.{Position, IsValid}
 use Rattle.study_moves.specs.Alike.{Leads}
 use Rattle.study_material.specs.declared.class.Class.{Class}
-use Rattle.study_material.specs.Lists.{Lists, of, put_kind, lists_exchanged, ordered}
+use Rattle.study_material.specs.Lists.{Lists, of, put_kind, lists_exchanged, ordered_lists}
 use Rattle.study_material.specs.Class.{lists_of, class_list, same_lists, IsOf}
 
 -- the number of pawns
@@ -60,12 +60,12 @@ reached_by_white l =
     ++ pairs (lists_promoted l.white) (without_one no_pawn l.black)
 
 -- the lists that are reached by a move of either side
-abbrev pub reached : Lists → List Lists
-reached l = reached_by_white l ++ map lists_exchanged (reached_by_white (lists_exchanged l))
+abbrev pub reached_lists : Lists → List Lists
+reached_lists l = reached_by_white l ++ map lists_exchanged (reached_by_white (lists_exchanged l))
 
 -- the lists that are reached, Black's list exchanged with White's if it comes first
 unfoldable pub ordered_reached : Class → List Lists
-ordered_reached c = map ordered (reached (lists_of c))
+ordered_reached c = map ordered_lists (reached_lists (lists_of c))
 
 -- the lists of the class are among these
 abbrev pub has_lists : List Lists → Class → Bool

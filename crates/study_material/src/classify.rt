@@ -2,7 +2,7 @@
 ghost use Rattle.std.specs.Prelude.{◌≡◌, ◌≤◌, true, false, [], ◌∷◌, filter, length};
 ghost use Rattle.study_board.specs.Men.{same_kind};
 ghost use Rattle.study_board.specs.declared.men.Kind.TheVariants.{King};
-ghost use Rattle.study_material.specs.Lists.{of, put_kind, comes_before, ordered, is_other_than_king, is_swapped, lists};
+ghost use Rattle.study_material.specs.Lists.{of, put_kind, comes_before, ordered_lists, is_other_than_king, is_swapped, lists};
 ghost use Rattle.std.specs.List.{All};
 ghost use Rattle.study_material.specs.Class.{lists_of, IsOf};
 
@@ -23,19 +23,19 @@ pub fn class_of(p: &Position) -> (Class, bool)
 fn class_of_others(men: &[Man]) -> (Class, bool)
     requires few { length men.now ≤ 2 }
     requires others { All (λ m. same_kind m.kind King ≡ false) men.now }
-    ensures class { lists_of result.0 ≡ ordered (lists men.now) }
+    ensures class { lists_of result.0 ≡ ordered_lists (lists men.now) }
     ensures swapped { result.1 ≡ is_swapped men.now }
 {
     match men {
         [] => (Class::KK, false),
-        [a] => (alone(a.kind), a.side == Side::Black),
+        [a] => (class_of_one(a.kind), a.side == Side::Black),
         [a, b] => {
             if a.side == b.side {
-                (together(a.kind, b.kind), a.side == Side::Black)
+                (class_of_two(a.kind, b.kind), a.side == Side::Black)
             } else if a.side == Side::White {
-                against(a.kind, b.kind)
+                class_of_each(a.kind, b.kind)
             } else {
-                against(b.kind, a.kind)
+                class_of_each(b.kind, a.kind)
             }
         }
         _ => unreachable!(),
@@ -59,7 +59,7 @@ fn others(men: &[Man]) -> ArrayVec<Man, 4>
 
 /// The class of one man beside the kings.
 #[inline]
-fn alone(kind: Kind) -> Class
+fn class_of_one(kind: Kind) -> Class
     requires { same_kind kind King ≡ false }
     ensures { lists_of result ≡ of (kind ∷ []) [] }
 {
@@ -75,7 +75,7 @@ fn alone(kind: Kind) -> Class
 
 /// The class of two men of one side beside the kings.
 #[inline]
-fn together(a: Kind, b: Kind) -> Class
+fn class_of_two(a: Kind, b: Kind) -> Class
     requires first { same_kind a King ≡ false }
     requires second { same_kind b King ≡ false }
     ensures { lists_of result ≡ of (put_kind a (put_kind b [])) [] }
@@ -102,10 +102,10 @@ fn together(a: Kind, b: Kind) -> Class
 
 /// The class of one man of each side beside the kings, and whether Black's comes first.
 #[inline]
-fn against(white: Kind, black: Kind) -> (Class, bool)
+fn class_of_each(white: Kind, black: Kind) -> (Class, bool)
     requires first { same_kind white King ≡ false }
     requires second { same_kind black King ≡ false }
-    ensures class { lists_of result.0 ≡ ordered (of (white ∷ []) (black ∷ [])) }
+    ensures class { lists_of result.0 ≡ ordered_lists (of (white ∷ []) (black ∷ [])) }
     ensures swapped { result.1 ≡ comes_before (black ∷ []) (white ∷ []) }
 {
     match (white, black) {

@@ -10,17 +10,17 @@ use arrayvec::ArrayVec;
 pub fn needs(class: Class) -> ArrayVec<Class, CLASS_COUNT>
     ensures { result.items ≡ needs_of class }
 {
-    listed(needed(class))
+    class_list(needs_of(class))
 }
 
 /// The class and all classes that it needs, directly or through others, each after those that it needs.
 pub fn order(class: Class) -> ArrayVec<Class, CLASS_COUNT>
     ensures { IsOrder class result.items }
 {
-    listed(ordered(class))
+    class_list(needs_in_order(class))
 }
 
-fn listed(classes: &[Class]) -> ArrayVec<Class, CLASS_COUNT>
+fn class_list(classes: &[Class]) -> ArrayVec<Class, CLASS_COUNT>
     requires { length classes.now ≤ 36 }
     ensures { result.items ≡ classes.now }
 {
@@ -33,7 +33,7 @@ fn listed(classes: &[Class]) -> ArrayVec<Class, CLASS_COUNT>
 
 /// The classes that a class needs.
 #[tactic(auto, using(crate::proofs::NeedsTables::needs_is))]
-fn needed(class: Class) -> &'static [Class]
+fn needs_of(class: Class) -> &'static [Class]
     ensures value { result.now ≡ needs_of class }
     ensures few { length result.now ≤ 36 }
 {
@@ -93,7 +93,7 @@ fn needed_by_both(class: Class) -> &'static [Class]
 }
 
 /// A class and all classes that it needs, in order.
-fn ordered(class: Class) -> &'static [Class]
+fn needs_in_order(class: Class) -> &'static [Class]
     ensures order { IsOrder class result.now }
     ensures few { length result.now ≤ 36 }
 {

@@ -20,14 +20,14 @@ use Rattle.study_board.specs.Position.{is_empty, has_man, has_one_king, is_end_p
 use Rattle.study_board.specs.Position.{in_check, could_be_passed, passed_possible}
 use Rattle.study_board.specs.EqualLaws.{sides_equal}
 use Rattle.study_board.proofs.Lists.{count_by-cons}
-use Rattle.study_board.proofs.Ascending.{IsAscending-filter, IsAscending-placed}
-use Rattle.study_board.proofs.MenInOrder.{All-placed, IsPermutation-placed}
+use Rattle.study_board.proofs.Ascending.{IsAscending-filter, IsAscending-insert_man}
+use Rattle.study_board.proofs.MenInOrder.{All-insert_man, IsPermutation-insert_man}
 use Rattle.study_board.proofs.Faults.{has_one_king_same, has_end_pawn_same, passed_possible_same}
 use Rattle.study_board.proofs.Valid.{IsFaultless, IsFaultless-from_first, first_fault-from_IsFaultless}
 use Rattle.std.proofs.lemmas.List.Sorted.{length_permutation}
 use Rattle.study_moves.specs.declared.moves.Move.{Move}
 use Rattle.study_moves.specs.Rules.{is_legal, is_legal_for, is_pseudo_legal, has_side, is_square, men_after}
-use Rattle.study_moves.specs.Rules.{survives, moved, passed_by, after_by, after, is_en_passant}
+use Rattle.study_moves.specs.Rules.{survives, moved_man, passed_by, after_by, after, is_en_passant}
 use Rattle.study_moves.specs.Rules.{half_way, is_promotion_choice, reaches_last_rank, last_rank}
 use Rattle.study_moves.proofs.MenFound.{fewer_stay}
 use Rattle.study_moves.proofs.NoMoveBetween.{IsMoveOf, HasMover-from_is_legal}
@@ -160,7 +160,7 @@ module _ (p : Position) (man : Man) (m : Move) (h : IsMoveFrom p man m) where
   those = filter (survives p.passed man m.target) p.men
 
   abbrev pub all_after : List Man
-  all_after = moved man m ∷ those
+  all_after = moved_man man m ∷ those
 
   faultless : IsFaultless p.men p.to_move p.passed
   faultless = IsFaultless-from_first p.men p.to_move p.passed h.valid.faultless
@@ -170,7 +170,7 @@ module _ (p : Position) (man : Man) (m : Move) (h : IsMoveFrom p man m) where
 
   pub permuted : IsPermutation all_after (men_after p man m)
   unfolding men_after
-  permuted = IsPermutation-placed (moved man m) those
+  permuted = IsPermutation-insert_man (moved_man man m) those
 
   -- no king is captured
   pub king_not_taken : (k : Man) → IsAmong k p.men → is_man (other_side p.to_move) King k ≡ true → k.at ≡ m.target → ⊥
@@ -240,9 +240,9 @@ module _ (p : Position) (man : Man) (m : Move) (h : IsMoveFrom p man m) where
       false≢true (sym (other_not_own p.to_move) ∙ rw his at own))
       (king_not_taken k i e))
       in
-      let whole = count_by-cons q (moved man m) those in
+      let whole = count_by-cons q (moved_man man m) those in
       let no : same_side man.side (other_side p.to_move) ≡ false = rw mine (not_own p.to_move) in
-      let none : q (moved man m) ≡ false = and_left _ _ no in
+      let none : q (moved_man man m) ≡ false = and_left _ _ no in
       let one = one_king (other_side p.to_move) in
       let total : count_by q all_after ≡ 1 = whole ∙ rw none (omega arith) in
       eq-eqb _ _ total
@@ -262,16 +262,16 @@ module _ (p : Position) (man : Man) (m : Move) (h : IsMoveFrom p man m) where
   own_king =
       let q : Man → Bool = is_man p.to_move King in
       let one = one_king p.to_move in
-      let whole = count_by-cons q (moved man m) those in
+      let whole = count_by-cons q (moved_man man m) those in
       let kind = promoted-king man m.target m.promoted h.moves.choice in
       let total : count_by q all_after ≡ 1 = elim (cases_Bool (same_kind man.kind King)) [
         | inl king ↦
-            let yes : q (moved man m) ≡ true = and_from _ _ h.moves.mine (kind ∙ king) in
+            let yes : q (moved_man man m) ≡ true = and_from _ _ h.moves.mine (kind ∙ king) in
             let leaves : survives p.passed man m.target man ≡ false = mover_leaves in
             let less = count_by-filter-less q (survives p.passed man m.target) p.men man h.among (and_from _ _ h.moves.mine king) leaves in
             whole ∙ rw yes (omega arith)
         | inr other ↦
-            let no : q (moved man m) ≡ false = and_right _ _ (kind ∙ other) in
+            let no : q (moved_man man m) ≡ false = and_right _ _ (kind ∙ other) in
             let kept = count_by-filter-kept q (survives p.passed man m.target) p.men (λ k i e.
             let b = and_parts (same_side k.side p.to_move) (same_kind k.kind King) e in
             king_stays k i b.1
@@ -293,13 +293,14 @@ module _ (p : Position) (man : Man) (m : Move) (h : IsMoveFrom p man m) where
       and_from _ _ (each White) (each Black)
 
   -- no pawn stands on an end rank
-  mover_inside : is_end_pawn (moved man m) ≡ false
+  mover_inside : is_end_pawn (moved_man man m) ≡ false
   unfolding is_end_pawn
   mover_inside = false_from_ne_true _ (λ e.
-      let a = and_parts (is_man White Pawn (moved man m) || is_man Black Pawn (moved man m)) ((rank_of m.target == 0) || (rank_of m.target == 7)) e in
-      let pawn : same_kind (moved man m).kind Pawn ≡ true = elim (or_cases (is_man White Pawn (moved man m)) (is_man Black Pawn (moved man m)) a.0) [
-        | inl w ↦ (and_parts (same_side man.side White) (same_kind (moved man m).kind Pawn) w).1
-        | inr b ↦ (and_parts (same_side man.side Black) (same_kind (moved man m).kind Pawn) b).1
+      let a = and_parts (is_man White Pawn (moved_man man m) || is_man Black Pawn (moved_man man m)) ((rank_of m.target == 0) || (rank_of m.target == 7)) e in
+      let pawn : same_kind (moved_man man m).kind Pawn ≡ true = elim (or_cases (is_man White Pawn (moved_man man m))
+      (is_man Black Pawn (moved_man man m)) a.0) [
+        | inl w ↦ (and_parts (same_side man.side White) (same_kind (moved_man man m).kind Pawn) w).1
+        | inr b ↦ (and_parts (same_side man.side Black) (same_kind (moved_man man m).kind Pawn) b).1
       ] in
       let still = still_pawn man m.target m.promoted h.moves.choice pawn in
       let not_last : (rank_of m.target == last_rank man.side) ≡ false = second_false (is_pawn man) (rank_of m.target == last_rank man.side) still.0 still.1 in
@@ -355,7 +356,7 @@ module _ (p : Position) (man : Man) (m : Move) (h : IsMoveFrom p man m) where
       could_pass all_after p.men p.to_move man.at m.target (subst S mine d)
       (empty_after (half_way man.at m.target) apart.over (λ k i _. empty_there p.men (half_way man.at m.target) k d.over i))
       (empty_after man.at apart.start (λ k i u e. left_there k u e))
-      (list_any-from (λ n. is_man p.to_move Pawn n && (n.at == m.target)) all_after (moved man m) (inl refl)
+      (list_any-from (λ n. is_man p.to_move Pawn n && (n.at == m.target)) all_after (moved_man man m) (inl refl)
       (and_from _ _ (and_from _ _ h.moves.mine (ap (λ v. same_kind v Pawn) kind ∙ pawn)) (eq-eqb m.target m.target refl)))
     where
       left_there : (k : Man) → survives p.passed man m.target k ≡ true → k.at ≡ man.at → ⊥
@@ -400,11 +401,11 @@ module _ (p : Position) (man : Man) (m : Move) (h : IsMoveFrom p man m) where
 
   ordered : IsAscending (men_after p man m)
   unfolding men_after
-  ordered = IsAscending-placed (moved man m) those (IsAscending-filter (survives p.passed man m.target) p.men h.valid.ordered) none_on_target
+  ordered = IsAscending-insert_man (moved_man man m) those (IsAscending-filter (survives p.passed man m.target) p.men h.valid.ordered) none_on_target
 
   on_board : All (λ k. k.at < 64) (men_after p man m)
   unfolding men_after
-  on_board = All-placed (moved man m) those h.moves.target (All-filter (survives p.passed man m.target) (λ k. k.at < 64) p.men h.valid.on_board)
+  on_board = All-insert_man (moved_man man m) those h.moves.target (All-filter (survives p.passed man m.target) (λ k. k.at < 64) p.men h.valid.on_board)
 
   pub IsValid-after_by : IsValid (after_by p man m)
   IsValid-after_by =

@@ -7,10 +7,10 @@ use Rattle.study_board.specs.declared.men.Man.{Man}
 use Rattle.study_board.specs.declared.symmetry.Symmetry.{Symmetry}
 use Rattle.study_board.specs.Position.{Position, IsValid}
 use Rattle.study_board.specs.Symmetry.{image, admits, keeps_pawns}
-use Rattle.study_board.proofs.ImagesValid.{list_any-placed}
+use Rattle.study_board.proofs.ImagesValid.{list_any-insert_man}
 use Rattle.study_board.proofs.ImagesOfImages.{IsTurnable-from_valid, IsImage-sym}
 use Rattle.study_moves.specs.declared.moves.Move.{Move}
-use Rattle.study_moves.specs.Rules.{is_legal, after, men_after, survives, moved, reaches_last_rank}
+use Rattle.study_moves.specs.Rules.{is_legal, after, men_after, survives, moved_man, reaches_last_rank}
 use Rattle.study_moves.specs.Symmetry.{image_move}
 use Rattle.study_moves.specs.Game.{IsLegal, IsMate}
 use Rattle.study_moves.specs.EnPassant.{has_legal_en_passant, without_passed, without_idle_passed_square}
@@ -37,10 +37,10 @@ no_pawn_after : (p : Position) (m : Move) → is_legal p m ≡ true → list_any
 unfolding after men_after
 no_pawn_after p m l e =
     let h = HasMover-from_is_legal p m l in
-    let none : is_pawn (moved h.man m) ≡ false =
-    no_pawn (is_pawn (moved h.man m)) (λ k. moved_pawn h.man m (reaches_last_rank h.man m.target) h.moves.choice k)
+    let none : is_pawn (moved_man h.man m) ≡ false =
+    no_pawn (is_pawn (moved_man h.man m)) (λ k. moved_pawn h.man m (reaches_last_rank h.man m.target) h.moves.choice k)
     (is_pawn h.man) (λ k. found_any is_pawn p.men m.origin h.man h.here k) in
-    rw (h.here, list_any-placed is_pawn (moved h.man m) (filter (survives p.passed h.man m.target) p.men), none)
+    rw (h.here, list_any-insert_man is_pawn (moved_man h.man m) (filter (survives p.passed h.man m.target) p.men), none)
     (none-filter is_pawn (survives p.passed h.man m.target) p.men e)
   where
     no_pawn : (b : Bool) → ((b ≡ true) → is_pawn (HasMover-from_is_legal p m l).man ≡ true) → (c : Bool)

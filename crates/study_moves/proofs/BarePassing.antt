@@ -13,14 +13,14 @@ use Rattle.study_board.specs.declared.men.Side.TheVariants.{White, Black}
 use Rattle.study_board.specs.declared.men.Kind.{Kind}
 use Rattle.study_board.specs.Geometry.{file_of, rank_of, files_apart}
 use Rattle.study_board.specs.Men.{same_side, other_side, pawn_captures, is_rank_ahead, attacks_square, is_pawn}
-use Rattle.study_board.specs.Position.{Position, IsValid, is_occupied, is_empty, in_check, man_at, placed, could_be_passed, passed_possible}
+use Rattle.study_board.specs.Position.{Position, IsValid, is_occupied, is_empty, in_check, man_at, insert_man, could_be_passed, passed_possible}
 use Rattle.study_board.proofs.Lists.{not_true, list_any_weaker}
 use Rattle.study_board.proofs.Valid.{IsFaultless-from_first, first_fault-from_IsFaultless}
 use Rattle.study_board.proofs.Coordinates.{and_under, eqb_then}
 use Rattle.study_moves.specs.declared.moves.Move.{Move}
 use Rattle.study_moves.specs.Rules.{has_side, is_square, is_ahead, starting_rank, last_rank, half_way}
 use Rattle.study_moves.specs.Rules.{pawn_steps, pawn_double_steps, pawn_takes, reaches_target}
-use Rattle.study_moves.specs.Rules.{is_promotion_choice, reaches_last_rank, is_en_passant, survives, moved, men_after}
+use Rattle.study_moves.specs.Rules.{is_promotion_choice, reaches_last_rank, is_en_passant, survives, moved_man, men_after}
 use Rattle.study_moves.specs.Rules.{is_pseudo_legal, is_legal_for, is_legal, after_by, after}
 use Rattle.study_moves.specs.Game.{HasNoMove, IsMate, IsStalemate, MatesWithin, IsMatedWithin}
 use Rattle.study_moves.specs.EnPassant.{is_capturable_en_passant, has_legal_en_passant, without_passed, without_idle_passed_square}
@@ -88,7 +88,8 @@ module _ (q : Option ℕ) (man : Man) (x : ℕ) (no : is_en_passant q man x ≡ 
 module _ (p : Position) (man : Man) (m : Move) (no : is_en_passant p.passed man m.target ≡ false) where
   pub men_after_bare : men_after (without_passed p) man m ≡ men_after p man m
   unfolding men_after
-  men_after_bare = ap (placed (moved man m)) (filter_agree (survives None man m.target) (survives p.passed man m.target) (stays_bare p.passed man m.target no)
+  men_after_bare = ap (insert_man (moved_man man m)) (filter_agree (survives None man m.target) (survives p.passed man m.target)
+      (stays_bare p.passed man m.target no)
       p.men)
 
   pub is_legal_for_bare : is_legal_for (without_passed p) man m ≡ is_legal_for p man m

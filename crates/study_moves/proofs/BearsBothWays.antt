@@ -7,7 +7,7 @@ use Rattle.study_board.specs.declared.men.Side.{Side}
 use Rattle.study_board.specs.declared.men.Side.TheVariants.{White, Black}
 use Rattle.study_board.specs.declared.men.Kind.{Kind}
 use Rattle.study_board.specs.declared.men.Kind.TheVariants.{King, Queen, Rook, Bishop, Knight, Pawn}
-use Rattle.study_board.specs.Geometry.{file_of, rank_of, apart, on_rook_line, on_bishop_line, knight_jump, king_step, is_between, strictly_between}
+use Rattle.study_board.specs.Geometry.{file_of, rank_of, distance_between, on_rook_line, on_bishop_line, knight_jump, king_step, is_between, strictly_between}
 use Rattle.study_board.specs.Men.{other_side, pawn_captures, is_blocked}
 use Rattle.study_board.specs.Sets.{reaches_if, is_blocked_past, bears_past}
 use Rattle.study_board.proofs.Faults.{list_any_same}
@@ -19,8 +19,8 @@ same_test false false f g = refl
 same_test true false f g = absurd (false≢true (f refl))
 same_test false true f g = absurd (false≢true (g refl))
 
-pub apart-both : (a b : ℕ) → apart a b ≡ apart b a
-apart-both a b = omega arith
+pub distance_between-both : (a b : ℕ) → distance_between a b ≡ distance_between b a
+distance_between-both a b = omega arith
 
 pub eqb-both : (a b : ℕ) → (a == b) ≡ (b == a)
 eqb-both a b = same_test (a == b) (b == a) (λ e. eq-eqb b a (sym (eqb-true a b e))) (λ e. eq-eqb a b (sym (eqb-true b a e)))
@@ -48,33 +48,36 @@ turned_round : (i j k : ℕ) → is_between i j k ≡ true → is_between k j i 
 turned_round i j k e = inside-to i j k (inside-from i j k e)
 
 -- on one file, or one rank
-straight : (u v w i j k : ℕ) → ((apart u v == 0) && (apart u w == 0) && is_between i j k) ≡ true
-    → ((apart w v == 0) && (apart w u == 0) && is_between k j i) ≡ true
+straight : (u v w i j k : ℕ) → ((distance_between u v == 0) && (distance_between u w == 0) && is_between i j k) ≡ true
+    → ((distance_between w v == 0) && (distance_between w u == 0) && is_between k j i) ≡ true
 straight u v w i j k e =
-    let a = and_parts ((apart u v == 0) && (apart u w == 0)) (is_between i j k) e in
-    let b = and_parts (apart u v == 0) (apart u w == 0) a.0 in
-    let c = eqb-true (apart u v) 0 b.0 in
-    let d = eqb-true (apart u w) 0 b.1 in
-    let f : apart w v ≡ 0 = omega arith in
-    let g : apart w u ≡ 0 = omega arith in
+    let a = and_parts ((distance_between u v == 0) && (distance_between u w == 0)) (is_between i j k) e in
+    let b = and_parts (distance_between u v == 0) (distance_between u w == 0) a.0 in
+    let c = eqb-true (distance_between u v) 0 b.0 in
+    let d = eqb-true (distance_between u w) 0 b.1 in
+    let f : distance_between w v ≡ 0 = omega arith in
+    let g : distance_between w u ≡ 0 = omega arith in
     and_from _ _ (and_from _ _ (eq-eqb _ _ f) (eq-eqb _ _ g)) (turned_round i j k a.1)
 
-steps_left : (u v w i j k : ℕ) → apart u v ≡ apart i j → apart u w ≡ apart i k → IsInside u v w → IsInside i j k → apart w v ≡ apart k j
+steps_left : (u v w i j k : ℕ) → distance_between u v ≡ distance_between i j → distance_between u w ≡ distance_between i k → IsInside u v w
+    → IsInside i j k → distance_between w v ≡ distance_between k j
 steps_left u v w i j k c d (inl g) (inl h) = omega arith
 steps_left u v w i j k c d (inl g) (inr h) = omega arith
 steps_left u v w i j k c d (inr g) (inl h) = omega arith
 steps_left u v w i j k c d (inr g) (inr h) = omega arith
 
-askew : (u v w i j k : ℕ) → ((apart u v == apart i j) && (apart u w == apart i k) && is_between u v w && is_between i j k) ≡ true
-    → ((apart w v == apart k j) && (apart w u == apart k i) && is_between w v u && is_between k j i) ≡ true
+askew : (u v w i j k : ℕ) → ((distance_between u v == distance_between i j) &&
+    (distance_between u w == distance_between i k) && is_between u v w && is_between i j k) ≡ true
+    → ((distance_between w v == distance_between k j) && (distance_between w u == distance_between k i) && is_between w v u && is_between k j i) ≡ true
 askew u v w i j k e =
-    let a = and_parts ((apart u v == apart i j) && (apart u w == apart i k) && is_between u v w) (is_between i j k) e in
-    let b = and_parts ((apart u v == apart i j) && (apart u w == apart i k)) (is_between u v w) a.0 in
-    let c = and_parts (apart u v == apart i j) (apart u w == apart i k) b.0 in
-    let l = eqb-true (apart u v) (apart i j) c.0 in
-    let m = eqb-true (apart u w) (apart i k) c.1 in
+    let a = and_parts ((distance_between u v == distance_between i j) && (distance_between u w == distance_between i k) && is_between u v w)
+    (is_between i j k) e in
+    let b = and_parts ((distance_between u v == distance_between i j) && (distance_between u w == distance_between i k)) (is_between u v w) a.0 in
+    let c = and_parts (distance_between u v == distance_between i j) (distance_between u w == distance_between i k) b.0 in
+    let l = eqb-true (distance_between u v) (distance_between i j) c.0 in
+    let m = eqb-true (distance_between u w) (distance_between i k) c.1 in
     let one = steps_left u v w i j k l m (inside-from u v w b.1) (inside-from i j k a.1) in
-    let two : apart w u ≡ apart k i = omega arith in
+    let two : distance_between w u ≡ distance_between k i = omega arith in
     and_from _ _ (and_from _ _ (and_from _ _ (eq-eqb _ _ one) (eq-eqb _ _ two)) (turned_round u v w b.1)) (turned_round i j k a.1)
 
 three : (b c d b' c' d' : Bool) → (b ≡ true → b' ≡ true) → (c ≡ true → c' ≡ true) → (d ≡ true → d' ≡ true) → ((b || c) || d) ≡ true → ((b' || c') || d') ≡ true
@@ -97,24 +100,24 @@ between-both a y x = same_test (strictly_between a y x) (strictly_between x y a)
 
 rook-both : (a x : ℕ) → on_rook_line a x ≡ on_rook_line x a
 unfolding on_rook_line
-rook-both a x = rw (apart-both (file_of a) (file_of x), apart-both (rank_of a) (rank_of x)) refl
+rook-both a x = rw (distance_between-both (file_of a) (file_of x), distance_between-both (rank_of a) (rank_of x)) refl
 
 bishop-both : (a x : ℕ) → on_bishop_line a x ≡ on_bishop_line x a
 unfolding on_bishop_line
-bishop-both a x = rw (apart-both (file_of a) (file_of x), apart-both (rank_of a) (rank_of x)) refl
+bishop-both a x = rw (distance_between-both (file_of a) (file_of x), distance_between-both (rank_of a) (rank_of x)) refl
 
 knight-both : (a x : ℕ) → knight_jump a x ≡ knight_jump x a
 unfolding knight_jump
-knight-both a x = rw (apart-both (file_of a) (file_of x), apart-both (rank_of a) (rank_of x)) refl
+knight-both a x = rw (distance_between-both (file_of a) (file_of x), distance_between-both (rank_of a) (rank_of x)) refl
 
 king-both : (a x : ℕ) → king_step a x ≡ king_step x a
 unfolding king_step
-king-both a x = rw (apart-both (file_of a) (file_of x), apart-both (rank_of a) (rank_of x)) refl
+king-both a x = rw (distance_between-both (file_of a) (file_of x), distance_between-both (rank_of a) (rank_of x)) refl
 
 captures-both : (side : Side) (a x : ℕ) → pawn_captures (other_side side) x a ≡ pawn_captures side a x
 unfolding pawn_captures
-captures-both White a x = rw (apart-both (file_of a) (file_of x), eqb-both (rank_of x) (rank_of a + 1)) refl
-captures-both Black a x = rw (apart-both (file_of a) (file_of x), eqb-both (rank_of x + 1) (rank_of a)) refl
+captures-both White a x = rw (distance_between-both (file_of a) (file_of x), eqb-both (rank_of x) (rank_of a + 1)) refl
+captures-both Black a x = rw (distance_between-both (file_of a) (file_of x), eqb-both (rank_of x + 1) (rank_of a)) refl
 
 pub reaches-both : (b : Bool) (side : Side) (kind : Kind) (a x : ℕ) → reaches_if b (other_side side) kind x a ≡ reaches_if b side kind a x
 unfolding reaches_if

@@ -3,7 +3,7 @@ use Rattle.std.proofs.Common.{◌≡◌, ℕ, ◌+◌, ◌<◌, Bool, true, fals
 use Rattle.std.specs.List.{filter}
 use Rattle.std.proofs.lemmas.Bool.Decides.{nat_tests}
 use Rattle.study_board.specs.declared.men.Man.{Man}
-use Rattle.study_board.specs.Position.{AllAbove, IsAscending, placed}
+use Rattle.study_board.specs.Position.{AllAbove, IsAscending, insert_man}
 use Rattle.study_moves.specs.MenInOrder.{lower_man, higher_man}
 
 -- the men that pass the test, with a man carried through them and left below the first that stands above it, which is then carried on
@@ -23,15 +23,16 @@ through q c (x ∷ xs) h a =
       | false ↦ through q c xs h.1 a.1
     ]
 
-pub carried-placed : (q : Man → Bool) (z : Man) (xs : List Man) → IsAscending xs → carried_into q z xs ≡ placed z (filter q xs)
-carried-placed q z [] a = refl
-carried-placed q z (x ∷ xs) a =
-    elim (q x) as (λ b. cond b (lower_man z x ∷ carried_into q (higher_man z x) xs) (carried_into q z xs) ≡ placed z (cond b (x ∷ filter q xs) (filter q xs))) [
-      | true ↦ elim (nat_lt x.at z.at) as (λ b. cond b x z ∷ carried_into q (cond b z x) xs ≡ cond b (x ∷ placed z (filter q xs)) (z ∷ x ∷ filter q xs)) [
-        | true ↦ ap (λ ys. x ∷ ys) (carried-placed q z xs a.1)
+pub carried-insert_man : (q : Man → Bool) (z : Man) (xs : List Man) → IsAscending xs → carried_into q z xs ≡ insert_man z (filter q xs)
+carried-insert_man q z [] a = refl
+carried-insert_man q z (x ∷ xs) a =
+    elim (q x) as (λ b. cond b (lower_man z x ∷ carried_into q (higher_man z x) xs) (carried_into q z xs)
+    ≡ insert_man z (cond b (x ∷ filter q xs) (filter q xs))) [
+      | true ↦ elim (nat_lt x.at z.at) as (λ b. cond b x z ∷ carried_into q (cond b z x) xs ≡ cond b (x ∷ insert_man z (filter q xs)) (z ∷ x ∷ filter q xs)) [
+        | true ↦ ap (λ ys. x ∷ ys) (carried-insert_man q z xs a.1)
         | false ↦ ap (λ ys. z ∷ ys) (through q x xs a.0 a.1)
       ]
-      | false ↦ carried-placed q z xs a.1
+      | false ↦ carried-insert_man q z xs a.1
     ]
 
 -- one man more than those that pass

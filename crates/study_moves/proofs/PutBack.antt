@@ -3,8 +3,8 @@ use Rattle.std.proofs.Common.{◌≡◌, ℕ, ◌==◌, nat_lt, Bool, true, fals
 use Rattle.std.specs.List.{filter, list_any}
 use Rattle.std.proofs.lemmas.Bool.{false≢true, and_parts, and_from, cases_Bool, eqb-true, eq-eqb, ne_eqb, lt-ltb, le-ltb, not_from_false, not_from_true}
 use Rattle.study_board.specs.declared.men.Man.{Man}
-use Rattle.study_board.specs.Position.{AllAbove, IsAscending, is_occupied, placed, man_at}
-use Rattle.study_board.proofs.ImagesValid.{list_any-placed, man_at-placed}
+use Rattle.study_board.specs.Position.{AllAbove, IsAscending, is_occupied, insert_man, man_at}
+use Rattle.study_board.proofs.ImagesValid.{list_any-insert_man, man_at-insert_man}
 use Rattle.study_moves.specs.Rules.{survives}
 use Rattle.study_moves.specs.Unmoves.{set_back, men_before}
 use Rattle.study_moves.proofs.MenOfList.{IsAmong, IsAmong-filter, above_among, none_among}
@@ -16,29 +16,29 @@ filter_all : (q : Man → Bool) (xs : List Man) → ((m : Man) → IsAmong m xs 
 filter_all q [] h = refl
 filter_all q (x ∷ xs) h = rw (h x (inl refl)) (ap (λ ys. x ∷ ys) (filter_all q xs (λ m i. h m (inr i))))
 
-filter_dropped : (q : Man → Bool) (z : Man) (xs : List Man) → q z ≡ false → filter q (placed z xs) ≡ filter q xs
+filter_dropped : (q : Man → Bool) (z : Man) (xs : List Man) → q z ≡ false → filter q (insert_man z xs) ≡ filter q xs
 filter_dropped q z [] e = rw e refl
 filter_dropped q z (x ∷ xs) e =
-    elim (nat_lt x.at z.at) as (λ b. filter q (cond b (x ∷ placed z xs) (z ∷ x ∷ xs)) ≡ filter q (x ∷ xs)) [
-      | true ↦ elim (q x) as (λ b. cond b (x ∷ filter q (placed z xs)) (filter q (placed z xs)) ≡ cond b (x ∷ filter q xs) (filter q xs)) [
+    elim (nat_lt x.at z.at) as (λ b. filter q (cond b (x ∷ insert_man z xs) (z ∷ x ∷ xs)) ≡ filter q (x ∷ xs)) [
+      | true ↦ elim (q x) as (λ b. cond b (x ∷ filter q (insert_man z xs)) (filter q (insert_man z xs)) ≡ cond b (x ∷ filter q xs) (filter q xs)) [
         | true ↦ ap (λ ys. x ∷ ys) (filter_dropped q z xs e)
         | false ↦ filter_dropped q z xs e
       ]
       | false ↦ rw e refl
     ]
 
-placed_below : (z : Man) (xs : List Man) → AllAbove z.at xs → placed z xs ≡ z ∷ xs
+placed_below : (z : Man) (xs : List Man) → AllAbove z.at xs → insert_man z xs ≡ z ∷ xs
 placed_below z [] h = refl
 placed_below z (x ∷ xs) h = rw (le-ltb x.at z.at (omega (arith, h.0))) refl
 
-pub IsAmong-placed : (z : Man) (xs : List Man) → IsAmong z (placed z xs)
-IsAmong-placed z [] = inl refl
-IsAmong-placed z (x ∷ xs) =
-    elim (nat_lt x.at z.at) as (λ b. IsAmong z (cond b (x ∷ placed z xs) (z ∷ x ∷ xs))) [ true ↦ inr (IsAmong-placed z xs) | false ↦ inl refl ]
+pub IsAmong-insert_man : (z : Man) (xs : List Man) → IsAmong z (insert_man z xs)
+IsAmong-insert_man z [] = inl refl
+IsAmong-insert_man z (x ∷ xs) =
+    elim (nat_lt x.at z.at) as (λ b. IsAmong z (cond b (x ∷ insert_man z xs) (z ∷ x ∷ xs))) [ true ↦ inr (IsAmong-insert_man z xs) | false ↦ inl refl ]
 
 -- the only man that a filter takes off, put back
 put_back : (q : Man → Bool) (man : Man) (xs : List Man) → IsAscending xs → IsAmong man xs → q man ≡ false
-    → ((m : Man) → IsAmong m xs → (m.at ≡ man.at → ⊥) → q m ≡ true) → placed man (filter q xs) ≡ xs
+    → ((m : Man) → IsAmong m xs → (m.at ≡ man.at → ⊥) → q m ≡ true) → insert_man man (filter q xs) ≡ xs
 put_back q man [] h i e k = absurd i
 put_back q man (x ∷ xs) h (inl s) e k =
     let out : q x ≡ false = ap q s ∙ e in
@@ -99,7 +99,7 @@ module _ (men : List Man) (man : Man) (a : ℕ) (h : CanBeMoved men man a) where
   mover_leaves = stays_plain man a man ∙ rw (eq-eqb man.at man.at refl) refl
 
   -- the man put back among the others
-  pub others_and_man : placed man others ≡ men
+  pub others_and_man : insert_man man others ≡ men
   others_and_man = put_back (survives None man a) man men h.ordered h.among mover_leaves (λ m i t. stays-from man a m t (no_man_on_origin m i))
 
   -- taken back, and played again
@@ -118,7 +118,7 @@ module _ (men : List Man) (man : Man) (a : ℕ) (h : CanBeMoved men man a) where
   pub occupied_before : (x : ℕ) → is_occupied (men_before men man a) x ≡ ((a == x) || ((not (x == man.at) && not (x == a)) && is_occupied men x))
   unfolding is_occupied men_before
   occupied_before x =
-      list_any-placed (λ m. m.at == x) (set_back man a) others
+      list_any-insert_man (λ m. m.at == x) (set_back man a) others
       ∙ ap (λ (b : Bool). (a == x) || b)
       (filter_any (λ m. m.at == x) (survives None man a) men
       ∙ list_any_same (λ m. survives None man a m && (m.at == x)) (λ m. (not (x == man.at) && not (x == a)) && (m.at == x)) same men
@@ -152,4 +152,4 @@ module _ (men : List Man) (man : Man) (a : ℕ) (h : CanBeMoved men man a) where
 
   pub man_at_origin : man_at (men_before men man a) a ≡ Some (set_back man a)
   unfolding men_before
-  man_at_origin = man_at-placed (set_back man a) others a ∙ rw (eq-eqb a a refl) refl
+  man_at_origin = man_at-insert_man (set_back man a) others a ∙ rw (eq-eqb a a refl) refl

@@ -11,11 +11,11 @@ use Rattle.study_board.specs.declared.men.Side.TheVariants.{White, Black}
 use Rattle.study_board.specs.declared.men.Kind.{Kind}
 use Rattle.study_board.specs.declared.men.Kind.TheVariants.{King}
 use Rattle.study_board.specs.Men.{same_side, other_side, is_man, is_pawn}
-use Rattle.study_board.specs.Position.{Position, IsValid, IsAscending, is_occupied, placed, man_at, has_one_king, has_end_pawn, is_end_pawn, in_check}
+use Rattle.study_board.specs.Position.{Position, IsValid, IsAscending, is_occupied, insert_man, man_at, has_one_king, has_end_pawn, is_end_pawn, in_check}
 use Rattle.study_board.specs.EqualLaws.{sides_equal}
-use Rattle.study_board.proofs.Ascending.{IsAscending-filter, IsAscending-placed}
-use Rattle.study_board.proofs.MenInOrder.{All-placed}
-use Rattle.study_board.proofs.ImagesValid.{list_any-placed, count_by-placed, length-placed}
+use Rattle.study_board.proofs.Ascending.{IsAscending-filter, IsAscending-insert_man}
+use Rattle.study_board.proofs.MenInOrder.{All-insert_man}
+use Rattle.study_board.proofs.ImagesValid.{list_any-insert_man, count_by-insert_man, length-insert_man}
 use Rattle.study_board.proofs.Valid.{IsFaultless, IsFaultless-from_first, first_fault-from_IsFaultless}
 use Rattle.study_moves.specs.declared.moves.Move.{Move}
 use Rattle.study_moves.specs.Rules.{is_legal, reaches_target, survives, men_after, after, is_promotion_choice, reaches_last_rank}
@@ -27,7 +27,7 @@ use Rattle.study_moves.proofs.MenOfList.{found_among, All-among, same_square, ha
 use Rattle.study_moves.proofs.NoMoveBetween.{HasMover, HasMover-from_is_legal}
 use Rattle.study_moves.proofs.AfterMove.{other_twice}
 use Rattle.study_moves.proofs.SafeTargets.{legal_from}
-use Rattle.study_moves.proofs.PutBack.{CanBeMoved, IsAmong-placed, others_and_man, back_and_forth, target_is_empty}
+use Rattle.study_moves.proofs.PutBack.{CanBeMoved, IsAmong-insert_man, others_and_man, back_and_forth, target_is_empty}
 use Rattle.study_moves.proofs.PutBack.{man_at_origin, occupied_before, no_man_on_origin, apart_from_origin}
 use Rattle.study_moves.proofs.QuietChecks.{same_side-self, no_side_there, in_check_before}
 use Rattle.study_moves.proofs.QuietGoes.{going, stands_inside, coming, not_last}
@@ -36,7 +36,7 @@ and_false : (b : Bool) → (b && false) ≡ false
 and_false true = refl
 and_false false = refl
 
-pub men_before_is : (men : List Man) (man : Man) (a : ℕ) → placed (set_back man a) (filter (survives None man a) men) ≡ men_before men man a
+pub men_before_is : (men : List Man) (man : Man) (a : ℕ) → insert_man (set_back man a) (filter (survives None man a) men) ≡ men_before men man a
 unfolding men_before
 men_before_is men man a = refl
 
@@ -91,14 +91,14 @@ module _ (q : Position) (valid : IsValid q) (man : Man) (a : ℕ) (h : CameFrom 
   pub tested_alike : (p : Man → Bool) → p z ≡ p man → list_any p (men_before q.men man a) ≡ list_any p q.men
   unfolding men_before
   tested_alike p e =
-      list_any-placed p z ys ∙ rw e (sym (list_any-placed p man ys)) ∙ ap (λ (xs : List Man). list_any p xs) (others_and_man q.men man a movable)
+      list_any-insert_man p z ys ∙ rw e (sym (list_any-insert_man p man ys)) ∙ ap (λ (xs : List Man). list_any p xs) (others_and_man q.men man a movable)
 
   pub counted_alike : (t : Side) (k : Kind) → count_by (is_man t k) (men_before q.men man a) ≡ count_by (is_man t k) q.men
   unfolding men_before
   counted_alike t k =
       let p = is_man t k in
-      let now = ap (λ (xs : List Man). count_by p xs) (sym (others_and_man q.men man a movable)) ∙ count_by-placed p man ys in
-      count_by-placed p z ys ∙ sym now
+      let now = ap (λ (xs : List Man). count_by p xs) (sym (others_and_man q.men man a movable)) ∙ count_by-insert_man p man ys in
+      count_by-insert_man p z ys ∙ sym now
 
   kings_kept : (t : Side) → has_one_king (men_before q.men man a) t ≡ has_one_king q.men t
   unfolding has_one_king
@@ -107,7 +107,7 @@ module _ (q : Position) (valid : IsValid q) (man : Man) (a : ℕ) (h : CameFrom 
   no_end_pawn : has_end_pawn (men_before q.men man a) ≡ false
   unfolding has_end_pawn men_before
   no_end_pawn =
-      list_any-placed is_end_pawn z ys
+      list_any-insert_man is_end_pawn z ys
       ∙ or_from _ _ (stands_inside q.men man a movable on_square comes_so)
       (list_any-none is_end_pawn ys (λ k i. let r = IsAmong-filter (survives None man a) q.men k i in none_among
       is_end_pawn q.men k (faultless q valid).pawns r.0))
@@ -122,19 +122,19 @@ module _ (q : Position) (valid : IsValid q) (man : Man) (a : ℕ) (h : CameFrom 
 
   ordered : IsAscending (men_before q.men man a)
   unfolding men_before
-  ordered = IsAscending-placed z ys (IsAscending-filter (survives None man a) q.men valid.ordered) none_there
+  ordered = IsAscending-insert_man z ys (IsAscending-filter (survives None man a) q.men valid.ordered) none_there
 
   on_board : All (λ k. k.at < 64) (men_before q.men man a)
   unfolding men_before
-  on_board = All-placed z ys h.on (All-filter (survives None man a) (λ k. k.at < 64) q.men valid.on_board)
+  on_board = All-insert_man z ys h.on (All-filter (survives None man a) (λ k. k.at < 64) q.men valid.on_board)
 
   few : nat_lt 4 (length (men_before q.men man a)) ≡ false
   unfolding men_before
   few =
       let less = fewer_stay None man a q.men occupied in
       let most = ltb-false 4 (length q.men) (faultless q valid).few in
-      let long = length-placed z ys in
-      le-ltb 4 (length (placed z ys)) (omega arith)
+      let long = length-insert_man z ys in
+      le-ltb 4 (length (insert_man z ys)) (omega arith)
 
   pub IsValid-before : IsValid (position_before q man a)
   IsValid-before =
@@ -240,7 +240,7 @@ module _ (q : Position) (by : Move) (p : Position) (valid : IsValid q) (e : Lead
   unfolding men_before
   among_now =
       let P : List Man → Type 0 = λ xs. IsAmong then xs in
-      subst P men_now (IsAmong-placed then (filter (survives None man by.target) p.men))
+      subst P men_now (IsAmong-insert_man then (filter (survives None man by.target) p.men))
 
   free_now : is_occupied q.men man.at ≡ false
   free_now = ap (λ (xs : List Man). is_occupied xs man.at) (sym men_now) ∙ target_is_empty p.men man by.target movable_on

@@ -11,7 +11,7 @@ use Rattle.study_board.specs.Men.{same_side, other_side, is_man, is_attacked, at
 use Rattle.study_board.specs.Position.{is_occupied, in_check}
 use Rattle.study_board.specs.Sets.{is_slider, bears_past}
 use Rattle.study_board.proofs.Lists.{list_any_weaker}
-use Rattle.study_board.proofs.MenInOrder.{IsPermutation-placed}
+use Rattle.study_board.proofs.MenInOrder.{IsPermutation-insert_man}
 use Rattle.study_board.proofs.Faults.{list_any_same, in_check_same}
 use Rattle.study_moves.specs.Rules.{has_side, survives}
 use Rattle.study_moves.specs.KingSafety.{threatened_past, threatens}
@@ -101,7 +101,7 @@ module _ (men : List Man) (man : Man) (a : ℕ) (free : is_occupied men a ≡ fa
   unfolding in_check was_check men_before is_occupied
   in_check_before =
       let other : same_side man.side side ≡ false = own_not man.side side his in
-      sym (in_check_same (z ∷ ys) _ (IsPermutation-placed z ys) side)
+      sym (in_check_same (z ∷ ys) _ (IsPermutation-insert_man z ys) side)
       ∙ rw other
       (filter_any (λ k. is_man side King k && is_attacked (z ∷ ys) (other_side side) k.at) (survives None man a) men
       ∙ any_same_where (λ y. y.at == a)

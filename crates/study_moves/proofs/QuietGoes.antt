@@ -11,7 +11,7 @@ use Rattle.study_board.specs.Geometry.{strictly_between, rank_of, file_of}
 use Rattle.study_board.specs.Men.{same_side, same_kind, other_side, is_blocked, attacks_square, pawn_captures, is_pawn}
 use Rattle.study_board.specs.Position.{is_empty, is_end_pawn}
 use Rattle.study_board.specs.Sets.{reaches_if, is_blocked_past}
-use Rattle.study_board.proofs.MenInOrder.{IsPermutation-placed}
+use Rattle.study_board.proofs.MenInOrder.{IsPermutation-insert_man}
 use Rattle.study_board.proofs.Faults.{list_any_same, is_blocked_same}
 use Rattle.study_moves.specs.Rules.{is_ahead, starting_rank, half_way, pawn_steps, pawn_double_steps, pawn_takes, reaches_target, survives}
 use Rattle.study_moves.specs.Rules.{reaches_last_rank, last_rank}
@@ -122,7 +122,7 @@ module _ (men : List Man) (man : Man) (a : ℕ) (h : CanBeMoved men man a) where
   unfolding men_before is_blocked_past is_blocked
   blocked_before =
       let end : strictly_between a a man.at ≡ false = between-both a a man.at ∙ not_at_end man.at a in
-      sym (is_blocked_same (z ∷ ys) _ (IsPermutation-placed z ys) a man.at)
+      sym (is_blocked_same (z ∷ ys) _ (IsPermutation-insert_man z ys) a man.at)
       ∙ blocked_after men None man a man.side z refl (same_side-self man.side) (none_passed None man a refl) (no_side_there men man.side a h.free) a man.at
       ∙ rw end
       (list_any_same (λ y. not (y.at == man.at) && strictly_between a y.at man.at) (λ y. strictly_between a y.at man.at) there men

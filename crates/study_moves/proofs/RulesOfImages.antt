@@ -15,20 +15,20 @@ use Rattle.study_board.specs.declared.symmetry.Symmetry.{Symmetry}
 use Rattle.study_board.specs.Geometry.{file_of, rank_of, ranks_apart, files_apart}
 use Rattle.study_board.specs.Men.{same_side, other_side, same_kind, pawn_captures, is_rank_ahead, attacks_square, is_pawn}
 use Rattle.study_board.specs.Position.{Position, is_empty, in_check, man_at}
-use Rattle.study_board.specs.Symmetry.{mirrored, turned_square, turned_side, turned_man, turned_men, turned_passed, image}
-use Rattle.study_board.proofs.Coordinates.{and_under, eqb_then, KeepsPawns, eqb-mirrored, file_small}
+use Rattle.study_board.specs.Symmetry.{mirror_if, turned_square, turned_side, turned_man, turned_men, turned_passed, image}
+use Rattle.study_board.proofs.Coordinates.{and_under, eqb_then, KeepsPawns, eqb-mirror_if, file_small}
 use Rattle.study_board.proofs.Coordinates.{rank_small, file_of-kept, rank_of-kept, ranks_apart-kept}
 use Rattle.study_board.proofs.Coordinates.{kept_at, kept_square, turned_small, turned_apart, same_side-turned}
 use Rattle.study_board.proofs.Coordinates.{other_side-turned, pawn_captures-turned}
-use Rattle.study_board.proofs.ImagesValid.{Each, Each-filter, Each-placed, IsSeated, any_turned}
+use Rattle.study_board.proofs.ImagesValid.{Each, Each-filter, Each-insert_man, IsSeated, any_turned}
 use Rattle.study_board.proofs.ImagesValid.{filter_turned, placed_turned, man_at_turned, bears_on-turned}
 use Rattle.study_board.proofs.ImagesValid.{is_occupied-turned, in_check-turned}
-use Rattle.study_board.proofs.Ascending.{IsAscending-filter, IsAscending-placed}
+use Rattle.study_board.proofs.Ascending.{IsAscending-filter, IsAscending-insert_man}
 use Rattle.study_board.proofs.ImagesOfImages.{IsOnBoard, IsTurnable}
 use Rattle.study_moves.specs.declared.moves.Move.{Move}
 use Rattle.study_moves.specs.Rules.{has_side, is_square, is_ahead, starting_rank, last_rank, half_way}
 use Rattle.study_moves.specs.Rules.{pawn_steps, pawn_double_steps, pawn_takes, reaches_target, is_promotion_piece}
-use Rattle.study_moves.specs.Rules.{is_promotion_choice, reaches_last_rank, is_en_passant, survives, moved, men_after}
+use Rattle.study_moves.specs.Rules.{is_promotion_choice, reaches_last_rank, is_en_passant, survives, moved_man, men_after}
 use Rattle.study_moves.specs.Rules.{is_pseudo_legal, is_legal_for, is_legal, passed_by, after_by, after}
 use Rattle.study_moves.specs.Symmetry.{image_move}
 use Rattle.study_moves.specs.Game.{IsLegal}
@@ -43,7 +43,7 @@ or_cases true b e = inl refl
 or_cases false b e = inr e
 
 ahead_ranks : (c : Bool) (side : Side) (n a x ra rx : ℕ) (u : Bool) → rank_of a < 8 → rank_of x < 8
-    → rank_of ra ≡ mirrored c (rank_of a) → rank_of rx ≡ mirrored c (rank_of x)
+    → rank_of ra ≡ mirror_if c (rank_of a) → rank_of rx ≡ mirror_if c (rank_of x)
     → eqb (file_of rx) (file_of ra) ≡ eqb (file_of x) (file_of a)
     → is_ahead (turned_side c side) n ra rx ≡ is_ahead side n a x
 ahead_ranks true White n a x a' x' u ha hx ea ex ef = rw (ef, ea, ex, mirror_ahead (rank_of a) (rank_of x) ha hx)
@@ -57,7 +57,7 @@ ahead_ranks true Black n a x a' x' u ha hx ea ex ef = rw (ef, ea, ex, mirror_ahe
 ahead_ranks false White n a x a' x' u ha hx ea ex ef = rw (ef, ea, ex)
 ahead_ranks false Black n a x a' x' u ha hx ea ex ef = rw (ef, ea, ex)
 
-starting_rank-turned : (c : Bool) (side : Side) (n : ℕ) → n < 8 → eqb (mirrored c n) (starting_rank (turned_side c side)) ≡ eqb n (starting_rank side)
+starting_rank-turned : (c : Bool) (side : Side) (n : ℕ) → n < 8 → eqb (mirror_if c n) (starting_rank (turned_side c side)) ≡ eqb n (starting_rank side)
 starting_rank-turned true White n h = mirror_rank n h
   where
     mirror_rank : (n : ℕ) → n < 8 → eqb (7 - n) 6 ≡ eqb n 1
@@ -68,7 +68,7 @@ starting_rank-turned true Black n h = mirror_rank n h
     mirror_rank n h = grind (arith, nat_tests)
 starting_rank-turned false side n h = refl
 
-last_rank-turned : (c : Bool) (side : Side) (n : ℕ) → n < 8 → eqb (mirrored c n) (last_rank (turned_side c side)) ≡ eqb n (last_rank side)
+last_rank-turned : (c : Bool) (side : Side) (n : ℕ) → n < 8 → eqb (mirror_if c n) (last_rank (turned_side c side)) ≡ eqb n (last_rank side)
 last_rank-turned true White n h = mirror_rank n h
   where
     mirror_rank : (n : ℕ) → n < 8 → eqb (7 - n) 0 ≡ eqb n 7
@@ -153,7 +153,7 @@ module _ (s : Symmetry) where
     file_same-turned : (a x : ℕ) → a < 64 → x < 64 → eqb (file_of (turned_square s x)) (file_of (turned_square s a)) ≡ eqb (file_of x) (file_of a)
     file_same-turned a x la lx =
         rw (file_of-kept s keeps a la, file_of-kept s keeps x lx)
-        (eqb-mirrored s.files (file_of x) (file_of a) (file_small x) (file_small a))
+        (eqb-mirror_if s.files (file_of x) (file_of a) (file_small x) (file_small a))
 
     is_ahead-turned : (side : Side) (n a x : ℕ) → a < 64 → x < 64
         → is_ahead (turned_side s.colours side) n (turned_square s a) (turned_square s x) ≡ is_ahead side n a x
@@ -278,7 +278,7 @@ IsGoing-from p man m e =
     let b = and_parts _ _ e in let c = and_parts _ _ b.0 in let d = and_parts _ _ c.0 in record { reaches_target = d.1; choice = b.1 }
 
 -- a promoted man is not a pawn
-pub moved_pawn : (man : Man) (m : Move) (b : Bool) → is_promotion_choice b m.promoted ≡ true → is_pawn (moved man m) ≡ true → is_pawn man ≡ true
+pub moved_pawn : (man : Man) (m : Move) (b : Bool) → is_promotion_choice b m.promoted ≡ true → is_pawn (moved_man man m) ≡ true → is_pawn man ≡ true
 moved_pawn man m b e k = by_choice b m.promoted e k
   where
     no_officer : (k : Kind) → is_promotion_piece k ≡ true → same_kind k Pawn ≡ true → ⊥
@@ -331,12 +331,12 @@ module _ (s : Symmetry) (p : Position) (turn : IsTurnable s p) where
     men_after-turned =
         rw (filter_turned s (survives (turned_passed s p.passed) (turned_man s man) (turned_square s m.target)) (survives p.passed man m.target)
         (λ y l. stays-turned s p.passed turn.passed man seat m.target lt y l) p.men turn.seats)
-        (sym (placed_turned s (moved man m) lt (filter (survives p.passed man m.target) p.men) stay_seats (no_one_on_target p.passed man m.target p.men)))
+        (sym (placed_turned s (moved_man man m) lt (filter (survives p.passed man m.target) p.men) stay_seats (no_one_on_target p.passed man m.target p.men)))
 
     men_after_seats : IsGoing p man m → Each (IsSeated s) (men_after p man m)
     unfolding men_after
     men_after_seats g =
-        Each-placed (IsSeated s) (moved man m) (filter (survives p.passed man m.target) p.men)
+        Each-insert_man (IsSeated s) (moved_man man m) (filter (survives p.passed man m.target) p.men)
         (record { on = lt; pawn = λ k. seat.pawn (moved_pawn man m (reaches_last_rank man m.target) g.choice k) }) stay_seats
 
     is_legal_for-turned : is_legal_for (image s p) (turned_man s man) (image_move s m) ≡ is_legal_for p man m
@@ -373,7 +373,7 @@ module _ (s : Symmetry) (p : Position) (turn : IsTurnable s p) where
     unfolding men_after
     turnable_after g = record {
       seats = men_after_seats g;
-      ordered = IsAscending-placed (moved man m) (filter (survives p.passed man m.target) p.men)
+      ordered = IsAscending-insert_man (moved_man man m) (filter (survives p.passed man m.target) p.men)
           (IsAscending-filter (survives p.passed man m.target) p.men turn.ordered)
           (no_one_on_target p.passed man m.target p.men);
       passed = on_board (is_pawn man && eqb (ranks_apart man.at m.target) 2);

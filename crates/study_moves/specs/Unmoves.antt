@@ -7,7 +7,7 @@ use Rattle.study_board.specs.declared.men.Kind.TheVariants.{King}
 use Rattle.study_board.specs.declared.men.Man.{Man}
 use Rattle.study_board.specs.Geometry.{rank_of}
 use Rattle.study_board.specs.Men.{other_side, is_man, attacks_square, is_pawn}
-use Rattle.study_board.specs.Position.{Position, IsValid, is_occupied, is_empty, placed}
+use Rattle.study_board.specs.Position.{Position, IsValid, is_occupied, is_empty, insert_man}
 use Rattle.study_board.specs.Sets.{bears_past}
 use Rattle.study_moves.specs.declared.moves.Move.{Move}
 use Rattle.study_moves.specs.Rules.{is_legal, after, is_ahead, starting_rank, half_way, survives}
@@ -42,7 +42,7 @@ set_back man a = record { side = man.side; kind = man.kind; at = a }
 
 -- the men, and the position, before a quiet move of the man from a square (not part of any public contract)
 unfoldable pub men_before : List Man → Man → ℕ → List Man
-men_before men man a = placed (set_back man a) (filter (survives None man a) men)
+men_before men man a = insert_man (set_back man a) (filter (survives None man a) men)
 
 abbrev pub position_before : Position → Man → ℕ → Position
 position_before q man a = record { men = men_before q.men man a; to_move = other_side q.to_move; passed = None }

@@ -93,29 +93,41 @@ fn add_target(p: &Position, man: &Man, target: Square, sure: bool, list: &mut Mo
 {
     let _target = target.number();
     if reaches_last_rank(man, target) {
-        add(p, man, moved(man.at, target, Some(Kind::Queen)), sure, list);
-        add(p, man, moved(man.at, target, Some(Kind::Rook)), sure, list);
         add(
             p,
             man,
-            moved(man.at, target, Some(Kind::Bishop)),
+            move_between(man.at, target, Some(Kind::Queen)),
             sure,
             list,
         );
         add(
             p,
             man,
-            moved(man.at, target, Some(Kind::Knight)),
+            move_between(man.at, target, Some(Kind::Rook)),
+            sure,
+            list,
+        );
+        add(
+            p,
+            man,
+            move_between(man.at, target, Some(Kind::Bishop)),
+            sure,
+            list,
+        );
+        add(
+            p,
+            man,
+            move_between(man.at, target, Some(Kind::Knight)),
             sure,
             list,
         );
     } else {
-        add(p, man, moved(man.at, target, None), sure, list);
+        add(p, man, move_between(man.at, target, None), sure, list);
     }
 }
 
 #[inline]
-fn moved(origin: Square, target: Square, promoted: Option<Kind>) -> Move
+fn move_between(origin: Square, target: Square, promoted: Option<Kind>) -> Move
     ensures { result ≡ record { origin = origin; target = target; promoted = promoted } }
 {
     Move {

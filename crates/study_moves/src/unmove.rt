@@ -26,7 +26,7 @@ pub fn earlier(q: &Position) -> ArrayVec<Position, 192>
     let moves = unmoves(q);
     let mut list = ArrayVec::new();
     for m in moves.as_slice() {
-        list.push(unmoved(q, *m));
+        list.push(position_before(q, *m));
     }
     list
 }
@@ -69,7 +69,7 @@ fn add_unmoves_of(q: &Position, man: &Man, list: &mut ArrayVec<Move, 192>)
 }
 
 /// The position before a quiet move that can have led to this one.
-pub fn unmoved(q: &Position, m: Move) -> Position
+pub fn position_before(q: &Position, m: Move) -> Position
     requires { CanHaveLed q.now m }
     ensures before { LeadsQuietly result m q.now }
     ensures only { (p : Seen) → LeadsQuietly p m q.now → result ≡ p }
@@ -113,12 +113,12 @@ pub fn origins_of_kind(men: &[Man], man: &Man) -> SquareSet
     if man.kind == Kind::Pawn {
         pawn_origins(men, man.side, man.at)
     } else {
-        attacks(men, man).without(occupied(men))
+        attacks(men, man).without(occupied_squares(men))
     }
 }
 
 #[inline]
-fn occupied(men: &[Man]) -> SquareSet
+fn occupied_squares(men: &[Man]) -> SquareSet
     ensures { (x : ℕ) → x < 64 → has result x ≡ is_occupied men.now x }
 {
     let mut set = SquareSet::empty();

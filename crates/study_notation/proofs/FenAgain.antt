@@ -21,7 +21,8 @@ use Rattle.study_board.specs.declared.men.Man.{Man}
 use Rattle.study_notation.specs.Fen.{placement_fault, position_of, is_run, is_placement_byte, is_rank}
 use Rattle.study_notation.specs.Fen.{is_digit, squares, squares_of, men_from, placement}
 use Rattle.study_notation.specs.Fen.{side_of, passed_of, count_of, fields_of, start_of}
-use Rattle.study_notation.specs.FenSpelling.{man_letter, piece_on, row, run, spelled, rank_field, ranks_text, placement_text, side_text, passed_text, fen_text}
+use Rattle.study_notation.specs.FenSpelling.{man_letter, piece_on, row, run, squares_text, rank_field, ranks_text, placement_text, side_text, passed_text}
+use Rattle.study_notation.specs.FenSpelling.{fen_text}
 use Rattle.std.specs.List.{All}
 use Rattle.std.proofs.lemmas.List.Elements.{All-head, All-tail}
 use Rattle.study_board.specs.Position.{IsValid, AllAbove, IsAscending, could_be_passed, passed_possible}
@@ -118,48 +119,48 @@ known-run n le =
       | inr miss ↦ rw (miss, digit_run n (eqb-false n 0 miss) le) refl
     ]
 
-spelled-above : (n : ℕ) (cells : List (Option Piece)) → Above 47 (spelled n cells)
-spelled-above n [] = run-above n
-spelled-above n (None ∷ cells) = spelled-above (n + 1) cells
-spelled-above n (Some p ∷ cells) =
-    Above-append 47 (run n) (man_letter p.side p.kind ∷ spelled 0 cells) (run-above n)
-    (letter-above p.side p.kind, spelled-above 0 cells)
+squares_text-above : (n : ℕ) (cells : List (Option Piece)) → Above 47 (squares_text n cells)
+squares_text-above n [] = run-above n
+squares_text-above n (None ∷ cells) = squares_text-above (n + 1) cells
+squares_text-above n (Some p ∷ cells) =
+    Above-append 47 (run n) (man_letter p.side p.kind ∷ squares_text 0 cells) (run-above n)
+    (letter-above p.side p.kind, squares_text-above 0 cells)
 
-squares-spelled : (n : ℕ) (cells : List (Option Piece)) → n + length cells ≤ 8 → squares (spelled n cells) ≡ replicate n None ++ cells
-squares-spelled n [] le = squares-run n (omega arith) ∙ sym (append-nil (replicate n None))
-squares-spelled n (None ∷ cells) le =
-    squares-spelled (n + 1) cells (omega arith) ∙ ap (λ (xs : List (Option Piece)). xs ++ cells)
+squares-squares_text : (n : ℕ) (cells : List (Option Piece)) → n + length cells ≤ 8 → squares (squares_text n cells) ≡ replicate n None ++ cells
+squares-squares_text n [] le = squares-run n (omega arith) ∙ sym (append-nil (replicate n None))
+squares-squares_text n (None ∷ cells) le =
+    squares-squares_text (n + 1) cells (omega arith) ∙ ap (λ (xs : List (Option Piece)). xs ++ cells)
     (sym (replicate_more n None)) ∙ append_assoc (replicate n None) (None ∷ []) cells
-squares-spelled n (Some p ∷ cells) le =
+squares-squares_text n (Some p ∷ cells) le =
     let l = man_letter p.side p.kind in
-    flat_map-append squares_of (run n) (l ∷ spelled 0 cells)
-    ∙ ap (λ (xs : List (Option Piece)). xs ++ squares (l ∷ spelled 0 cells)) (squares-run n (omega arith))
-    ∙ ap (λ (xs : List (Option Piece)). replicate n None ++ (xs ++ squares (spelled 0 cells))) ((letter_again p.side p.kind).0)
-    ∙ ap (λ (xs : List (Option Piece)). replicate n None ++ (Some p ∷ xs)) (squares-spelled 0 cells (omega arith))
+    flat_map-append squares_of (run n) (l ∷ squares_text 0 cells)
+    ∙ ap (λ (xs : List (Option Piece)). xs ++ squares (l ∷ squares_text 0 cells)) (squares-run n (omega arith))
+    ∙ ap (λ (xs : List (Option Piece)). replicate n None ++ (xs ++ squares (squares_text 0 cells))) ((letter_again p.side p.kind).0)
+    ∙ ap (λ (xs : List (Option Piece)). replicate n None ++ (Some p ∷ xs)) (squares-squares_text 0 cells (omega arith))
 
-known-spelled : (n : ℕ) (cells : List (Option Piece)) → n + length cells ≤ 8 → list_all is_placement_byte (spelled n cells) ≡ true
-known-spelled n [] le = known-run n (omega arith)
-known-spelled n (None ∷ cells) le = known-spelled (n + 1) cells (omega arith)
-known-spelled n (Some p ∷ cells) le =
+known-squares_text : (n : ℕ) (cells : List (Option Piece)) → n + length cells ≤ 8 → list_all is_placement_byte (squares_text n cells) ≡ true
+known-squares_text n [] le = known-run n (omega arith)
+known-squares_text n (None ∷ cells) le = known-squares_text (n + 1) cells (omega arith)
+known-squares_text n (Some p ∷ cells) le =
     let l = man_letter p.side p.kind in
-    list_all-append is_placement_byte (run n) (l ∷ spelled 0 cells) ∙ and_from (list_all is_placement_byte (run n))
-    (is_placement_byte l && list_all is_placement_byte (spelled 0 cells)) (known-run n (omega arith))
-    (and_from (is_placement_byte l) (list_all is_placement_byte (spelled 0 cells)) ((letter_again p.side p.kind).1)
-    (known-spelled 0 cells (omega arith)))
+    list_all-append is_placement_byte (run n) (l ∷ squares_text 0 cells) ∙ and_from (list_all is_placement_byte (run n))
+    (is_placement_byte l && list_all is_placement_byte (squares_text 0 cells)) (known-run n (omega arith))
+    (and_from (is_placement_byte l) (list_all is_placement_byte (squares_text 0 cells)) ((letter_again p.side p.kind).1)
+    (known-squares_text 0 cells (omega arith)))
 
 rank_squares : (men : List Man) (rank : ℕ) → squares (rank_field men rank) ≡ row men (8 * rank) 8
 unfolding rank_field
-rank_squares men rank = squares-spelled 0 (row men (8 * rank) 8) (omega arith)
+rank_squares men rank = squares-squares_text 0 (row men (8 * rank) 8) (omega arith)
 
 rank_is : (men : List Man) (rank : ℕ) → is_rank (rank_field men rank) ≡ true
 unfolding is_rank rank_field
 rank_is men rank = and_from (list_all is_placement_byte (rank_field men rank)) (eqb (length (squares (rank_field men rank))) 8)
-    (known-spelled 0 (row men (8 * rank) 8) (omega arith))
+    (known-squares_text 0 (row men (8 * rank) 8) (omega arith))
     (eq-eqb (length (squares (rank_field men rank))) 8 (ap length (rank_squares men rank)))
 
 rank_above : (men : List Man) (rank : ℕ) → Above 47 (rank_field men rank)
 unfolding rank_field
-rank_above men rank = spelled-above 0 (row men (8 * rank) 8)
+rank_above men rank = squares_text-above 0 (row men (8 * rank) 8)
 
 -- ---- the placement
 

@@ -8,11 +8,11 @@ use Rattle.study_moves.specs.Rules.{is_legal}
 use Rattle.study_notation.specs.declared.san.San.{San}
 use Rattle.study_notation.specs.declared.fault.SanFault.{SanFault}
 use Rattle.study_moves.specs.LegalList.{legal_list}
-use Rattle.study_notation.specs.Matching.{matches, picked}
+use Rattle.study_notation.specs.Matching.{matches, only_match}
 use Rattle.study_moves.proofs.AscendingKeys.{IsIn, IsIn-filter}
 use Rattle.study_moves.proofs.LegalLists.{is_legal-in}
 
-picked_in : (xs : List Move) → IfOk (picked xs) (λ m. IsIn m xs)
+picked_in : (xs : List Move) → IfOk (only_match xs) (λ m. IsIn m xs)
 picked_in [] = tt
 picked_in (m ∷ []) = inl refl
 picked_in (m ∷ n ∷ xs) = tt
@@ -22,10 +22,10 @@ IfOk-weaker P Q (Ok x) f h = f x h
 IfOk-weaker P Q (Err e) f h = tt
 
 pub picked_legal : (p : Position) (s : San) (ms xs : List Move) (r : Result Move SanFault) → ms ≡ xs
-    → xs ≡ legal_list p → r ≡ picked (filter (matches p s) ms) → IfOk r (λ m. is_legal p m ≡ true)
+    → xs ≡ legal_list p → r ≡ only_match (filter (matches p s) ms) → IfOk r (λ m. is_legal p m ≡ true)
 picked_legal p s ms xs r e h k =
     let all = filter (matches p s) (legal_list p) in
-    let reported : r ≡ picked all = k ∙ ap (λ (l : List Move). picked (filter (matches p s) l)) (e ∙ h) in
+    let reported : r ≡ only_match all = k ∙ ap (λ (l : List Move). only_match (filter (matches p s) l)) (e ∙ h) in
     subst (λ (x : Result Move SanFault). IfOk x (λ m. is_legal p m ≡ true)) (sym reported)
-    (IfOk-weaker (λ m. IsIn m all) (λ m. is_legal p m ≡ true) (picked all)
+    (IfOk-weaker (λ m. IsIn m all) (λ m. is_legal p m ≡ true) (only_match all)
     (λ m i. is_legal-in p m (IsIn-filter (matches p s) (legal_list p) m i).0) (picked_in all))

@@ -14,7 +14,7 @@ use Rattle.study_notation.specs.declared.san.San.{San}
 use Rattle.study_notation.specs.San.{Fits, Says, san_text, is_ending}
 use Rattle.study_notation.specs.SanParts.{san_of}
 use Rattle.study_moves.specs.LegalList.{is_mate}
-use Rattle.study_notation.specs.Matching.{picked, meant, move_of}
+use Rattle.study_notation.specs.Matching.{only_match, move_meant, move_of}
 use Rattle.study_notation.specs.SanSpelling.{gives_file, gives_rank, san_for, check_text, move_text}
 use Rattle.study_notation.proofs.SanAgain.{san_again}
 use Rattle.study_notation.proofs.ReadIsSpelled.{says}
@@ -60,8 +60,8 @@ move_again p m valid e =
     let read : san_of (san_text s true ++ check) ≡ Some s =
     san_again s true check (fits_for p h.man m on_board h.moves.target h.moves.choice)
     (check_ending (after p m)) in
-    ap (λ (t : List ℕ). meant p t (san_of t)) (text_of p m h.man h.here) ∙ ap (meant p (san_text s true ++ check))
-    read ∙ ap picked (alone_matches p m h.man valid e h.here)
+    ap (λ (t : List ℕ). move_meant p t (san_of t)) (text_of p m h.man h.here) ∙ ap (move_meant p (san_text s true ++ check))
+    read ∙ ap only_match (alone_matches p m h.man valid e h.here)
 
 read_where_spelled : (text : List ℕ) (s : San) → Says text s → san_of text ≡ Some s
 read_where_spelled text s h = ap san_of h.1.3 ∙ san_again s h.1.0 h.1.1 h.0 h.1.2

@@ -10,7 +10,7 @@ use Rattle.study_notation.specs.declared.fault.SanFault.{SanFault}
 use Rattle.study_notation.specs.declared.fault.SanFault.TheVariants.{NotSan, CastlingLeftOut, NoSuchMove, Ambiguous}
 use Rattle.study_notation.specs.SanParts.{san_of, is_castling}
 use Rattle.study_moves.specs.LegalList.{legal_list}
-use Rattle.study_notation.specs.Matching.{matches, picked, meant, move_of}
+use Rattle.study_notation.specs.Matching.{matches, only_match, move_meant, move_of}
 use Rattle.study_notation.specs.Meaning.{IsSan, Matches}
 use Rattle.study_moves.proofs.AscendingKeys.{IsIn, IsIn-filter, IsIn-kept, AscendsFrom, AscendsFrom-filter}
 use Rattle.study_moves.proofs.LegalLists.{in_legal, is_legal-in, AscendsFrom-legal_list}
@@ -29,7 +29,7 @@ differ lo m n ms h e = let lt = h.1.0 in let same : move_place m ≡ move_place 
 
 reported_by_list : (ms : List Move) (san : Type 0) (M : Move → Type 0) (castling : Bool) → san
     → AscendsFrom move_place 0 ms → ((m : Move) → M m → IsIn m ms) → ((m : Move) → IsIn m ms → M m)
-    → Tells (picked ms) san M castling
+    → Tells (only_match ms) san M castling
 reported_by_list [] san M castling s h into out = record {
   one = λ m. (λ e. absurd (let no : ⊥ = cc in no), λ a. absurd (into m a.0));
   none = (λ _. (s, into), λ _. refl);
@@ -85,7 +85,7 @@ pub exactly : (p : Position) (text : List ℕ) → IsValid p → Tells (move_of 
 unfolding move_of
 exactly p text valid = go (san_of text) refl
   where
-    go : (o : Option San) → san_of text ≡ o → Tells (meant p text o) (IsSan text) (Matches p text) (is_castling text)
+    go : (o : Option San) → san_of text ≡ o → Tells (move_meant p text o) (IsSan text) (Matches p text) (is_castling text)
     go None e =
         let unsaid : ¬ (IsSan text) = λ a. let said = sym e ∙ (parts_spelled text a.0).1 a.1 in absurd (let bad : ⊥ = cc in bad) in
         reported_by_text (is_castling text) (IsSan text) (Matches p text) unsaid (λ m a. unsaid (a.1.0, a.1.1))

@@ -10,7 +10,7 @@ use Rattle.study_notation.specs.San.{Says, kind_text, file_text, rank_text, take
 use Rattle.study_moves.specs.Rules.{is_promotion_piece}
 use Rattle.study_notation.specs.FenSpelling.{square_text}
 use Rattle.study_notation.specs.SanParts.{◌>>=◌, SanSquares, kind_at, file_at, rank_at, takes_at}
-use Rattle.study_notation.specs.SanParts.{promotion_piece, promotion_piece_at, given, wanted, promotion_at}
+use Rattle.study_notation.specs.SanParts.{promotion_piece, promotion_piece_at, split_kind, required_kind, promotion_at}
 use Rattle.study_notation.specs.SanParts.{squares_from, rank_behind, squares_at, san_of}
 
 bind_some : {A B : Type 0} (o : Option A) (f : A → Option B) (y : B) → (o >>= f) ≡ Some y → (x : A) × (o ≡ Some x) × (f x ≡ Some y)
@@ -164,18 +164,18 @@ abbrev Promotes : List ℕ → Option Kind → List ℕ → Type 0
 Promotes text p rest = ((equals : Bool) × (text ≡ promotion_text equals p ++ rest)) × IfSome p (λ k. is_promotion_piece k ≡ true)
 
 -- an optional letter, and the bytes after it
-given_takes : (o : Option Kind) (b : ℕ) (bs : List ℕ) → IsLetter b o → Promotes (b ∷ bs) (given o b bs).0 (given o b bs).1
+given_takes : (o : Option Kind) (b : ℕ) (bs : List ℕ) → IsLetter b o → Promotes (b ∷ bs) (split_kind o b bs).0 (split_kind o b bs).1
 given_takes None b bs h = ((false, refl), tt)
 given_takes (Some k) b bs h = ((false, ap (λ (t : List ℕ). t ++ bs) h.0), h.1)
 
 wanted_takes : (o : Option Kind) (b : ℕ) (bs : List ℕ) (p : Option Kind) (rest : List ℕ) → IsLetter b o
-    → wanted (given o b bs) ≡ Some (p, rest) → Promotes (61 ∷ b ∷ bs) p rest
+    → required_kind (split_kind o b bs) ≡ Some (p, rest) → Promotes (61 ∷ b ∷ bs) p rest
 wanted_takes None b bs p rest h e = absurd cc
 wanted_takes (Some k) b bs p rest h e =
     let made : Option Kind × List ℕ = (Some k, bs) in
     subst (λ (y : Option Kind × List ℕ). Promotes (61 ∷ b ∷ bs) y.0 y.1) (some_is made (p, rest) e) ((true, ap (λ (t : List ℕ). 61 ∷ (t ++ bs)) h.0), h.1)
 
-equals_takes : (bs : List ℕ) (p : Option Kind) (rest : List ℕ) → wanted (promotion_piece_at bs) ≡ Some (p, rest) → Promotes (61 ∷ bs) p rest
+equals_takes : (bs : List ℕ) (p : Option Kind) (rest : List ℕ) → required_kind (promotion_piece_at bs) ≡ Some (p, rest) → Promotes (61 ∷ bs) p rest
 unfolding promotion_piece_at
 equals_takes [] p rest e = absurd cc
 equals_takes (b ∷ bs) p rest e = wanted_takes (promotion_piece b) b bs p rest (officer_takes b) e
@@ -184,7 +184,7 @@ plain_takes : (b : ℕ) (bs : List ℕ) (p : Option Kind) (rest : List ℕ) → 
 unfolding promotion_piece_at
 plain_takes b bs p rest e =
     subst (λ (y : Option Kind × List ℕ). Promotes (b ∷ bs) y.0 y.1)
-    (some_is (given (promotion_piece b) b bs) (p, rest) e) (given_takes (promotion_piece b) b bs (officer_takes b))
+    (some_is (split_kind (promotion_piece b) b bs) (p, rest) e) (given_takes (promotion_piece b) b bs (officer_takes b))
 
 promotion_takes : (text : List ℕ) (p : Option Kind) (rest : List ℕ) → promotion_at text ≡ Some (p, rest) → Promotes text p rest
 unfolding promotion_at

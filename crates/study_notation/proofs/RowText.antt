@@ -6,22 +6,22 @@ use Rattle.std.proofs.lemmas.Bool.{eqb-true, ne_eqb, cases_Bool}
 use Rattle.std.proofs.lemmas.List.{append-nil}
 use Rattle.study_notation.specs.declared.placement.Piece.{Piece}
 use Rattle.study_board.specs.declared.men.Man.{Man}
-use Rattle.study_notation.specs.FenSpelling.{man_letter, piece_on, row, run, spelled, rank_field, ranks_text, placement_text}
+use Rattle.study_notation.specs.FenSpelling.{man_letter, piece_on, row, run, squares_text, rank_field, ranks_text, placement_text}
 
 unfoldable pub rest_text : List Man → ℕ → ℕ → ℕ → List ℕ
-rest_text men at n empty = spelled empty (row men at n)
+rest_text men at n empty = squares_text empty (row men at n)
 
 pub rest_init : (men : List Man) (rank at : ℕ) → at ≡ 8 * rank → rest_text men at 8 0 ≡ rank_field men rank
 unfolding rest_text rank_field
-rest_init men rank at e = ap (λ k. spelled 0 (row men k 8)) e
+rest_init men rank at e = ap (λ k. squares_text 0 (row men k 8)) e
 
 pub rest_none : (men : List Man) (at at' n m empty : ℕ) → n ≡ m + 1 → at' ≡ at + 1 → piece_on men at ≡ None
     → rest_text men at n empty ≡ rest_text men at' m (empty + 1)
 unfolding rest_text
 rest_none men at at' n m empty e e' none =
     let e2 : n ≡ suc m = omega arith in
-    ap (λ k. spelled empty (row men at k)) e2 ∙ ap (λ (o : Option Piece). spelled empty (o ∷ row men (at + 1) m))
-    none ∙ ap (λ k. spelled (empty + 1) (row men k m)) (sym e')
+    ap (λ k. squares_text empty (row men at k)) e2 ∙ ap (λ (o : Option Piece). squares_text empty (o ∷ row men (at + 1) m))
+    none ∙ ap (λ k. squares_text (empty + 1) (row men k m)) (sym e')
 
 pub rest_some : (men : List Man) (at at' n m empty : ℕ) (p : Piece) → n ≡ m + 1 → at' ≡ at + 1
     → piece_on men at ≡ Some p
@@ -29,12 +29,12 @@ pub rest_some : (men : List Man) (at at' n m empty : ℕ) (p : Piece) → n ≡ 
 unfolding rest_text
 rest_some men at at' n m empty p e e' some =
     let e2 : n ≡ suc m = omega arith in
-    ap (λ k. spelled empty (row men at k)) e2 ∙ ap (λ (o : Option Piece). spelled empty (o ∷ row men (at + 1) m))
-    some ∙ ap (λ k. run empty ++ (man_letter p.side p.kind ∷ spelled 0 (row men k m))) (sym e')
+    ap (λ k. squares_text empty (row men at k)) e2 ∙ ap (λ (o : Option Piece). squares_text empty (o ∷ row men (at + 1) m))
+    some ∙ ap (λ k. run empty ++ (man_letter p.side p.kind ∷ squares_text 0 (row men k m))) (sym e')
 
 pub rest_end : (men : List Man) (at n empty : ℕ) → n ≡ 0 → rest_text men at n empty ≡ run empty
 unfolding rest_text
-rest_end men at n empty e = ap (λ k. spelled empty (row men at k)) e
+rest_end men at n empty e = ap (λ k. squares_text empty (row men at k)) e
 
 -- ---- its length
 
@@ -46,10 +46,16 @@ count (Some p ∷ cells) = 1 + count cells
 length-run : (n : ℕ) → length (run n) ≤ 1
 length-run n = elim (cases_Bool (eqb n 0)) [ inl hit ↦ rw hit (omega arith) | inr miss ↦ rw miss (omega arith) ]
 
-length-spelled : (n : ℕ) (cells : List (Option Piece)) → length (spelled n cells) ≤ 1 + 2 * count cells
-length-spelled n [] = omega (arith, length-run n)
-length-spelled n (None ∷ cells) = length-spelled (n + 1) cells
-length-spelled n (Some p ∷ cells) = omega (arith, length-append (run n) (man_letter p.side p.kind ∷ spelled 0 cells), length-run n, length-spelled 0 cells)
+length-squares_text : (n : ℕ) (cells : List (Option Piece)) → length (squares_text n cells) ≤ 1 + 2 * count cells
+length-squares_text n [] = omega (arith, length-run n)
+length-squares_text n (None ∷ cells) = length-squares_text (n + 1) cells
+length-squares_text n (Some p ∷ cells) = omega (
+  arith,
+  length-append (run n)
+      (man_letter p.side p.kind ∷ squares_text 0 cells),
+  length-run n,
+  length-squares_text 0 cells,
+)
 
 unfoldable pub occupied : List Man → ℕ → ℕ → ℕ
 occupied men at n = count (row men at n)
@@ -108,7 +114,7 @@ occupied-add men at (suc n) k =
 
 length-rank_field : (men : List Man) (rank : ℕ) → length (rank_field men rank) ≤ 1 + 2 * occupied men (8 * rank) 8
 unfolding rank_field occupied
-length-rank_field men rank = length-spelled 0 (row men (8 * rank) 8)
+length-rank_field men rank = length-squares_text 0 (row men (8 * rank) 8)
 
 pub length-ranks_text : (men : List Man) (k : ℕ) → length (ranks_text men k) ≤ 2 * k + 1 + 2 * occupied men 0 (8 * (k + 1))
 unfolding ranks_text

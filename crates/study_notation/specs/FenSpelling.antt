@@ -29,13 +29,13 @@ abbrev pub run : ℕ → List ℕ
 run n = if n == 0 then [] else (48 + n) ∷ []
 
 -- squares, with n empty ones before them
-abbrev pub spelled : ℕ → List (Option Piece) → List ℕ
-spelled n [] = run n
-spelled n (None ∷ cells) = spelled (n + 1) cells
-spelled n (Some p ∷ cells) = run n ++ (man_letter p.side p.kind ∷ spelled 0 cells)
+abbrev pub squares_text : ℕ → List (Option Piece) → List ℕ
+squares_text n [] = run n
+squares_text n (None ∷ cells) = squares_text (n + 1) cells
+squares_text n (Some p ∷ cells) = run n ++ (man_letter p.side p.kind ∷ squares_text 0 cells)
 
 unfoldable pub rank_field : List Man → ℕ → List ℕ
-rank_field men rank = spelled 0 (row men (8 * rank) 8)
+rank_field men rank = squares_text 0 (row men (8 * rank) 8)
 
 -- this rank, then a stroke and the ranks below it
 unfoldable pub ranks_text : List Man → ℕ → List ℕ

@@ -36,15 +36,15 @@ agrees p s man m =
 unfoldable pub matches : Position → San → Move → Bool
 matches p s m = option_map_or (λ man. agrees p s man m) (man_at p.men m.origin) false
 
-abbrev pub picked : List Move → Result Move SanFault
-picked [] = Err NoSuchMove
-picked (m ∷ []) = Ok m
-picked (m ∷ n ∷ more) = Err Ambiguous
+abbrev pub only_match : List Move → Result Move SanFault
+only_match [] = Err NoSuchMove
+only_match (m ∷ []) = Ok m
+only_match (m ∷ n ∷ more) = Err Ambiguous
 
-abbrev pub meant : Position → List ℕ → Option San → Result Move SanFault
-meant p text (Some s) = picked (filter (matches p s) (legal_list p))
-meant p text None = Err (if is_castling text then CastlingLeftOut else NotSan)
+abbrev pub move_meant : Position → List ℕ → Option San → Result Move SanFault
+move_meant p text (Some s) = only_match (filter (matches p s) (legal_list p))
+move_meant p text None = Err (if is_castling text then CastlingLeftOut else NotSan)
 
 -- the only legal move that matches the text, or why there is none
 unfoldable pub move_of : Position → List ℕ → Result Move SanFault
-move_of p text = meant p text (san_of text)
+move_of p text = move_meant p text (san_of text)

@@ -34,21 +34,21 @@ unfoldable pub takes_at : List ℕ → Bool × List ℕ
 takes_at [] = (false, [])
 takes_at (b ∷ bs) = if b == 120 then (true, bs) else (false, b ∷ bs)
 
-abbrev pub given : Option Kind → ℕ → List ℕ → Option Kind × List ℕ
-given None b bs = (None, b ∷ bs)
-given (Some k) b bs = (Some k, bs)
+abbrev pub split_kind : Option Kind → ℕ → List ℕ → Option Kind × List ℕ
+split_kind None b bs = (None, b ∷ bs)
+split_kind (Some k) b bs = (Some k, bs)
 
 unfoldable pub promotion_piece_at : List ℕ → Option Kind × List ℕ
 promotion_piece_at [] = (None, [])
-promotion_piece_at (b ∷ bs) = given (promotion_piece b) b bs
+promotion_piece_at (b ∷ bs) = split_kind (promotion_piece b) b bs
 
 -- `=` must be followed by a kind
-abbrev pub wanted : Option Kind × List ℕ → Option (Option Kind × List ℕ)
-wanted x = elim x.0 [ None ↦ None | Some k ↦ Some (Some k, x.1) ]
+abbrev pub required_kind : Option Kind × List ℕ → Option (Option Kind × List ℕ)
+required_kind x = elim x.0 [ None ↦ None | Some k ↦ Some (Some k, x.1) ]
 
 unfoldable pub promotion_at : List ℕ → Option (Option Kind × List ℕ)
 promotion_at [] = Some (None, [])
-promotion_at (b ∷ bs) = if b == 61 then wanted (promotion_piece_at bs) else Some (promotion_piece_at (b ∷ bs))
+promotion_at (b ∷ bs) = if b == 61 then required_kind (promotion_piece_at bs) else Some (promotion_piece_at (b ∷ bs))
 
 -- the coordinates of origin and target
 pub record SanSquares : Type 0 where

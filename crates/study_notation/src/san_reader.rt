@@ -2,7 +2,7 @@
 ghost use Rattle.std.specs.Prelude.{◌≡◌, true, filter, IfOk};
 ghost use Rattle.study_moves.specs.Rules.{is_legal};
 ghost use Rattle.study_notation.specs.SanParts.{is_castling, is_castling_with};
-ghost use Rattle.study_notation.specs.Matching.{fits_given, fits_takes, agrees, matches, picked, move_of};
+ghost use Rattle.study_notation.specs.Matching.{fits_given, fits_takes, agrees, matches, only_match, move_of};
 
 use crate::SanFault;
 use crate::capture_rule::is_capture;
@@ -37,7 +37,7 @@ pub fn read_san(p: &Position, text: &str) -> Result<Move, SanFault>
 
 /// The one move of the list that agrees with the parts.
 fn find_move(p: &Position, moves: &[Move], san: &San) -> Result<Move, SanFault>
-    ensures { result ≡ picked (filter (matches p.now san.now) moves.now) }
+    ensures { result ≡ only_match (filter (matches p.now san.now) moves.now) }
 {
     let mut found = None;
     for m in moves {

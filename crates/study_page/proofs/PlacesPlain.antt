@@ -6,9 +6,9 @@ use Rattle.study_marks.specs.Study.{Study, mapped, plain_study, tag_of}
 use Rattle.study_marks.specs.declared.tag.TagName.TheVariants.{White}
 use Rattle.study_moves.specs.declared.moves.Move.{Move}
 use Rattle.study_html.specs.declared.element.Element.TheVariants.{Figure}
-use Rattle.study_html.specs.Elements.{inside}
+use Rattle.study_html.specs.Elements.{element_text}
 use Rattle.study_head.specs.Diagram.{board}
-use Rattle.study_head.specs.Known.{known}
+use Rattle.study_head.specs.Known.{known_words}
 use Rattle.study_page.specs.Sheet.{key_of, place, place_caption}
 
 key_plain : (f : Forest Mark) → key_of (mapped (λ (_ : Mark). tt {0}) f) ≡ key_of f
@@ -18,5 +18,6 @@ key_plain (more m l below rest) = refl
 pub place_plain : (s : Study Mark) (number : ℕ) → place s number ≡ place (plain_study s) number
 unfolding place
 place_plain s number =
-    ap (λ (key : Option Move). inside Figure (board s.start.position ++ place_caption number s.stipulation s.start (known (tag_of s.tags White)) key))
+    ap (λ (key : Option Move). element_text Figure (board s.start.position
+    ++ place_caption number s.stipulation s.start (known_words (tag_of s.tags White)) key))
     (sym (key_plain s.tree.below))

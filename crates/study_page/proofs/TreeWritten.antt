@@ -13,7 +13,7 @@ use Rattle.study_marks.specs.declared.mark.Mark.{Mark}
 use Rattle.study_marks.proofs.PathWalks.{skip}
 use Rattle.study_facts.specs.Nodes.{is_leaf}
 use Rattle.study_html.specs.declared.element.Element.TheVariants.{Item}
-use Rattle.study_html.specs.Elements.{inside}
+use Rattle.study_html.specs.Elements.{element_text}
 use Rattle.study_page.specs.Tree.{made_words, list_where, others_of, tree_words, item_words}
 
 -- what holds of a result that is `Ok` holds
@@ -80,16 +80,16 @@ module _ (hero : Side) (s : Start) where
 
   abbrev other_text : List ℕ → Option (Twig Mark) → List ℕ
   other_text rest None = rest
-  other_text rest (Some t) = inside Item (made_words hero true s t.played t.label ++ tree_words hero false (start_after s t.played) t.below) ++ rest
+  other_text rest (Some t) = element_text Item (made_words hero true s t.played t.label ++ tree_words hero false (start_after s t.played) t.below) ++ rest
 
   items_are : (f : Forest Mark) (k : ℕ) → item_words hero s (skip k f) ≡ other_text (item_words hero s (skip (suc k) f)) (node_in f k [])
   items_are none k = refl
   items_are (more m l b r) zero =
-      ap (λ g. inside Item (made_words hero true s m l ++ tree_words hero false (start_after s m) b) ++ item_words hero s g) (sym (skip_zero r))
+      ap (λ g. element_text Item (made_words hero true s m l ++ tree_words hero false (start_after s m) b) ++ item_words hero s g) (sym (skip_zero r))
   items_are (more m l b r) (suc k) = items_are r k
 
   items_first : (f : Forest Mark) (k : ℕ) (t : Twig Mark) → node_in f k [] ≡ Some t →
-      item_words hero s (skip k f) ≡ inside Item (made_words hero true s t.played t.label ++ tree_words hero false (start_after s t.played) t.below)
+      item_words hero s (skip k f) ≡ element_text Item (made_words hero true s t.played t.label ++ tree_words hero false (start_after s t.played) t.below)
       ++ item_words hero s (skip (suc k) f)
   items_first f k t e = items_are f k ∙ ap (other_text (item_words hero s (skip (suc k) f))) e
 
@@ -100,15 +100,15 @@ module _ (hero : Side) (s : Start) where
     -- an item is written: its move, what follows it, and then the item in the list
     pub item_written : (empty made item list whole : List ℕ) (grown : List ℕ) → node_in f k [] ≡ Some t → empty ≡ []
         → made ≡ empty ++ made_words hero true s t.played t.label → item ≡ made ++ tree_words hero false next t.below
-        → grown ≡ list ++ inside Item item → list ++ item_words hero s (skip k f) ≡ whole → grown ++ item_words hero s (skip (k + 1) f) ≡ whole
+        → grown ≡ list ++ element_text Item item → list ++ item_words hero s (skip k f) ≡ whole → grown ++ item_words hero s (skip (k + 1) f) ≡ whole
     item_written empty made item list whole grown e ee em ei eg h =
         let v = item_words hero s (skip (suc k) f) in
         let words : item ≡ made_words hero true s t.played t.label ++ tree_words hero false (start_after s t.played) t.below =
         ei ∙ ap (λ x. made ++ tree_words hero false x t.below) en
         ∙ ap (λ (x : List ℕ). x ++ tree_words hero false (start_after s t.played) t.below)
         (em ∙ ap (λ (x : List ℕ). x ++ made_words hero true s t.played t.label) ee) in
-        ap (λ j. grown ++ item_words hero s (skip j f)) (add-one k) ∙ ap (λ (x : List ℕ). x ++ v) (eg ∙ ap (λ (x : List ℕ). list ++ inside Item x) words)
-        ∙ append_assoc list (inside Item (made_words hero true s t.played t.label ++ tree_words hero false (start_after s t.played) t.below)) v
+        ap (λ j. grown ++ item_words hero s (skip j f)) (add-one k) ∙ ap (λ (x : List ℕ). x ++ v) (eg ∙ ap (λ (x : List ℕ). list ++ element_text Item x) words)
+        ∙ append_assoc list (element_text Item (made_words hero true s t.played t.label ++ tree_words hero false (start_after s t.played) t.below)) v
         ∙ ap (λ (x : List ℕ). list ++ x) (sym (items_first f k t e)) ∙ h
 
   -- all items are written

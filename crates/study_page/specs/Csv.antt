@@ -8,7 +8,7 @@ use Rattle.study_marks.specs.Study.{Study, tag_of, plain_study}
 use Rattle.study_marks.specs.Annotated.{IsAnnotated}
 use Rattle.study_pgn.specs.Pgn.{stipulation_text}
 use Rattle.study_facts.specs.Order.{AreTimeFaults}
-use Rattle.study_head.specs.Known.{known}
+use Rattle.study_head.specs.Known.{known_words}
 use Rattle.study_facts.specs.declared.entry.EntryInfo.{EntryInfo}
 use Rattle.study_head.specs.Verdict.{stamp_words, entry_judgement}
 
@@ -17,14 +17,14 @@ abbrev pub is_special : ℕ → Bool
 is_special b = b == 44 || (b == 34 || (b == 13 || b == 10))
 
 -- in quotation marks a quotation mark is written twice
-abbrev pub doubled : ℕ → List ℕ
-doubled b = if b == 34 then 34 ∷ 34 ∷ [] else b ∷ []
+abbrev pub quoted_byte : ℕ → List ℕ
+quoted_byte b = if b == 34 then 34 ∷ 34 ∷ [] else b ∷ []
 
-unfoldable pub quoted : List ℕ → List ℕ
-quoted text = codes "\"" ++ (flat_map doubled text ++ codes "\"")
+unfoldable pub quoted_text : List ℕ → List ℕ
+quoted_text text = codes "\"" ++ (flat_map quoted_byte text ++ codes "\"")
 
 abbrev pub field : List ℕ → List ℕ
-field text = if list_any is_special text then quoted text else text
+field text = if list_any is_special text then quoted_text text else text
 
 -- a field with the comma behind it
 unfoldable pub column : List ℕ → List ℕ
@@ -35,7 +35,7 @@ head_record = codes "Number,Title,Author,FEN,Stipulation,Verdict\r\n"
 
 -- title and author, if they are known
 unfoldable pub names : Study Mark → List ℕ
-names s = column (known (tag_of s.tags Event)) ++ column (known (tag_of s.tags White))
+names s = column (known_words (tag_of s.tags Event)) ++ column (known_words (tag_of s.tags White))
 
 -- its number, title and author, its start as FEN, the stipulation, and the verdict on a study of whose faults so many lose time alone, if it was read
 -- to its end

@@ -5,8 +5,8 @@ use Rattle.study_marks.specs.Study.{Study, plain_study}
 use Rattle.study_marks.specs.Annotated.{IsAnnotated}
 use Rattle.study_facts.specs.Order.{LinesOfEach, AreTimeFaults, written_order}
 use Rattle.study_html.specs.declared.element.Element.TheVariants as element
-use Rattle.study_html.specs.Escape.{said}
-use Rattle.study_html.specs.Elements.{inside}
+use Rattle.study_html.specs.Escape.{escaped_text}
+use Rattle.study_html.specs.Elements.{element_text}
 use Rattle.study_html.specs.Markup.{IsWellNested}
 use Rattle.study_head.specs.Head.{head, figure}
 use Rattle.study_facts.specs.declared.entry.EntryInfo.{EntryInfo}
@@ -24,11 +24,12 @@ AreRows Rows s rows = LinesOfEach (Rows s) (written_order s) rows
 
 -- the heads of three columns
 unfoldable pub heads : List ℕ → List ℕ → List ℕ → List ℕ
-heads a b c = inside element.Heads (inside element.Row (three_heads a b c))
+heads a b c = element_text element.Heads (element_text element.Row (three_heads a b c))
 
 -- a table under a heading
 unfoldable pub full_table : List ℕ → List ℕ → List ℕ → List ℕ
-full_table heading head rows = inside element.Part (inside element.Heading (said heading) ++ inside element.Table (head ++ inside element.Rows rows))
+full_table heading head rows = element_text element.Part (element_text element.Heading (escaped_text heading)
+    ++ element_text element.Table (head ++ element_text element.Rows rows))
 
 -- where there are rows
 abbrev pub table_part : List ℕ → List ℕ → List ℕ → List ℕ
@@ -42,13 +43,14 @@ duals_note = codes "A move loses time where the opponent can force a position of
 
 unfoldable pub full_cards : List ℕ → List ℕ
 full_cards cards =
-    inside element.Part (inside element.Heading (said duals_title) ++ (inside element.Note (said duals_note) ++ inside element.Cards cards))
+    element_text element.Part (element_text element.Heading (escaped_text duals_title)
+    ++ (element_text element.Note (escaped_text duals_note) ++ element_text element.Cards cards))
 
 abbrev pub cards_part : List ℕ → List ℕ
 cards_part cards = if length cards == 0 then [] else full_cards cards
 
 unfoldable pub solution_part : List ℕ → List ℕ
-solution_part tree = inside element.Part (inside element.Heading (said (codes "Solution")) ++ inside element.Tree tree)
+solution_part tree = element_text element.Part (element_text element.Heading (escaped_text (codes "Solution")) ++ element_text element.Tree tree)
 
 unfoldable pub foot_words : List ℕ
 foot_words =
@@ -82,16 +84,16 @@ tables tries zugzwangs defences ends =
 
 -- the diagram and the verdict, side by side
 unfoldable pub top : Study Mark → Option ℕ → ℕ → List ℕ → List ℕ
-top s unread time faults = inside element.Top (figure s.stipulation s.start ++ verdict_part (entry_judgement s time unread) faults)
+top s unread time faults = element_text element.Top (figure s.stipulation s.start ++ verdict_part (entry_judgement s time unread) faults)
 
 unfoldable pub content : Study Mark → Option ℕ → ℕ → List ℕ → List ℕ → List ℕ → List ℕ → List ℕ → List ℕ → List ℕ
 content s unread time faults duals tries zugzwangs defences ends =
     head s.tags ++ (top s unread time faults ++ (solution_part (solution_words s) ++ (cards_part duals
-    ++ (tables tries zugzwangs defences ends ++ inside element.Foot (said foot_words)))))
+    ++ (tables tries zugzwangs defences ends ++ element_text element.Foot (escaped_text foot_words)))))
 
 abbrev pub page_text : Study Mark → EntryInfo → ℕ → List ℕ → List ℕ → List ℕ → List ℕ → List ℕ → List ℕ → List ℕ
 page_text s entry time faults duals tries zugzwangs defences ends =
-    inside (element.Entry entry.number) (content s entry.unread time faults duals tries zugzwangs defences ends)
+    element_text (element.Entry entry.number) (content s entry.unread time faults duals tries zugzwangs defences ends)
 
 -- ---- what it says
 
@@ -115,7 +117,7 @@ IsRow s entry row = (time : ℕ) × AreTimeFaults s time × (row ≡ summary_row
 
 -- each page is one element, the entry of its number, with markup inside it that is well nested, whatever the values are
 abbrev pub IsEntry : ℕ → List ℕ → Type 0
-IsEntry number text = (content : List ℕ) × IsWellNested content × (text ≡ inside (element.Entry number) content)
+IsEntry number text = (content : List ℕ) × IsWellNested content × (text ≡ element_text (element.Entry number) content)
 
 -- the page of a plain study is that of its annotation
 abbrev pub IsPageOf : Study (Unit {0}) → EntryInfo → List ℕ → Type 0

@@ -40,9 +40,9 @@ use Rattle.study_facts.specs.Nodes.{parent_path, EmptyUnless, mark_at, value_at,
 use Rattle.study_html.specs.declared.element.Element.TheVariants.{Strong, Small, Below, Item, Card, Beside, CardTitle, Label, Also}
 use Rattle.study_html.specs.declared.element.Element.TheVariants.{Paragraph, Row, Cell, Whole, Group, Answer}
 use Rattle.study_html.specs.declared.drawing.Drawing.TheVariants.{Break}
-use Rattle.study_html.specs.Escape.{said}
-use Rattle.study_html.specs.Elements.{inside}
-use Rattle.study_html.specs.Drawings.{drawn}
+use Rattle.study_html.specs.Escape.{escaped_text}
+use Rattle.study_html.specs.Elements.{element_text}
+use Rattle.study_html.specs.Drawings.{drawing_text}
 use Rattle.study_head.specs.Diagram.{mini}
 use Rattle.study_head.specs.Words.{front_words, short_words, label}
 use Rattle.study_page.specs.Words.{where_words}
@@ -102,14 +102,14 @@ others_words p v list = codes ": also " ++ (list_words p v (take 6 list) ++ more
 
 -- `3. Kb4: also Kb6 (2 moves longer, loses time)`
 unfoldable pub dual_item : Start → ℕ → Position → Move → Value → List Alternative → List ℕ
-dual_item start d p m v list = inside Item (said (label start d p m ++ others_words p v list))
+dual_item start d p m v list = element_text Item (escaped_text (label start d p m ++ others_words p v list))
 
 unfoldable pub gives_up_goal : List ℕ
 gives_up_goal = codes " lets the aim go: "
 
 -- `3. Kb4 lets the aim go: draw`
 unfoldable pub mistake_item : Start → ℕ → Position → Move → Value → List ℕ
-mistake_item start d p m v = inside Item (said (label start d p m ++ (gives_up_goal ++ value_text (other_side p.to_move) v)))
+mistake_item start d p m v = element_text Item (escaped_text (label start d p m ++ (gives_up_goal ++ value_text (other_side p.to_move) v)))
 
 -- of a move from p, the last of a line
 abbrev pub IsFaultOf : Start → Aim → ℕ → List Position → Position → Move → Value → Option MoveMark → List ℕ → Type 0
@@ -144,20 +144,21 @@ also_words side v x = codes ": " ++ (value_text side x.value ++ (difference v x.
 
 -- `Kb6: White mates in 25, 2 moves longer, loses time`, beside a move with this value after it
 unfoldable pub also_item : Position → Value → Alternative → List ℕ
-also_item p v x = inside Item (inside Strong (said (move_text p x.played)) ++ said (also_words (other_side p.to_move) v x))
+also_item p v x = element_text Item (element_text Strong (escaped_text (move_text p x.played)) ++ escaped_text (also_words (other_side p.to_move) v x))
 
 unfoldable pub card_title : Start → ℕ → Position → Move → ℕ → List ℕ
-card_title start d p m k = inside CardTitle (said (label start d p m ++ codes " ") ++ inside Label (said (codes "dual " ++ decimal k)))
+card_title start d p m k = element_text CardTitle (escaped_text (label start d p m ++ codes " ")
+    ++ element_text Label (escaped_text (codes "dual " ++ decimal k)))
 
 -- the move with the value after it, and the others that hold
 unfoldable pub card_words : Start → ℕ → Position → Move → ℕ → Value → List Alternative → List ℕ
 card_words start d p m k v list =
-    card_title start d p m k ++ (inside Paragraph (said (value_text (other_side p.to_move) v ++ codes ". Also:"))
-    ++ inside Also (flat_map (also_item p v) list))
+    card_title start d p m k ++ (element_text Paragraph (escaped_text (value_text (other_side p.to_move) v ++ codes ". Also:"))
+    ++ element_text Also (flat_map (also_item p v) list))
 
 -- these beside the position before the move
 unfoldable pub card : Start → ℕ → Position → Move → ℕ → Value → List Alternative → List ℕ
-card start d p m k v list = inside Card (mini p ++ inside Beside (card_words start d p m k v list))
+card start d p m k v list = element_text Card (mini p ++ element_text Beside (card_words start d p m k v list))
 
 abbrev pub IsCardOf : Start → Aim → ℕ → List Position → Position → Move → Value → Option MoveMark → List ℕ → Type 0
 IsCardOf start a d line p m v None text = text ≡ []
@@ -178,17 +179,17 @@ Cards s path text =
 
 -- the cells that a row begins with: the node, and the value of its position
 unfoldable pub front_cells : List ℕ → Side → Value → List ℕ
-front_cells node side v = inside Cell (said node) ++ inside Cell (said (value_text side v))
+front_cells node side v = element_text Cell (escaped_text node) ++ element_text Cell (escaped_text (value_text side v))
 
 -- a move of the opponent, and small the value after it
 unfoldable pub move_and_value : Position → Move → Value → List ℕ
-move_and_value p m v = inside Strong (said (move_text p m)) ++ inside Below (said (short_words true v))
+move_and_value p m v = element_text Strong (escaped_text (move_text p m)) ++ element_text Below (escaped_text (short_words true v))
 
 unfoldable pub refuted_item : Position → EvaluatedMove → List ℕ
-refuted_item p x = inside Whole (move_and_value p x.played x.value) ++ said (codes " ")
+refuted_item p x = element_text Whole (move_and_value p x.played x.value) ++ escaped_text (codes " ")
 
 abbrev pub refuted_items : Position → List EvaluatedMove → List ℕ
-refuted_items p list = if is_stalemate p then said (codes "stalemate") else flat_map (refuted_item p) list
+refuted_items p list = if is_stalemate p then escaped_text (codes "stalemate") else flat_map (refuted_item p) list
 
 -- `(3 of 17)`
 unfoldable pub of_all : ℕ → ℕ → List ℕ
@@ -197,10 +198,11 @@ of_all n all = codes "(" ++ (decimal n ++ (codes " of " ++ (decimal all ++ codes
 -- that it is the only refutation, or of how many legal moves so many refute
 abbrev pub refuted_count : Position → ℕ → List ℕ
 refuted_count p n =
-    if is_stalemate p then [] else (if n == 1 then inside Strong (said (codes "only")) else inside Small (said (of_all n (length (legal_list p)))))
+    if is_stalemate p then [] else (if n == 1 then element_text Strong (escaped_text (codes "only")) else element_text Small
+    (escaped_text (of_all n (length (legal_list p)))))
 
 unfoldable pub try_row : List ℕ → Position → Value → List EvaluatedMove → List ℕ
-try_row node p v list = inside Row (front_cells node p.to_move v ++ inside Cell (refuted_items p list ++ refuted_count p (length list)))
+try_row node p v list = element_text Row (front_cells node p.to_move v ++ element_text Cell (refuted_items p list ++ refuted_count p (length list)))
 
 -- a row for each try
 abbrev pub TryRows : Study Mark → List ℕ → List ℕ → Type 0
@@ -226,8 +228,8 @@ to_move_words (Half Black) Black = codes "draw"
 
 unfoldable pub zugzwang_row : List ℕ → Zugzwang → List ℕ
 zugzwang_row node z =
-    inside Row (inside Cell (said node ++ (said (codes " ") ++ inside Label (said (points_words z))))
-    ++ (inside Cell (said (to_move_words z White)) ++ inside Cell (said (to_move_words z Black))))
+    element_text Row (element_text Cell (escaped_text node ++ (escaped_text (codes " ") ++ element_text Label (escaped_text (points_words z))))
+    ++ (element_text Cell (escaped_text (to_move_words z White)) ++ element_text Cell (escaped_text (to_move_words z Black))))
 
 abbrev pub zugzwang_rows : List ℕ → Option Zugzwang → List ℕ
 zugzwang_rows node None = []
@@ -245,7 +247,7 @@ several_words n = if n == 0 then codes "stalemate" else (decimal n ++ codes " ho
 
 -- a defence with none or several answers, and how many
 unfoldable pub several_item : Position → Defence → List ℕ
-several_item p y = inside Whole (move_and_value p y.played y.value ++ said (codes " " ++ several_words y.answers)) ++ said (codes " ")
+several_item p y = element_text Whole (move_and_value p y.played y.value ++ escaped_text (codes " " ++ several_words y.answers)) ++ escaped_text (codes " ")
 
 abbrev pub with_several : Position → Option Move → Defence → List ℕ
 with_several p None y = several_item p y
@@ -264,14 +266,14 @@ has_answer p text y = is_answer (after p y.played) y.only text
 
 -- a defence
 unfoldable pub defence_item : Position → Defence → List ℕ
-defence_item p y = inside Whole (move_and_value p y.played y.value) ++ said (codes " ")
+defence_item p y = element_text Whole (move_and_value p y.played y.value) ++ escaped_text (codes " ")
 
 abbrev pub with_answer : Position → List ℕ → Defence → List ℕ
 with_answer p text y = if has_answer p text y then defence_item p y else []
 
 -- `c8=Q after Kb1 Ka2`: an answer, and all defences whose one answer it is
 unfoldable pub group : Position → List ℕ → List Defence → List ℕ
-group p text list = inside Group (inside Answer (said text) ++ (said (codes " after ") ++ flat_map (with_answer p text) list))
+group p text list = element_text Group (element_text Answer (escaped_text text) ++ (escaped_text (codes " after ") ++ flat_map (with_answer p text) list))
 
 abbrev pub any_has : Position → List ℕ → List Defence → Bool
 any_has p text [] = false
@@ -296,14 +298,14 @@ answered_words p list =
     codes "answers " ++ (decimal (length (legal_list p) - length list) ++ (codes " of " ++ decimal (length (legal_list p))))
 
 unfoldable pub answered_cell : List ℕ → Position → List Defence → List ℕ
-answered_cell node p list = inside Cell (said node ++ (drawn Break ++ inside Small (said (answered_words p list))))
+answered_cell node p list = element_text Cell (escaped_text node ++ (drawing_text Break ++ element_text Small (escaped_text (answered_words p list))))
 
 -- the node, the defences with one answer by this answer, and those with none or several
 abbrev pub defence_row : List ℕ → Position → List Defence → List ℕ
 defence_row node p [] = []
 defence_row node p (y ∷ ys) =
-    inside Row (answered_cell node p (y ∷ ys) ++ (inside Cell (groups_from p (y ∷ ys) [] (y ∷ ys))
-    ++ inside Cell (flat_map (each_several p) (y ∷ ys))))
+    element_text Row (answered_cell node p (y ∷ ys) ++ (element_text Cell (groups_from p (y ∷ ys) [] (y ∷ ys))
+    ++ element_text Cell (flat_map (each_several p) (y ∷ ys))))
 
 -- a row for each position of the solution in which a defence is missing
 abbrev pub DefenceRows : Study Mark → List ℕ → List ℕ → Type 0
@@ -337,7 +339,7 @@ keep_words p list =
     decimal (length list) ++ (codes " of " ++ (decimal (length (legal_list p)) ++ (keeps_draw_words ++ flat_map (move_words p) list)))
 
 unfoldable pub end_row : List ℕ → Side → Value → List ℕ → List ℕ
-end_row node side v goes_on = inside Row (front_cells node side v ++ inside Cell (said goes_on))
+end_row node side v goes_on = element_text Row (front_cells node side v ++ element_text Cell (escaped_text goes_on))
 
 abbrev pub IsPlay : Start → ℕ → List ℕ → Position → Value → List ℕ → Type 0
 IsPlay start d node p v text = (list : List EvaluatedMove) × IsBestPlay 20 p list × (text ≡ end_row node p.to_move v (play_words true start d p list))

@@ -16,8 +16,8 @@ use Rattle.study_pgn.specs.Moves.{number_text}
 use Rattle.study_facts.specs.Nodes.{is_leaf}
 use Rattle.study_html.specs.declared.element.Element.{Element}
 use Rattle.study_html.specs.declared.element.Element.TheVariants as element
-use Rattle.study_html.specs.Escape.{said}
-use Rattle.study_html.specs.Elements.{inside}
+use Rattle.study_html.specs.Escape.{escaped_text}
+use Rattle.study_html.specs.Elements.{element_text}
 use Rattle.study_head.specs.Words.{short_words}
 use Rattle.study_page.specs.Rows.{is_white}
 
@@ -31,13 +31,13 @@ move_element _ = element.Reply
 
 -- `!` after an only move, and `?` after a mistake
 abbrev pub sign_words : Option MoveMark → List ℕ
-sign_words (Some Only) = inside element.Sign (said (codes "!"))
-sign_words (Some Mistake) = inside element.Sign (said (codes "?"))
+sign_words (Some Only) = element_text element.Sign (escaped_text (codes "!"))
+sign_words (Some Mistake) = element_text element.Sign (escaped_text (codes "?"))
 sign_words _ = []
 
 -- how many other moves hold beside a dual
 abbrev pub dual_words : Option MoveMark → List ℕ
-dual_words (Some (Dual k)) = said (codes " ") ++ inside element.Label (said (codes "dual " ++ decimal k))
+dual_words (Some (Dual k)) = escaped_text (codes " ") ++ element_text element.Label (escaped_text (codes "dual " ++ decimal k))
 dual_words _ = []
 
 -- the number of a move, before the first of a line and before each of White's
@@ -46,16 +46,16 @@ number_where first s = if first || is_white s.position.to_move then number_text 
 
 -- a move with its number and its sign
 unfoldable pub played_words : Bool → Start → Move → Option MoveMark → List ℕ
-played_words first s m mark = inside (move_element mark) (said (number_where first s ++ move_text s.position m) ++ sign_words mark)
+played_words first s m mark = element_text (move_element mark) (escaped_text (number_where first s ++ move_text s.position m) ++ sign_words mark)
 
 -- small, the value after a move of this side
 unfoldable pub below_words : Side → Side → Value → List ℕ
-below_words hero mover v = inside element.Below (said (short_words (same_side (other_side mover) hero) v))
+below_words hero mover v = element_text element.Below (escaped_text (short_words (same_side (other_side mover) hero) v))
 
 -- a move with its sign, and the value after it
 unfoldable pub made_words : Side → Bool → Start → Move → Mark → List ℕ
 made_words hero first s m x =
-    played_words first s m x.on_move ++ (below_words hero s.position.to_move x.value ++ (dual_words x.on_move ++ said (codes " ")))
+    played_words first s m x.on_move ++ (below_words hero s.position.to_move x.value ++ (dual_words x.on_move ++ escaped_text (codes " ")))
 
 -- the moves beside the first
 abbrev pub others_of : Forest Mark → Forest Mark
@@ -64,7 +64,7 @@ others_of (more m mark below others) = others
 
 -- items as a list, where there are any
 abbrev pub list_where : List ℕ → List ℕ
-list_where items = if length items == 0 then [] else inside element.List items
+list_where items = if length items == 0 then [] else element_text element.List items
 
 abbrev mutual
   -- what follows a node, of which these are the children: the first one's move, the others as a list of variations, and what follows the first
@@ -78,7 +78,7 @@ abbrev mutual
   pub item_words : Side → Start → Forest Mark → List ℕ
   item_words hero s none = []
   item_words hero s (more m mark below others) =
-      inside element.Item (made_words hero true s m mark ++ tree_words hero false (start_after s m) below) ++ item_words hero s others
+      element_text element.Item (made_words hero true s m mark ++ tree_words hero false (start_after s m) below) ++ item_words hero s others
 
 -- the tree of an annotated study
 abbrev pub solution_words : Study Mark → List ℕ

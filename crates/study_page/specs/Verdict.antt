@@ -6,8 +6,8 @@ use Rattle.study_head.specs.declared.verdict.Judgement.{Judgement}
 use Rattle.study_head.specs.Verdict.{stamp_words, sentence, start_words}
 use Rattle.study_html.specs.declared.element.Element.{Element}
 use Rattle.study_html.specs.declared.element.Element.TheVariants as element
-use Rattle.study_html.specs.Escape.{said}
-use Rattle.study_html.specs.Elements.{inside}
+use Rattle.study_html.specs.Escape.{escaped_text}
+use Rattle.study_html.specs.Elements.{element_text}
 
 -- a study that is sound but for loss of time is framed as a sound one
 abbrev pub stamp_element : Stamp → Element
@@ -18,13 +18,13 @@ stamp_element (Unsound faults time) = if time == faults then element.Sound else 
 stamp_element (NotRead line) = element.Unsound
 
 unfoldable pub stamp_part : Stamp → List ℕ
-stamp_part v = inside element.Heading (inside (stamp_element v) (said (stamp_words v)))
+stamp_part v = element_text element.Heading (element_text (stamp_element v) (escaped_text (stamp_words v)))
 
 abbrev pub fault_list : List ℕ → List ℕ
-fault_list items = if length items == 0 then [] else inside element.Faults items
+fault_list items = if length items == 0 then [] else element_text element.Faults items
 
 -- the stamp, what it says, the value of the start, and these faults
 unfoldable pub verdict_part : Judgement → List ℕ → List ℕ
 verdict_part j faults =
-    inside element.Verdict (stamp_part j.stamp ++ (inside element.Paragraph (said (sentence j.empty j.stamp))
-    ++ (inside element.Paragraph (said (start_words j.first j.value)) ++ fault_list faults)))
+    element_text element.Verdict (stamp_part j.stamp ++ (element_text element.Paragraph (escaped_text (sentence j.empty j.stamp))
+    ++ (element_text element.Paragraph (escaped_text (start_words j.first j.value)) ++ fault_list faults)))

@@ -7,8 +7,8 @@ ghost use Rattle.study_notation.specs.SanSpelling.{move_text};
 ghost use Rattle.study_pgn.specs.Values.{value_text};
 ghost use Rattle.study_head.specs.Words.{label};
 ghost use Rattle.study_html.specs.declared.element.Element.TheVariants.{Label};
-ghost use Rattle.study_html.specs.Escape.{said};
-ghost use Rattle.study_html.specs.Elements.{inside};
+ghost use Rattle.study_html.specs.Escape.{escaped_text};
+ghost use Rattle.study_html.specs.Elements.{element_text};
 ghost use Rattle.study_page.specs.Rows.{loses_time, forced_words, time_words, move_word, by_words, later_words, difference, also_words, also_item};
 ghost use Rattle.study_page.specs.Rows.{card_title, card_words, card, front_cells, move_and_value, refuted_item, refuted_items, of_all, refuted_count, try_row};
 ghost use Rattle.study_page.specs.Rows.{points_words, to_move_words, zugzwang_row};
@@ -122,7 +122,7 @@ fn put_san<'a, A: Allocator>(
 ) -> Result<(), AllocError>
     requires { is_legal p.now m ≡ true }
     ensures { OnOk result (html.new ≡ html.old
-        ++ inside Element.Strong (said (move_text p.now m))) }
+        ++ element_text Element.Strong (escaped_text (move_text p.now m))) }
 {
     let mut san = Text::new(alloc);
     add_san(&mut san, p, m)?;
@@ -173,7 +173,7 @@ fn say_dual_move<'a, A: Allocator>(
 ) -> Result<(), AllocError>
     requires { is_legal ply.now.position.now m ≡ true }
     ensures { OnOk result (title.new ≡ title.old
-        ++ said (label ply.now.start.now ply.now.depth ply.now.position.now m ++ codes " ")) }
+        ++ escaped_text (label ply.now.start.now ply.now.depth ply.now.position.now m ++ codes " ")) }
 {
     let mut text = Text::new(alloc);
     add_label(&mut text, ply.start, ply.depth, ply.position, m)?;
@@ -188,7 +188,7 @@ fn put_dual_count<'a, A: Allocator>(
     count: u8,
 ) -> Result<(), AllocError>
     ensures { OnOk result (title.new ≡ title.old
-        ++ inside Label (said (codes "dual " ++ decimal count))) }
+        ++ element_text Label (escaped_text (codes "dual " ++ decimal count))) }
 {
     let mut text = Text::new(alloc);
     text.add(b"dual ")?;
@@ -222,7 +222,7 @@ fn put_after<'a, A: Allocator>(
     value: Value,
 ) -> Result<(), AllocError>
     ensures { OnOk result (html.new ≡ html.old
-        ++ inside Element.Paragraph (said (value_text side value ++ codes ". Also:"))) }
+        ++ element_text Element.Paragraph (escaped_text (value_text side value ++ codes ". Also:"))) }
 {
     let mut text = Text::new(alloc);
     add_value(&mut text, side, value)?;
@@ -240,7 +240,7 @@ fn put_others<'a, A: Allocator>(
 ) -> Result<(), AllocError>
     requires { All (λ x. is_legal p.now x.played ≡ true) list.now }
     ensures { OnOk result (html.new ≡ html.old
-        ++ inside Element.Also (flat_map (also_item p.now value) list.now)) }
+        ++ element_text Element.Also (flat_map (also_item p.now value) list.now)) }
 {
     let mut others = Html::new(alloc);
     put_each_also(alloc, &mut others, p, value, list)?;
@@ -468,8 +468,8 @@ fn put_node<'a, A: Allocator>(
     zugzwang: Zugzwang,
 ) -> Result<(), AllocError>
     ensures { OnOk result (html.new ≡ html.old
-        ++ inside Element.Cell (said node.now ++ (said (codes " ")
-        ++ inside Element.Label (said (points_words zugzwang))))) }
+        ++ element_text Element.Cell (escaped_text node.now ++ (escaped_text (codes " ")
+        ++ element_text Element.Label (escaped_text (points_words zugzwang))))) }
 {
     let mut cell = Html::new(alloc);
     cell.say(node)?;

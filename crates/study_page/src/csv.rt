@@ -5,14 +5,14 @@ ghost use Rattle.std.specs.Io.KnownBytes.{Appends};
 ghost use Rattle.study_text.specs.Taken.{TakesPrefix};
 ghost use Rattle.study_values.specs.declared.values.ProbeFault.{ProbeFault as AProbeFault};
 ghost use Rattle.study_notation.specs.FenSpelling.{fen_text};
-ghost use Rattle.study_marks.specs.BenchState.{marked, IsKeptRight};
+ghost use Rattle.study_marks.specs.BenchState.{marked_study, IsKeptRight};
 ghost use Rattle.study_marks.specs.Study.{plain_study};
 ghost use Rattle.study_pgn.specs.Pgn.{stipulation_text};
 ghost use Rattle.study_facts.specs.Asked.{within};
 ghost use Rattle.study_facts.specs.Order.{HasReviewed};
 ghost use Rattle.study_facts.specs.Made.{HasAsked};
 ghost use Rattle.study_head.specs.Verdict.{stamp_words, entry_judgement};
-ghost use Rattle.study_page.specs.Csv.{is_special, doubled, quoted, field, column, head_record, names, record_text, refused_record};
+ghost use Rattle.study_page.specs.Csv.{is_special, quoted_byte, quoted_text, field, column, head_record, names, record_text, refused_record};
 ghost use Rattle.study_page.specs.Csv.{IsRecord, IsSomeRecord, IsRecordOf};
 
 use crate::page::parts_of;
@@ -34,7 +34,7 @@ fn is_special(byte: u8) -> bool
 }
 
 fn add_doubled<A: Allocator>(text: &mut Text<'_, A>, byte: u8) -> Result<(), AllocError>
-    ensures { OnOk result (text.new ≡ text.old ++ doubled byte) }
+    ensures { OnOk result (text.new ≡ text.old ++ quoted_byte byte) }
 {
     if byte == b'"' {
         text.add(b"\"\"")
@@ -45,7 +45,7 @@ fn add_doubled<A: Allocator>(text: &mut Text<'_, A>, byte: u8) -> Result<(), All
 
 /// Adds a text in which each quotation mark is written twice.
 fn add_doubled_each<A: Allocator>(text: &mut Text<'_, A>, bytes: &[u8]) -> Result<(), AllocError>
-    ensures { OnOk result (text.new ≡ text.old ++ flat_map doubled bytes.now) }
+    ensures { OnOk result (text.new ≡ text.old ++ flat_map quoted_byte bytes.now) }
 {
     for byte in bytes {
         add_doubled(text, *byte)?;
@@ -53,9 +53,10 @@ fn add_doubled_each<A: Allocator>(text: &mut Text<'_, A>, bytes: &[u8]) -> Resul
     Ok(())
 }
 
-#[tactic(auto, unfolding(crate::specs::Csv::quoted))]
-fn add_quoted<A: Allocator>(text: &mut Text<'_, A>, bytes: &[u8]) -> Result<(), AllocError>
-    ensures { OnOk result (text.new ≡ text.old ++ quoted bytes.now) }
+/// Adds a field in quotation marks.
+#[tactic(auto, unfolding(crate::specs::Csv::quoted_text))]
+pub fn add_quoted<A: Allocator>(text: &mut Text<'_, A>, bytes: &[u8]) -> Result<(), AllocError>
+    ensures { OnOk result (text.new ≡ text.old ++ quoted_text bytes.now) }
 {
     text.add(b"\"")?;
     add_doubled_each(text, bytes)?;
@@ -106,7 +107,7 @@ fn add_names<'b, A: Allocator, B: Allocator>(
     text: &mut Text<'_, A>,
     bench: &Bench<'b, B>,
 ) -> Result<(), AllocError>
-    ensures { OnOk result (text.new ≡ text.old ++ names (marked bench.now)) }
+    ensures { OnOk result (text.new ≡ text.old ++ names (marked_study bench.now)) }
 {
     add_column(text, known_tag(bench, TagName::Event))?;
     add_column(text, known_tag(bench, TagName::White))
@@ -116,7 +117,8 @@ fn add_fen<'b, A: Allocator, B: Allocator>(
     text: &mut Text<'_, A>,
     bench: &Bench<'b, B>,
 ) -> Result<(), AllocError>
-    ensures { OnOk result (text.new ≡ text.old ++ column (fen_text (marked bench.now).start)) }
+    ensures { OnOk result (text.new ≡ text.old
+        ++ column (fen_text (marked_study bench.now).start)) }
 {
     add_column(text, write_fen(bench.start()).as_str().as_bytes())
 }
@@ -127,7 +129,7 @@ fn add_wanted<'a, 'b, A: Allocator, B: Allocator>(
     bench: &Bench<'b, B>,
 ) -> Result<(), AllocError>
     ensures { OnOk result (text.new ≡ text.old
-        ++ column (stipulation_text (marked bench.now).stipulation)) }
+        ++ column (stipulation_text (marked_study bench.now).stipulation)) }
 {
     let mut words = Text::new(alloc);
     add_stipulation(&mut words, bench.stipulation())?;
@@ -142,7 +144,7 @@ fn add_verdict<'a, 'b, A: Allocator, B: Allocator>(
     unread: Option<u32>,
 ) -> Result<(), AllocError>
     ensures { OnOk result (text.new ≡ text.old
-        ++ field (stamp_words (entry_judgement (marked bench.now) time unread).stamp)) }
+        ++ field (stamp_words (entry_judgement (marked_study bench.now) time unread).stamp)) }
 {
     let mut words = Text::new(alloc);
     add_stamp_words(&mut words, entry_judgement(bench, time, unread).stamp)?;
@@ -158,7 +160,7 @@ fn add_record<'a, 'b, A: Allocator, B: Allocator>(
     time: u32,
     info: EntryInfo,
 ) -> Result<(), AllocError>
-    ensures { OnOk result (text.new ≡ text.old ++ record_text (marked bench.now) time info) }
+    ensures { OnOk result (text.new ≡ text.old ++ record_text (marked_study bench.now) time info) }
 {
     add_number(alloc, text, info.number)?;
     add_names(text, bench)?;
@@ -176,9 +178,9 @@ fn record_of<'a, 'b, A: Allocator, B: Allocator, V: Values>(
     info: EntryInfo,
 ) -> Result<Text<'a, A>, TextFault>
     ensures text { V.source.is_honest values.old
-        → IfOk result (λ text. IsRecord (marked bench.now) info text) }
+        → IfOk result (λ text. IsRecord (marked_study bench.now) info text) }
     ensures form { IfOk result (λ text. IsSomeRecord info.number text) }
-    ensures asked { HasAsked (within (marked bench.now).start.position V.source)
+    ensures asked { HasAsked (within (marked_study bench.now).start.position V.source)
         values.old result values.new }
 {
     let mut text = Text::new(alloc);
@@ -208,18 +210,18 @@ pub fn write_record<'a, 'b, A: Allocator, B: Allocator, V: Values, W: Write>(
 ) -> Result<(), ReviewFault>
     ensures plain { V.source.is_honest values.old → IsKeptRight bench.now
         → OnOk result ((text : List ℕ)
-        × IsRecordOf (plain_study (marked bench.now)) info text
+        × IsRecordOf (plain_study (marked_study bench.now)) info text
         × Appends (W.contents out.old) (W.contents out.new) text) }
     ensures form { OnOk result ((text : List ℕ) × IsSomeRecord info.number text
         × Appends (W.contents out.old) (W.contents out.new) text) }
     ensures device { V.source.is_honest values.old → IsKeptRight bench.now
         → result ≡ Err ReviewFault.Device → (text : List ℕ)
-        × IsRecordOf (plain_study (marked bench.now)) info text
+        × IsRecordOf (plain_study (marked_study bench.now)) info text
         × TakesPrefix (W.contents out.old) (W.contents out.new) text }
     ensures memory { result ≡ Err ReviewFault.OutOfMemory → out.new ≡ out.old }
     ensures no_value { (fault : AProbeFault)
         → result ≡ Err (ReviewFault.Values fault) → out.new ≡ out.old }
-    ensures asked { HasReviewed (within (marked bench.now).start.position V.source)
+    ensures asked { HasReviewed (within (marked_study bench.now).start.position V.source)
         values.old result values.new }
 {
     let text = record_of(alloc, bench, values, info)?;

@@ -20,7 +20,7 @@ mod summary;
 mod tree;
 mod verdict;
 
-pub use csv::{write_head_record, write_record, write_refused_record};
+pub use csv::{add_quoted, write_head_record, write_record, write_refused_record};
 pub use laws::{pages_are_unique, plain_studies_have_one_page};
 pub use page::{Listed, write_page};
 pub use sheet::write_place;

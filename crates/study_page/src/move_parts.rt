@@ -2,7 +2,7 @@
 ghost use Rattle.std.specs.Prelude.{◌≡◌, ◌++◌, ◌+◌, ◌^◌, ◌<◌, ◌&&◌, [], true, Some, length, OnOk, if◌then◌else◌};
 ghost use Rattle.std.specs.List.{All};
 ghost use Rattle.study_moves.specs.Rules.{is_legal};
-ghost use Rattle.study_marks.specs.BenchState.{marked};
+ghost use Rattle.study_marks.specs.BenchState.{marked_study};
 ghost use Rattle.study_facts.specs.Asked.{within};
 ghost use Rattle.study_facts.specs.Made.{Grew, Rose, HasAsked};
 ghost use Rattle.study_facts.specs.Nodes.{EmptyUnless};
@@ -177,22 +177,22 @@ pub fn add_move<'a, 'b, A: Allocator, B: Allocator, V: Values>(
     values: &mut V,
 ) -> Result<(), TextFault>
     // Many clauses: one for each part of the page, and those of the probes.
-    requires { IsStudyMove (marked bench.now) step.now }
+    requires { IsStudyMove (marked_study bench.now) step.now }
     ensures faults { V.source.is_honest values.old
-        → OnOk result (Grew (FaultItems (marked bench.now) step.now.steps.now)
+        → OnOk result (Grew (FaultItems (marked_study bench.now) step.now.steps.now)
         parts.old.faults parts.new.faults) }
     ensures time { V.source.is_honest values.old
         → OnOk result
-        (Rose (IsTimeFault (marked bench.now) step.now.steps.now)
+        (Rose (IsTimeFault (marked_study bench.now) step.now.steps.now)
         parts.old.time_faults parts.new.time_faults) }
     ensures duals { V.source.is_honest values.old
         → OnOk result
-        (Grew (Cards (marked bench.now) step.now.steps.now) parts.old.duals parts.new.duals) }
+        (Grew (Cards (marked_study bench.now) step.now.steps.now) parts.old.duals parts.new.duals) }
     ensures tries { parts.new.tries ≡ parts.old.tries }
     ensures zugzwangs { parts.new.zugzwangs ≡ parts.old.zugzwangs }
     ensures defences { parts.new.defences ≡ parts.old.defences }
     ensures ends { parts.new.ends ≡ parts.old.ends }
-    ensures asked { HasAsked (within (marked bench.now).start.position V.source)
+    ensures asked { HasAsked (within (marked_study bench.now).start.position V.source)
         values.old result values.new }
 {
     let first = bench.start();

@@ -2,7 +2,7 @@
 ghost use Rattle.std.specs.Prelude.{◌≡◌, ◌++◌, ◌+◌, ◌^◌, ◌<◌, true, length, OnOk};
 ghost use Rattle.std.specs.List.{All};
 ghost use Rattle.study_moves.specs.Rules.{is_legal};
-ghost use Rattle.study_marks.specs.BenchState.{marked};
+ghost use Rattle.study_marks.specs.BenchState.{marked_study};
 ghost use Rattle.study_facts.specs.Asked.{within};
 ghost use Rattle.study_facts.specs.Made.{Grew, HasAsked};
 ghost use Rattle.study_facts.specs.Play.{IsPlayed, ArePlayed};
@@ -41,9 +41,9 @@ fn add_node_name<'b, A: Allocator, B: Allocator>(
     bench: &Bench<'b, B>,
     node: &PageNode<'_>,
 ) -> Result<(), AllocError>
-    requires { IsPageNode (marked bench.now) node.now }
+    requires { IsPageNode (marked_study bench.now) node.now }
     ensures { OnOk result (text.new ≡ text.old
-        ++ where_words (marked bench.now) node.now.here.steps.now) }
+        ++ where_words (marked_study bench.now) node.now.here.steps.now) }
 {
     let first = bench.start();
     match &node.by {
@@ -65,11 +65,11 @@ fn put_try_at<'a, 'b, A: Allocator, B: Allocator>(
     node: &PageNode<'_>,
     list: &[EvaluatedMove],
 ) -> Result<(), AllocError>
-    requires node { IsPageNode (marked bench.now) node.now }
+    requires node { IsPageNode (marked_study bench.now) node.now }
     requires few { length list.now < 2 ^ 32 }
     requires legal { All (λ x. is_legal node.now.here.node.position.now x.played ≡ true) list.now }
     ensures { OnOk result (html.new ≡ html.old
-        ++ try_row (where_words (marked bench.now) node.now.here.steps.now)
+        ++ try_row (where_words (marked_study bench.now) node.now.here.steps.now)
         node.now.here.node.position.now node.now.here.value list.now) }
 {
     let mut name = Text::new(alloc);
@@ -94,10 +94,10 @@ fn add_try<'a, 'b, A: Allocator, B: Allocator, V: Values>(
     node: &PageNode<'_>,
     values: &mut V,
 ) -> Result<(), TextFault>
-    requires { IsPageNode (marked bench.now) node.now }
+    requires { IsPageNode (marked_study bench.now) node.now }
     ensures text { V.source.is_honest values.old
         → OnOk result
-        (Grew (TryRows (marked bench.now) node.now.here.steps.now) html.old html.new) }
+        (Grew (TryRows (marked_study bench.now) node.now.here.steps.now) html.old html.new) }
     ensures asked { HasAsked (within node.now.here.node.position.now V.source)
         values.old result values.new }
 {
@@ -121,11 +121,11 @@ fn put_defences_at<'a, 'b, A: Allocator, B: Allocator>(
     node: &PageNode<'_>,
     list: &[Defence],
 ) -> Result<(), AllocError>
-    requires node { IsPageNode (marked bench.now) node.now }
+    requires node { IsPageNode (marked_study bench.now) node.now }
     requires few { length list.now < 2 ^ 32 }
     requires all { All (IsPlayed node.now.here.node.position.now) list.now }
     ensures { OnOk result (html.new ≡ html.old
-        ++ defence_row (where_words (marked bench.now) node.now.here.steps.now)
+        ++ defence_row (where_words (marked_study bench.now) node.now.here.steps.now)
         node.now.here.node.position.now list.now) }
 {
     let mut name = Text::new(alloc);
@@ -142,10 +142,10 @@ fn add_defences<'a, 'b, A: Allocator, B: Allocator, V: Values>(
     node: &PageNode<'_>,
     values: &mut V,
 ) -> Result<(), TextFault>
-    requires { IsPageNode (marked bench.now) node.now }
+    requires { IsPageNode (marked_study bench.now) node.now }
     ensures text { V.source.is_honest values.old
         → OnOk result
-        (Grew (DefenceRows (marked bench.now) node.now.here.steps.now) html.old html.new) }
+        (Grew (DefenceRows (marked_study bench.now) node.now.here.steps.now) html.old html.new) }
     ensures asked { HasAsked (within node.now.here.node.position.now V.source)
         values.old result values.new }
 {
@@ -247,10 +247,10 @@ fn add_end<'a, 'b, A: Allocator, B: Allocator, V: Values>(
     node: &PageNode<'_>,
     values: &mut V,
 ) -> Result<(), TextFault>
-    requires { IsPageNode (marked bench.now) node.now }
+    requires { IsPageNode (marked_study bench.now) node.now }
     ensures text { V.source.is_honest values.old
         → OnOk result
-        (Grew (EndRows (marked bench.now) node.now.here.steps.now) html.old html.new) }
+        (Grew (EndRows (marked_study bench.now) node.now.here.steps.now) html.old html.new) }
     ensures asked { HasAsked (within node.now.here.node.position.now V.source)
         values.old result values.new }
 {
@@ -276,9 +276,9 @@ fn put_zugzwang_at<'a, 'b, A: Allocator, B: Allocator>(
     node: &PageNode<'_>,
     zugzwang: Option<Zugzwang>,
 ) -> Result<(), AllocError>
-    requires { IsPageNode (marked bench.now) node.now }
+    requires { IsPageNode (marked_study bench.now) node.now }
     ensures { OnOk result (html.new ≡ html.old
-        ++ zugzwang_rows (where_words (marked bench.now) node.now.here.steps.now) zugzwang) }
+        ++ zugzwang_rows (where_words (marked_study bench.now) node.now.here.steps.now) zugzwang) }
 {
     match zugzwang {
         None => Ok(()),
@@ -299,10 +299,10 @@ fn add_zugzwang<'a, 'b, A: Allocator, B: Allocator, V: Values>(
     node: &PageNode<'_>,
     values: &mut V,
 ) -> Result<(), TextFault>
-    requires { IsPageNode (marked bench.now) node.now }
+    requires { IsPageNode (marked_study bench.now) node.now }
     ensures text { V.source.is_honest values.old
         → OnOk result
-        (Grew (ZugzwangRows (marked bench.now) node.now.here.steps.now) html.old html.new) }
+        (Grew (ZugzwangRows (marked_study bench.now) node.now.here.steps.now) html.old html.new) }
     ensures asked { HasAsked (within node.now.here.node.position.now V.source)
         values.old result values.new }
 {
@@ -325,25 +325,25 @@ pub fn add_rows<'a, 'b, A: Allocator, B: Allocator, V: Values>(
     values: &mut V,
 ) -> Result<(), TextFault>
     // Many clauses: one for each part of the page, and those of the probes.
-    requires { IsPageNode (marked bench.now) node.now }
+    requires { IsPageNode (marked_study bench.now) node.now }
     ensures faults { parts.new.faults ≡ parts.old.faults }
     ensures time { parts.new.time_faults ≡ parts.old.time_faults }
     ensures duals { parts.new.duals ≡ parts.old.duals }
     ensures tries { V.source.is_honest values.old
         → OnOk result
-        (Grew (TryRows (marked bench.now) node.now.here.steps.now)
+        (Grew (TryRows (marked_study bench.now) node.now.here.steps.now)
         parts.old.tries parts.new.tries) }
     ensures zugzwangs { V.source.is_honest values.old
         → OnOk result
-        (Grew (ZugzwangRows (marked bench.now) node.now.here.steps.now)
+        (Grew (ZugzwangRows (marked_study bench.now) node.now.here.steps.now)
         parts.old.zugzwangs parts.new.zugzwangs) }
     ensures defences { V.source.is_honest values.old
         → OnOk result
-        (Grew (DefenceRows (marked bench.now) node.now.here.steps.now)
+        (Grew (DefenceRows (marked_study bench.now) node.now.here.steps.now)
         parts.old.defences parts.new.defences) }
     ensures ends { V.source.is_honest values.old
         → OnOk result
-        (Grew (EndRows (marked bench.now) node.now.here.steps.now) parts.old.ends parts.new.ends) }
+        (Grew (EndRows (marked_study bench.now) node.now.here.steps.now) parts.old.ends parts.new.ends) }
     ensures asked { HasAsked (within node.now.here.node.position.now V.source)
         values.old result values.new }
 {

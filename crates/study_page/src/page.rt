@@ -2,12 +2,12 @@
 ghost use Rattle.std.specs.Prelude.{◌≡◌, ◌++◌, ℕ, List, OnOk, IfOk, Err};
 ghost use Rattle.std.specs.Io.KnownBytes.{Appends};
 ghost use Rattle.study_text.specs.Taken.{TakesPrefix};
-ghost use Rattle.study_marks.specs.BenchState.{marked, IsKeptRight};
+ghost use Rattle.study_marks.specs.BenchState.{marked_study, IsKeptRight};
 ghost use Rattle.study_marks.specs.Study.{plain_study};
 ghost use Rattle.study_values.specs.declared.values.ProbeFault.{ProbeFault as AProbeFault};
 ghost use Rattle.study_facts.specs.Asked.{within};
 ghost use Rattle.study_facts.specs.Order.{HasReviewed, AreTimeFaults};
-ghost use Rattle.study_html.specs.Elements.{inside};
+ghost use Rattle.study_html.specs.Elements.{element_text};
 ghost use Rattle.study_html.specs.declared.element.Element.TheVariants.{Table, Rows};
 ghost use Rattle.study_html.specs.Markup.{IsWellNested};
 ghost use Rattle.study_facts.specs.Made.{HasAsked};
@@ -39,13 +39,14 @@ pub fn parts_of<'a, 'b, A: Allocator, B: Allocator, V: Values>(
     values: &mut V,
 ) -> Result<Sections<'a, A>, TextFault>
     ensures text { V.source.is_honest values.old
-        → IfOk result (λ p. AreRows FaultItems (marked bench.now) p.faults
-        × AreTimeFaults (marked bench.now) p.time_faults × AreRows Cards (marked bench.now) p.duals
-        × AreRows TryRows (marked bench.now) p.tries
-        × AreRows ZugzwangRows (marked bench.now) p.zugzwangs
-        × AreRows DefenceRows (marked bench.now) p.defences
-        × AreRows EndRows (marked bench.now) p.ends) }
-    ensures asked { HasAsked (within (marked bench.now).start.position V.source)
+        → IfOk result (λ p. AreRows FaultItems (marked_study bench.now) p.faults
+        × AreTimeFaults (marked_study bench.now) p.time_faults
+        × AreRows Cards (marked_study bench.now) p.duals
+        × AreRows TryRows (marked_study bench.now) p.tries
+        × AreRows ZugzwangRows (marked_study bench.now) p.zugzwangs
+        × AreRows DefenceRows (marked_study bench.now) p.defences
+        × AreRows EndRows (marked_study bench.now) p.ends) }
+    ensures asked { HasAsked (within (marked_study bench.now).start.position V.source)
         values.old result values.new }
 {
     // (the study has at most 4,096 nodes)
@@ -60,7 +61,7 @@ fn solution_of<'a, 'b, A: Allocator, B: Allocator>(
     alloc: &'a A,
     bench: &Bench<'b, B>,
 ) -> Result<Html<'a, A>, AllocError>
-    ensures { IfOk result (λ tree. tree ≡ solution_words (marked bench.now)) }
+    ensures { IfOk result (λ tree. tree ≡ solution_words (marked_study bench.now)) }
 {
     let start = bench.start().copied();
     let hero = bench.stipulation().hero;
@@ -94,7 +95,8 @@ fn put_rows<'a, A: Allocator>(
     head: &Html<'_, A>,
     rows: &Html<'_, A>,
 ) -> Result<(), AllocError>
-    ensures { OnOk result (html.new ≡ html.old ++ inside Table (head.now ++ inside Rows rows.now)) }
+    ensures { OnOk result (html.new ≡ html.old ++ element_text Table
+        (head.now ++ element_text Rows rows.now)) }
 {
     let mut table = Html::new(alloc);
     table.append(head)?;
@@ -171,7 +173,7 @@ fn put_solution<'a, 'b, A: Allocator, B: Allocator>(
     bench: &Bench<'b, B>,
 ) -> Result<(), AllocError>
     ensures { OnOk result (html.new ≡ html.old
-        ++ solution_part (solution_words (marked bench.now))) }
+        ++ solution_part (solution_words (marked_study bench.now))) }
 {
     let mut part = Html::new(alloc);
     let tree = solution_of(alloc, bench)?;
@@ -283,7 +285,7 @@ fn put_top<'a, 'b, A: Allocator, B: Allocator>(
     parts: &Sections<'_, A>,
 ) -> Result<(), AllocError>
     ensures { OnOk result (html.new ≡ html.old
-        ++ top (marked bench.now) unread parts.now.time_faults parts.now.faults) }
+        ++ top (marked_study bench.now) unread parts.now.time_faults parts.now.faults) }
 {
     let mut within = Html::new(alloc);
     put_figure(alloc, &mut within, bench)?;
@@ -306,7 +308,7 @@ fn put_content<'a, 'b, A: Allocator, B: Allocator>(
     parts: &Sections<'_, A>,
 ) -> Result<(), AllocError>
     ensures { OnOk result (html.new ≡ html.old
-        ++ content (marked bench.now) unread parts.now.time_faults parts.now.faults
+        ++ content (marked_study bench.now) unread parts.now.time_faults parts.now.faults
         parts.now.duals parts.now.tries parts.now.zugzwangs parts.now.defences parts.now.ends) }
 {
     put_head(alloc, html, bench)?;
@@ -332,7 +334,7 @@ fn with_row<'s, 'b, S: Allocator, B: Allocator>(
     info: EntryInfo,
 ) -> Result<Html<'s, S>, AllocError>
     ensures { IfOk result (λ more.
-        more ≡ list.now.rows.now ++ summary_row (marked bench.now) time info) }
+        more ≡ list.now.rows.now ++ summary_row (marked_study bench.now) time info) }
 {
     let mut more = Html::new(list.alloc);
     more.append(list.rows)?;
@@ -356,12 +358,12 @@ fn entry_of<'a, 's, 'b, A: Allocator, S: Allocator, B: Allocator, V: Values>(
     list: &Listed<'_, 's, S>,
 ) -> Result<Entry<'a, 's, A, S>, TextFault>
     ensures text { V.source.is_honest values.old
-        → IfOk result (λ entry. IsPage (marked bench.now) info entry.page) }
+        → IfOk result (λ entry. IsPage (marked_study bench.now) info entry.page) }
     ensures rows { V.source.is_honest values.old
-        → IfOk result (λ entry. (row : List ℕ) × IsRow (marked bench.now) info row
+        → IfOk result (λ entry. (row : List ℕ) × IsRow (marked_study bench.now) info row
         × (entry.rows ≡ list.now.rows.now ++ row)) }
     ensures entry { IfOk result (λ entry. IsEntry info.number entry.page) }
-    ensures asked { HasAsked (within (marked bench.now).start.position V.source)
+    ensures asked { HasAsked (within (marked_study bench.now).start.position V.source)
         values.old result values.new }
 {
     let mut page = Html::new(alloc);
@@ -389,26 +391,26 @@ pub fn write_page<'a, 's, 'b, A: Allocator, S: Allocator, B: Allocator, V: Value
     out: &mut W,
 ) -> Result<Html<'s, S>, ReviewFault>
     ensures ok { V.source.is_honest values.old
-        → OnOk result ((text : List ℕ) × IsPage (marked bench.now) info text
+        → OnOk result ((text : List ℕ) × IsPage (marked_study bench.now) info text
         × Appends (W.contents out.old) (W.contents out.new) text) }
     ensures plain { V.source.is_honest values.old → IsKeptRight bench.now
         → OnOk result ((text : List ℕ)
-        × IsPageOf (plain_study (marked bench.now)) info text
+        × IsPageOf (plain_study (marked_study bench.now)) info text
         × Appends (W.contents out.old) (W.contents out.new) text) }
     ensures rows { V.source.is_honest values.old
-        → IfOk result (λ rows. (row : List ℕ) × IsRow (marked bench.now) info row
+        → IfOk result (λ rows. (row : List ℕ) × IsRow (marked_study bench.now) info row
         × (rows ≡ list.entry.rows.now ++ row)) }
     ensures entry { OnOk result ((text : List ℕ) × IsEntry info.number text
         × Appends (W.contents out.old) (W.contents out.new) text) }
     ensures nested { OnOk result ((text : List ℕ) × IsWellNested text
         × Appends (W.contents out.old) (W.contents out.new) text) }
     ensures device { V.source.is_honest values.old → result ≡ Err ReviewFault.Device
-        → (text : List ℕ) × IsPage (marked bench.now) info text
+        → (text : List ℕ) × IsPage (marked_study bench.now) info text
         × TakesPrefix (W.contents out.old) (W.contents out.new) text }
     ensures memory { result ≡ Err ReviewFault.OutOfMemory → out.new ≡ out.old }
     ensures no_value { (fault : AProbeFault)
         → result ≡ Err (ReviewFault.Values fault) → out.new ≡ out.old }
-    ensures asked { HasReviewed (within (marked bench.now).start.position V.source)
+    ensures asked { HasReviewed (within (marked_study bench.now).start.position V.source)
         values.old result values.new }
 {
     let entry = entry_of(alloc, bench, values, info, &list)?;

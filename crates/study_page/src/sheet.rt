@@ -2,10 +2,10 @@
 ghost use Rattle.std.specs.Prelude.{◌≡◌, ℕ, List, ◌++◌, OnOk, IfOk, Err};
 ghost use Rattle.std.specs.Io.KnownBytes.{Appends};
 ghost use Rattle.study_text.specs.Taken.{TakesPrefix};
-ghost use Rattle.study_marks.specs.BenchState.{marked};
+ghost use Rattle.study_marks.specs.BenchState.{marked_study};
 ghost use Rattle.study_marks.specs.Study.{tag_of, plain_study};
 ghost use Rattle.study_marks.specs.declared.tag.TagName.TheVariants as tag;
-ghost use Rattle.study_head.specs.Known.{known};
+ghost use Rattle.study_head.specs.Known.{known_words};
 ghost use Rattle.study_pgn.specs.Pgn.{stipulation_text};
 ghost use Rattle.study_page.specs.Sheet.{number_words, author_line, key_words, key_of, place_caption, place, IsPlaceOf, IsPlace};
 
@@ -26,7 +26,7 @@ fn add_numbered<'b, A: Allocator, B: Allocator>(
     number: u32,
 ) -> Result<(), AllocError>
     ensures { OnOk result (text.new ≡ text.old
-        ++ number_words number (stipulation_text (marked bench.now).stipulation)) }
+        ++ number_words number (stipulation_text (marked_study bench.now).stipulation)) }
 {
     text.add_number(number)?;
     text.add(b". ")?;
@@ -50,7 +50,7 @@ fn add_key<'b, A: Allocator, B: Allocator>(
     bench: &Bench<'b, B>,
 ) -> Result<(), AllocError>
     ensures { OnOk result (text.new ≡ text.old
-        ++ key_words (marked bench.now).start (key_of (marked bench.now).tree.below)) }
+        ++ key_words (marked_study bench.now).start (key_of (marked_study bench.now).tree.below)) }
 {
     let first = bench.start();
     match move_to(bench, &[0]) {
@@ -68,8 +68,8 @@ fn put_place_caption<'a, 'b, A: Allocator, B: Allocator>(
     number: u32,
 ) -> Result<(), AllocError>
     ensures { OnOk result (html.new ≡ html.old
-        ++ place_caption number (marked bench.now).stipulation (marked bench.now).start
-        (known (tag_of (marked bench.now).tags tag.White)) (key_of (marked bench.now).tree.below)) }
+        ++ place_caption number (marked_study bench.now).stipulation (marked_study bench.now).start
+        (known_words (tag_of (marked_study bench.now).tags tag.White)) (key_of (marked_study bench.now).tree.below)) }
 {
     let mut within = Html::new(alloc);
     let mut numbered = Text::new(alloc);
@@ -91,7 +91,7 @@ fn place_of<'a, 'b, A: Allocator, B: Allocator>(
     bench: &Bench<'b, B>,
     number: u32,
 ) -> Result<Html<'a, A>, AllocError>
-    ensures { IfOk result (λ html. html ≡ place (marked bench.now) number) }
+    ensures { IfOk result (λ html. html ≡ place (marked_study bench.now) number) }
 {
     let mut html = Html::new(alloc);
     let mut within = Html::new(alloc);
@@ -108,7 +108,7 @@ fn plain_place_of<'a, 'b, A: Allocator, B: Allocator>(
     bench: &Bench<'b, B>,
     number: u32,
 ) -> Result<Html<'a, A>, AllocError>
-    ensures { IfOk result (λ html. IsPlaceOf (plain_study (marked bench.now)) number html) }
+    ensures { IfOk result (λ html. IsPlaceOf (plain_study (marked_study bench.now)) number html) }
 {
     let html = place_of(alloc, bench, number)?;
     Ok(html)
@@ -123,12 +123,12 @@ pub fn write_place<'a, 'b, A: Allocator, B: Allocator, W: Write>(
     out: &mut W,
 ) -> Result<(), WriteFault>
     ensures ok { OnOk result ((text : List ℕ)
-        × IsPlaceOf (plain_study (marked bench.now)) number text
+        × IsPlaceOf (plain_study (marked_study bench.now)) number text
         × Appends (W.contents out.old) (W.contents out.new) text) }
     ensures formed { OnOk result ((text : List ℕ) × IsPlace number text
         × Appends (W.contents out.old) (W.contents out.new) text) }
     ensures device { result ≡ Err WriteFault.Device → (text : List ℕ)
-        × IsPlaceOf (plain_study (marked bench.now)) number text
+        × IsPlaceOf (plain_study (marked_study bench.now)) number text
         × TakesPrefix (W.contents out.old) (W.contents out.new) text }
     ensures memory { result ≡ Err WriteFault.OutOfMemory → out.new ≡ out.old }
 {

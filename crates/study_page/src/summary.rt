@@ -2,13 +2,13 @@
 ghost use Rattle.std.specs.Prelude.{◌≡◌, ◌++◌, OnOk, IfOk, Err, decimal};
 ghost use Rattle.std.specs.Io.KnownBytes.{Appends};
 ghost use Rattle.study_text.specs.Taken.{TakesPrefix};
-ghost use Rattle.study_marks.specs.BenchState.{marked};
+ghost use Rattle.study_marks.specs.BenchState.{marked_study};
 ghost use Rattle.study_marks.specs.Study.{tag_of};
 ghost use Rattle.study_marks.specs.declared.tag.TagName.TheVariants as tag;
 ghost use Rattle.study_pgn.specs.Pgn.{stipulation_text};
-ghost use Rattle.study_html.specs.Elements.{inside};
-ghost use Rattle.study_html.specs.Escape.{said};
-ghost use Rattle.study_head.specs.Known.{known};
+ghost use Rattle.study_html.specs.Elements.{element_text};
+ghost use Rattle.study_html.specs.Escape.{escaped_text};
+ghost use Rattle.study_head.specs.Known.{known_words};
 ghost use Rattle.study_head.specs.Head.{title_words};
 ghost use Rattle.study_head.specs.Verdict.{stamp_words, entry_judgement};
 ghost use Rattle.study_page.specs.Lists.{refusal_part, summary_row, two_heads, three_heads, summary_heads, summary_part};
@@ -28,7 +28,8 @@ fn put_number<'a, A: Allocator>(
     element: Element,
     number: u32,
 ) -> Result<(), AllocError>
-    ensures { OnOk result (html.new ≡ html.old ++ inside element (said (decimal number))) }
+    ensures { OnOk result (html.new ≡ html.old ++ element_text element
+        (escaped_text (decimal number))) }
 {
     let mut text = Text::new(alloc);
     text.add_number(number)?;
@@ -92,8 +93,8 @@ fn put_link<'a, 'b, A: Allocator, B: Allocator>(
     number: u32,
 ) -> Result<(), AllocError>
     ensures { OnOk result (html.new ≡ html.old
-        ++ inside (Element.Link number)
-        (said (title_words (known (tag_of (marked bench.now).tags tag.Event))))) }
+        ++ element_text (Element.Link number)
+        (escaped_text (title_words (known_words (tag_of (marked_study bench.now).tags tag.Event))))) }
 {
     let title = title_words(known_tag(bench, TagName::Event));
     put_words(alloc, html, Element::Link(number), title)
@@ -105,9 +106,9 @@ fn put_link_cell<'a, 'b, A: Allocator, B: Allocator>(
     bench: &Bench<'b, B>,
     number: u32,
 ) -> Result<(), AllocError>
-    ensures { OnOk result (html.new ≡ html.old ++ inside Element.Cell
-        (inside (Element.Link number)
-        (said (title_words (known (tag_of (marked bench.now).tags tag.Event)))))) }
+    ensures { OnOk result (html.new ≡ html.old ++ element_text Element.Cell
+        (element_text (Element.Link number)
+        (escaped_text (title_words (known_words (tag_of (marked_study bench.now).tags tag.Event)))))) }
 {
     let mut within = Html::new(alloc);
     put_link(alloc, &mut within, bench, number)?;
@@ -123,9 +124,9 @@ fn put_judged<'a, 'b, A: Allocator, B: Allocator>(
     unread: Option<u32>,
 ) -> Result<(), AllocError>
     ensures { OnOk result (html.new ≡ html.old
-        ++ (inside Element.Cell (said (stipulation_text (marked bench.now).stipulation))
-        ++ inside Element.Cell
-        (said (stamp_words (entry_judgement (marked bench.now) time unread).stamp)))) }
+        ++ (element_text Element.Cell (escaped_text (stipulation_text (marked_study bench.now).stipulation))
+        ++ element_text Element.Cell
+        (escaped_text (stamp_words (entry_judgement (marked_study bench.now) time unread).stamp)))) }
 {
     let mut stipulation = Text::new(alloc);
     let mut verdict = Text::new(alloc);
@@ -145,7 +146,7 @@ pub fn add_entry<'a, 'b, A: Allocator, B: Allocator>(
     time: u32,
     info: EntryInfo,
 ) -> Result<(), AllocError>
-    ensures { OnOk result (rows.new ≡ rows.old ++ summary_row (marked bench.now) time info) }
+    ensures { OnOk result (rows.new ≡ rows.old ++ summary_row (marked_study bench.now) time info) }
 {
     let mut row = Html::new(alloc);
     put_number(alloc, &mut row, Element::Cell, info.number)?;

@@ -1,12 +1,11 @@
 //! The solution as a tree.
-ghost use Rattle.std.specs.Prelude.{◌≡◌, ◌++◌, ◌<◌, [], true, IfOk, IsOk, OnOk, Some, codes};
-ghost use Rattle.study_html.specs.Elements.{inside};
+ghost use Rattle.std.specs.Prelude.{◌≡◌, ◌++◌, ◌<◌, [], true, IfOk, IsOk, OnOk, Some};
+ghost use Rattle.study_html.specs.Elements.{element_text};
 ghost use Rattle.study_marks.specs.declared.mark.Mark.{Mark as AMark};
 ghost use Rattle.study_marks.specs.Study.{IsPlayable};
 ghost use Rattle.study_moves.specs.declared.moves.Move.{Move as AMove};
 ghost use Rattle.study_moves.specs.Rules.{is_legal};
 ghost use Rattle.study_notation.specs.StartAfter.{start_after};
-ghost use Rattle.study_pgn.specs.Moves.{number_text};
 ghost use Rattle.study_tree.specs.Edits.{node_in, width};
 ghost use Rattle.study_tree.specs.Forest.{Twig};
 ghost use Rattle.study_page.specs.Tree.{move_element, sign_words, dual_words, number_where, played_words, below_words, made_words, list_where};
@@ -20,7 +19,7 @@ use study_html::{Element, Html, put_words};
 use study_marks::{MarkedChild, MarkedNode, MoveMark};
 use study_moves::Move;
 use study_notation::Start;
-use study_pgn::{add_san, move_dots};
+use study_pgn::{add_move_number, add_san};
 use study_text::Text;
 use study_values::Value;
 
@@ -71,15 +70,6 @@ fn put_dual<'a, A: Allocator>(
     }
 }
 
-/// The number of a move.
-fn add_move_number<A: Allocator>(text: &mut Text<'_, A>, start: &Start) -> Result<(), AllocError>
-    ensures { OnOk result (text.new ≡ text.old ++ (number_text start.now ++ codes " ")) }
-{
-    text.add_number(start.number as u32)?;
-    text.add(move_dots(start.position.to_move()))?;
-    text.add(b" ")
-}
-
 /// The number of a move, before the first of a line and before each of White's.
 fn add_number<A: Allocator>(
     text: &mut Text<'_, A>,
@@ -89,7 +79,8 @@ fn add_number<A: Allocator>(
     ensures { OnOk result (text.new ≡ text.old ++ number_where first start.now) }
 {
     if first || is_white(start.position.to_move()) {
-        return add_move_number(text, start);
+        add_move_number(text, start)?;
+        return text.add(b" ");
     }
     Ok(())
 }
@@ -269,7 +260,7 @@ fn end_variation<'t, 'a, 'b, A: Allocator, B: Allocator>(
 ) -> Result<(), AllocError>
     ensures written { OnOk result (IsOk written) }
     ensures item { OnOk result (list.new ≡ list.old
-        ++ inside Element.Item variation.entry.value.text) }
+        ++ element_text Element.Item variation.entry.value.text) }
 {
     written?;
     list.put(Element::Item, &variation.text)

@@ -12,7 +12,7 @@ use Rattle.study_tree.specs.Forest.{Forest, Twig}
 use Rattle.study_tree.specs.Edits.{node_in, width}
 use Rattle.study_marks.specs.declared.mark.Mark.{Mark}
 use Rattle.study_marks.specs.Study.{IsPlayable}
-use Rattle.study_pgn.specs.Moves.{words_of_move, following, variations}
+use Rattle.study_pgn.specs.Moves.{words_of_move, continuation_text, variations}
 use Rattle.study_marks.proofs.PathWalks.{skip, playable_at}
 use Rattle.study_pgn.proofs.PathWalks.{following_none, following_first, others_first, others_done}
 
@@ -45,15 +45,15 @@ four a b w v f = append_assoc (a ++ (b ++ w)) v f ∙ append_assoc a (b ++ w) (v
 module _ (s next : Start) (f : Forest Mark) (k : ℕ) where
   -- a variation is written
   pub variation_written : (t : Twig Mark) (old mid new last whole : List ℕ) → node_in f k [] ≡ Some t → next ≡ start_after s t.played
-      → mid ≡ old ++ (codes " (" ++ words_of_move s t.played t.label) → new ≡ mid ++ following next t.below → last ≡ new ++ codes ")"
+      → mid ≡ old ++ (codes " (" ++ words_of_move s t.played t.label) → new ≡ mid ++ continuation_text next t.below → last ≡ new ++ codes ")"
       → old ++ variations s (skip k f) ≡ whole → last ++ variations s (skip (k + 1) f) ≡ whole
   variation_written t old mid new last whole e en em n l h =
       let w = words_of_move s t.played t.label in
-      let b = following (start_after s t.played) t.below in
+      let b = continuation_text (start_after s t.played) t.below in
       let v = variations s (skip (suc k) f) in
       let written : last ≡ ((old ++ (codes " (" ++ w)) ++ b) ++ codes ")" =
-      l ∙ ap (λ (x : List ℕ). x ++ codes ")") (n ∙ ap (λ (x : List ℕ). x ++ following next t.below) em
-      ∙ ap (λ x. (old ++ (codes " (" ++ w)) ++ following x t.below) en) in
+      l ∙ ap (λ (x : List ℕ). x ++ codes ")") (n ∙ ap (λ (x : List ℕ). x ++ continuation_text next t.below) em
+      ∙ ap (λ x. (old ++ (codes " (" ++ w)) ++ continuation_text x t.below) en) in
       ap (λ j. last ++ variations s (skip j f)) (add-one k) ∙ ap (λ (x : List ℕ). x ++ v) written
       ∙ five old (codes " (") w b (codes ")") v ∙ ap (λ (x : List ℕ). old ++ x) (sym (others_first s f k t e)) ∙ h
 
@@ -61,15 +61,15 @@ module _ (s next : Start) (f : Forest Mark) (k : ℕ) where
   pub all_written : (t : Twig Mark) (old mid looped new : List ℕ) → node_in f 0 [] ≡ Some t → next ≡ start_after s t.played
       → mid ≡ old ++ (codes " " ++ words_of_move s t.played t.label) → width f ≤ k
       → looped ++ variations s (skip k f) ≡ mid ++ variations s (skip 1 f)
-      → new ≡ looped ++ following next t.below → new ≡ old ++ following s f
+      → new ≡ looped ++ continuation_text next t.below → new ≡ old ++ continuation_text s f
   all_written t old mid looped new e en em few h n =
       let w = words_of_move s t.played t.label in
-      let b = following (start_after s t.played) t.below in
+      let b = continuation_text (start_after s t.played) t.below in
       let v = variations s (skip 1 f) in
       let done : looped ≡ mid ++ v = sym (append-nil looped) ∙ ap (λ (x : List ℕ). looped ++ x) (sym (others_done s f k few)) ∙ h in
-      n ∙ ap (λ x. looped ++ following x t.below) en ∙ ap (λ (x : List ℕ). x ++ b) (done ∙ ap (λ (x : List ℕ). x ++ v) em)
+      n ∙ ap (λ x. looped ++ continuation_text x t.below) en ∙ ap (λ (x : List ℕ). x ++ b) (done ∙ ap (λ (x : List ℕ). x ++ v) em)
       ∙ four old (codes " ") w v b ∙ ap (λ (x : List ℕ). old ++ x) (sym (following_first s f t e))
 
 -- there is nothing to write
-pub nothing_written : (s : Start) (f : Forest Mark) (text : List ℕ) → node_in f 0 [] ≡ None → text ≡ text ++ following s f
+pub nothing_written : (s : Start) (f : Forest Mark) (text : List ℕ) → node_in f 0 [] ≡ None → text ≡ text ++ continuation_text s f
 nothing_written s f text e = sym (append-nil text) ∙ ap (λ (x : List ℕ). text ++ x) (sym (following_none s f e))

@@ -4,7 +4,7 @@ use Rattle.std.proofs.Common.{sym, ap, ◌∙◌, inl, inr, arith, length-append
 use Rattle.std.proofs.lemmas.List.{append-nil}
 use Rattle.std.proofs.lemmas.Bool.{cases_Bool}
 use Rattle.std.specs.List.{flat_map}
-use Rattle.study_pgn.specs.Wrap.{line_text, filled, lines_of, lines_text}
+use Rattle.study_pgn.specs.Wrap.{line_text, wrapped_lines, lines_of, lines_text}
 use Rattle.study_pgn.specs.Variations.{further_word, next}
 
 abbrev pub ended : List (List ℕ) → List ℕ
@@ -19,8 +19,8 @@ line_text-push [] x w = refl
 line_text-push (y ∷ line) x w = ap (λ (t : List ℕ). x ++ (32 ∷ t)) (line_text-push line y w) ∙ sym (append_assoc x (32 ∷ line_text (y ∷ line)) (32 ∷ w))
 
 filled_is : (line : List (List ℕ)) (x : List ℕ) (ws : List (List ℕ))
-    → flat_map ended (filled (x ∷ line) ws) ≡ line_text (x ∷ line) ++ tail (length (line_text (x ∷ line))) ws
-unfolding filled tail
+    → flat_map ended (wrapped_lines (x ∷ line) ws) ≡ line_text (x ∷ line) ++ tail (length (line_text (x ∷ line))) ws
+unfolding wrapped_lines tail
 filled_is line x [] = append-nil (ended (x ∷ line))
 filled_is line x (w ∷ ws) =
     let text = line_text (x ∷ line) in

@@ -16,7 +16,7 @@ mod writer;
 
 pub use fault::PgnFault;
 pub use laws::lines_are_greedy;
-pub use move_text::{add_san, move_dots};
+pub use move_text::{add_move_number, add_san, move_dots};
 pub use root_comment::{add_opening_words, add_stipulation, meets_stipulation};
 pub use value_text::{add_value, side_name};
 pub use writer::{root_mark, write_pgn};

@@ -2,7 +2,7 @@
 ghost use Rattle.std.specs.Prelude.{◌≡◌, OnOk, IfOk, Err};
 ghost use Rattle.std.specs.Io.KnownBytes.{Appends};
 ghost use Rattle.study_text.specs.Taken.{TakesPrefix};
-ghost use Rattle.study_marks.specs.BenchState.{marked};
+ghost use Rattle.study_marks.specs.BenchState.{marked_study};
 ghost use Rattle.study_pgn.specs.Pgn.{movetext, pgn_text};
 
 use crate::PgnFault;
@@ -18,7 +18,7 @@ use study_text::{Text, write_text};
 
 /// The mark of the root.
 pub fn root_mark<'b, B: Allocator>(bench: &Bench<'b, B>) -> Mark
-    ensures { result ≡ (marked bench.now).tree.label }
+    ensures { result ≡ (marked_study bench.now).tree.label }
 {
     bench.root().mark()
 }
@@ -29,8 +29,8 @@ fn movetext<'a, 'b, A: Allocator, B: Allocator>(
     bench: &Bench<'b, B>,
     root: Mark,
 ) -> Result<Text<'a, A>, AllocError>
-    requires { root ≡ (marked bench.now).tree.label }
-    ensures { IfOk result (λ text. text ≡ movetext (marked bench.now)) }
+    requires { root ≡ (marked_study bench.now).tree.label }
+    ensures { IfOk result (λ text. text ≡ movetext (marked_study bench.now)) }
 {
     let start = bench.start();
     let mut text = Text::new(alloc);
@@ -47,7 +47,7 @@ fn pgn_text<'a, 'b, A: Allocator, B: Allocator>(
     alloc: &'a A,
     bench: &Bench<'b, B>,
 ) -> Result<Text<'a, A>, AllocError>
-    ensures { IfOk result (λ text. text ≡ pgn_text (marked bench.now)) }
+    ensures { IfOk result (λ text. text ≡ pgn_text (marked_study bench.now)) }
 {
     let root = root_mark(bench);
     let moves = movetext(alloc, bench, root)?;
@@ -69,9 +69,10 @@ pub fn write_pgn<'a, 'b, A: Allocator, B: Allocator, W: Write>(
     out: &mut W,
 ) -> Result<(), PgnFault>
     ensures ok { OnOk result
-        (Appends (W.contents out.old) (W.contents out.new) (pgn_text (marked bench.now))) }
+        (Appends (W.contents out.old) (W.contents out.new) (pgn_text (marked_study bench.now))) }
     ensures device { result ≡ Err PgnFault.Device
-        → TakesPrefix (W.contents out.old) (W.contents out.new) (pgn_text (marked bench.now)) }
+        → TakesPrefix (W.contents out.old) (W.contents out.new)
+        (pgn_text (marked_study bench.now)) }
     ensures memory { result ≡ Err PgnFault.OutOfMemory → out.new ≡ out.old }
 {
     let Ok(text) = pgn_text(alloc, bench) else {

@@ -17,9 +17,9 @@ use Rattle.study_report.specs.Parts.{Part, nothing_part, refused_part, remark_pa
 use Rattle.study_html.specs.declared.element.Element.{Element}
 use Rattle.study_html.specs.declared.element.Element.TheVariants.{Code, Head, Heads, Header, Row, Rows, Strong, Table, Title, Warning}
 use Rattle.study_html.specs.declared.element.Element.TheVariants as element
-use Rattle.study_html.specs.Escape.{said}
-use Rattle.study_html.specs.Elements.{inside}
-use Rattle.study_html.specs.Frame.{opening, closing}
+use Rattle.study_html.specs.Escape.{escaped_text}
+use Rattle.study_html.specs.Elements.{element_text}
+use Rattle.study_html.specs.Frame.{page_opening, page_closing}
 use Rattle.study_html.specs.Markup.{IsWellNested}
 use Rattle.study_html.proofs.MarkupGrows.{none_nested, both_nested, said_nested, inside_nested}
 use Rattle.study_page.specs.Page.{IsEntry}
@@ -32,10 +32,10 @@ use Rattle.study_print.proofs.BodyGrows.{none_body, both_bodies, nested_body, or
 
 -- ---- what a line writes
 
-word : (w : List ℕ) → IsWellNested (said w)
+word : (w : List ℕ) → IsWellNested (escaped_text w)
 word w = said_nested [] w none_nested
 
-within : (e : Element) (i : List ℕ) → IsWellNested i → IsWellNested (inside e i)
+within : (e : Element) (i : List ℕ) → IsWellNested i → IsWellNested (element_text e i)
 within e i h = inside_nested [] i e none_nested h
 
 refusal_nested : (number : ℕ) (text name reason : List ℕ) → IsWellNested (refusal_part number text name reason)
@@ -47,7 +47,7 @@ refusal_nested number text name reason =
 entry_nested : (number : ℕ) (text : List ℕ) → IsEntry number text → IsWellNested text
 entry_nested number text entry = subst IsWellNested (sym entry.2) (within (element.Entry number) entry.0 entry.1)
 
-explained_nested : (own : Bool) (reason : List ℕ) → IsWellNested (if own then [] else said (codes ": ") ++ said reason)
+explained_nested : (own : Bool) (reason : List ℕ) → IsWellNested (if own then [] else escaped_text (codes ": ") ++ escaped_text reason)
 explained_nested true reason = none_nested
 explained_nested false reason = both_nested _ _ (word _) (word _)
 
@@ -92,10 +92,10 @@ parts_nested lines studies (line ∷ more) (part ∷ parts) h =
 
 -- ---- the list of all entries
 
-heads_nested : (a b c d e : List ℕ) → IsWellNested (inside Heads (inside Row (two_heads a b ++ three_heads c d e)))
+heads_nested : (a b c d e : List ℕ) → IsWellNested (element_text Heads (element_text Row (two_heads a b ++ three_heads c d e)))
 unfolding two_heads three_heads
 heads_nested a b c d e =
-    let head : (w : List ℕ) → IsWellNested (inside Head (said w)) = λ w. within Head _ (word w) in
+    let head : (w : List ℕ) → IsWellNested (element_text Head (escaped_text w)) = λ w. within Head _ (word w) in
     within Heads _ (within Row _ (both_nested _ _ (both_nested _ _ (head a) (head b)) (both_nested _ _ (head c) (both_nested _ _ (head d) (head e)))))
 
 list_nested : (rows : List ℕ) → IsWellNested rows → IsWellNested (summary_part rows)
@@ -112,18 +112,19 @@ summary_nested Several rows h = list_nested rows h
 -- ---- the file
 
 module _ (old begun ended new : Option (List ℕ)) (count : EntryCount) (rows : List ℕ) (nested : IsWellNested rows) where
-  whole : (lines : List (List ℕ)) (refusals : ℕ) → Appends old begun opening → AreWritten IsEntry refusal_text remark_text lines begun ended refusals
+  whole : (lines : List (List ℕ)) (refusals : ℕ) → Appends old begun page_opening → AreWritten IsEntry refusal_text remark_text lines begun ended refusals
       → Appends ended new (end_text count rows) → IsWholeFile old new
   whole lines refusals opened written closed =
       let parts = parts_text written.0 in
       let list = summary_text count rows in (
         parts ++ list,
         both_bodies parts list (parts_nested 0 0 lines written.0 written.1) (nested_body list (summary_nested count rows nested)),
-        subst (Appends old new) (ap (λ (t : List ℕ). opening ++ t) (sym (append_assoc parts list closing)))
-            (Appends-trans old begun new opening (parts ++ (list ++ closing)) opened (Appends-trans begun ended new parts (list ++ closing) written.2 closed)),
+        subst (Appends old new) (ap (λ (t : List ℕ). page_opening ++ t) (sym (append_assoc parts list page_closing)))
+            (Appends-trans old begun new page_opening (parts ++ (list ++ page_closing)) opened
+            (Appends-trans begun ended new parts (list ++ page_closing) written.2 closed)),
       )
 
-  pub whole_by : (script : List ℕ) (left : Option (List ℕ)) (answer : Result Summary RunFault) → Appends old begun opening
+  pub whole_by : (script : List ℕ) (left : Option (List ℕ)) (answer : Result Summary RunFault) → Appends old begun page_opening
       → Fits IsEntry refusal_text remark_text script left begun ended answer → Appends ended new (end_text count rows) → IsWholeUnlessCut old new answer
   whole_by script left (Ok summary) opened fits closed = whole _ _ opened fits closed
   whole_by script left (Err ReadDevice) opened fits closed = whole _ _ opened fits.4 closed
@@ -141,7 +142,7 @@ module _ (old begun ended new : Option (List ℕ)) (count : EntryCount) (rows : 
   cut (Err OutOfMemory) answer broken same = absurd (false≢true broken)
 
   ended_if : (broken : Bool) (script : List ℕ) (left : Option (List ℕ)) (ran answer : Result Summary RunFault) → writer_failed ran ≡ broken
-      → Appends old begun opening → Fits IsEntry refusal_text remark_text script left begun ended ran
+      → Appends old begun page_opening → Fits IsEntry refusal_text remark_text script left begun ended ran
       → IsEndedIf broken (end_text count rows) ended new ran answer → IsWholeUnlessCut old new answer
   ended_if true script left ran answer broken opened fits end = cut ran answer broken end.0
   ended_if false script left ran answer broken opened fits (inl end) =
@@ -149,7 +150,7 @@ module _ (old begun ended new : Option (List ℕ)) (count : EntryCount) (rows : 
   ended_if false script left ran answer broken opened fits (inr (inl end)) = subst (IsWholeUnlessCut old new) (sym end.0) tt
   ended_if false script left ran answer broken opened fits (inr (inr end)) = subst (IsWholeUnlessCut old new) (sym end.0) tt
 
-  pub whole_file : (left : Option (List ℕ)) (given : Option (List ℕ)) (ran answer : Result Summary RunFault) → Appends old begun opening
+  pub whole_file : (left : Option (List ℕ)) (given : Option (List ℕ)) (ran answer : Result Summary RunFault) → Appends old begun page_opening
       → IfSome given (λ bytes. Fits IsEntry refusal_text remark_text bytes left begun ended ran) → IsEnded (end_text count rows) ended new ran answer
       → IfSome given (λ bytes. IsWholeUnlessCut old new answer)
   whole_file left None ran answer opened fits end = tt

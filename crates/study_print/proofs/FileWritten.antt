@@ -9,7 +9,7 @@ use Rattle.study_script.specs.declared.running.RunFault.TheVariants.{WriteDevice
 use Rattle.study_script.specs.State.{State}
 use Rattle.study_report.specs.Outcome.{Outcome, AreListed, AreListedBefore, Shape}
 use Rattle.study_report.specs.Parts.{Fits}
-use Rattle.study_html.specs.Frame.{opening}
+use Rattle.study_html.specs.Frame.{page_opening}
 use Rattle.study_page.specs.Page.{IsPageOf, IsEntry}
 use Rattle.study_print.specs.declared.pages.EntryCount.{EntryCount}
 use Rattle.study_print.specs.Entries.{AreEntries}
@@ -31,7 +31,7 @@ module _ (first : State) (left old begun ended new : Option (List ℕ)) (answer 
   listed_in script (Ok summary) h k = h
   listed_in script (Err fault) h k = k
 
-  pub whole_file : (given : Option (List ℕ)) (ran : Result Summary RunFault) → Appends old begun opening
+  pub whole_file : (given : Option (List ℕ)) (ran : Result Summary RunFault) → Appends old begun page_opening
       → IfSome given (λ bytes. Outcome IsPageOf refusal_text remark_text first bytes left begun ended ran)
       → OnOk ran (IfSome given (λ bytes. AreListed IsPageOf refusal_text remark_text first bytes begun ended (AreEntries count rows)))
       → IfErr ran (λ fault. IfSome given
@@ -43,7 +43,7 @@ module _ (first : State) (left old begun ended new : Option (List ℕ)) (answer 
       inr (begun, ended, ran, count, rows, opened, reported, listed_in script ran listed before, end)
 
 -- the writer fails before the first line
-pub no_file : (first : State) (given old new : Option (List ℕ)) → TakesPrefix old new opening
+pub no_file : (first : State) (given old new : Option (List ℕ)) → TakesPrefix old new page_opening
     → IfSome given (λ bytes. IsFile first bytes given old new (Err WriteDevice))
 no_file first None old new h = tt
 no_file first (Some script) old new h = inl (refl, refl, h)
@@ -69,11 +69,11 @@ no_shape (Some script) = inl (refl, refl)
 -- ---- what is written, whatever the tables say
 
 pub whole_fits : (left old begun ended new : Option (List ℕ)) (answer : Result Summary RunFault) (count : EntryCount) (rows : List ℕ) (given : Option (List ℕ))
-    (ran : Result Summary RunFault) → Appends old begun opening → IfSome given (λ bytes. Fits IsEntry refusal_text remark_text bytes left begun ended ran)
+    (ran : Result Summary RunFault) → Appends old begun page_opening → IfSome given (λ bytes. Fits IsEntry refusal_text remark_text bytes left begun ended ran)
     → IsEnded (end_text count rows) ended new ran answer → IfSome given (λ bytes. FileFits bytes left old new answer)
 whole_fits left old begun ended new answer count rows None ran opened fits end = tt
 whole_fits left old begun ended new answer count rows (Some script) ran opened fits end = inr (begun, ended, ran, count, rows, opened, fits, end)
 
-pub no_fit : (given left old new : Option (List ℕ)) → TakesPrefix old new opening → IfSome given (λ bytes. FileFits bytes left old new (Err WriteDevice))
+pub no_fit : (given left old new : Option (List ℕ)) → TakesPrefix old new page_opening → IfSome given (λ bytes. FileFits bytes left old new (Err WriteDevice))
 no_fit None left old new h = tt
 no_fit (Some script) left old new h = inl (refl, h)

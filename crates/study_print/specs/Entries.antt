@@ -4,8 +4,8 @@ use Rattle.study_marks.specs.declared.mark.Mark.{Mark}
 use Rattle.study_marks.specs.Study.{Study, plain_study}
 use Rattle.study_marks.specs.Annotated.{IsAnnotated}
 use Rattle.study_html.specs.declared.element.Element.TheVariants.{Cell, Row}
-use Rattle.study_html.specs.Escape.{said}
-use Rattle.study_html.specs.Elements.{inside}
+use Rattle.study_html.specs.Escape.{escaped_text}
+use Rattle.study_html.specs.Elements.{element_text}
 use Rattle.study_report.specs.Remarks.{subject, statement}
 use Rattle.study_report.specs.Reported.{Entry, study_entry, game_entry}
 use Rattle.study_page.specs.Page.{IsRow}
@@ -21,13 +21,13 @@ count_of (x ∷ y ∷ more) = Several
 
 -- why a game was left out, with what that means
 abbrev pub left_out_words : List ℕ → List ℕ
-left_out_words why = said why ++ explanation why
+left_out_words why = escaped_text why ++ explanation why
 
 -- a game that was left out: its place among the games in place of a title, and the reason in place of a verdict
 unfoldable pub left_out_row : List ℕ → List ℕ
 left_out_row line =
-    inside Row (inside Cell [] ++ (inside Cell (said (subject line)) ++ (inside Cell [] ++ (inside Cell []
-    ++ inside Cell (left_out_words (statement line))))))
+    element_text Row (element_text Cell [] ++ (element_text Cell (escaped_text (subject line)) ++ (element_text Cell [] ++ (element_text Cell []
+    ++ element_text Cell (left_out_words (statement line))))))
 
 -- the row of a study is that of its annotation
 abbrev pub IsRowOf : Entry → List ℕ → Type 0

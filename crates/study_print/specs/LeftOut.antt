@@ -1,6 +1,6 @@
 -- Why a game was left out, in words.
 use Rattle.std.specs.Prelude.{ℕ, List, [], ◌++◌, if◌then◌else◌, codes}
-use Rattle.study_html.specs.Escape.{said}
+use Rattle.study_html.specs.Escape.{escaped_text}
 use Rattle.study_reply.specs.Reasons.{reason_of}
 use Rattle.study_report.specs.Remarks.{begins}
 
@@ -34,4 +34,4 @@ game_reason why =
 
 -- `: no legal move of this position`, after `NoSuchMove at Kb6`; the words `left out: 7 men` are their own reason
 abbrev pub explanation : List ℕ → List ℕ
-explanation why = if begins why (codes "left out: ") then [] else said (codes ": ") ++ said (game_reason why)
+explanation why = if begins why (codes "left out: ") then [] else escaped_text (codes ": ") ++ escaped_text (game_reason why)

@@ -9,7 +9,7 @@ use Rattle.study_script.specs.State.{State}
 use Rattle.study_report.specs.Outcome.{Outcome, AreListed, AreListedBefore, Shape}
 use Rattle.study_report.specs.Parts.{Fits}
 use Rattle.study_reply.specs.Reasons.{reason_of}
-use Rattle.study_html.specs.Frame.{opening, closing}
+use Rattle.study_html.specs.Frame.{page_opening, page_closing}
 use Rattle.study_html.specs.Markup.{Markup, text_of}
 use Rattle.study_page.specs.Page.{IsPageOf, IsEntry}
 use Rattle.study_page.specs.Lists.{refusal_part, summary_part}
@@ -31,7 +31,7 @@ summary_text Several rows = summary_part rows
 
 -- what comes after the last page
 abbrev pub end_text : EntryCount → List ℕ → List ℕ
-end_text count rows = summary_text count rows ++ closing
+end_text count rows = summary_text count rows ++ page_closing
 
 -- whether the writer failed
 abbrev pub writer_failed : Result Summary RunFault → Bool
@@ -61,8 +61,8 @@ AreItsEntries first script old new (Err fault) count rows = AreListedBefore IsPa
 -- the opening; in script order the page of each study of an accepted `pgn` line, each refused line and each remark; the list of the entries; and the closing.
 abbrev pub IsFile : State → List ℕ → Option (List ℕ) → Option (List ℕ) → Option (List ℕ) → Result Summary RunFault → Type 0
 IsFile first script left old new answer =
-    ((answer ≡ Err WriteDevice) × (left ≡ Some script) × TakesPrefix old new opening)
-    ⊎ ((begun ended : Option (List ℕ)) × (ran : Result Summary RunFault) × (count : EntryCount) × (rows : List ℕ) × Appends old begun opening
+    ((answer ≡ Err WriteDevice) × (left ≡ Some script) × TakesPrefix old new page_opening)
+    ⊎ ((begun ended : Option (List ℕ)) × (ran : Result Summary RunFault) × (count : EntryCount) × (rows : List ℕ) × Appends old begun page_opening
     × Outcome IsPageOf refusal_text remark_text first script left begun ended ran × AreItsEntries first script begun ended ran count rows
     × IsEnded (end_text count rows) ended new ran answer)
 
@@ -79,8 +79,8 @@ FileShape script left answer =
 -- as are counted, and the part after the last page.
 abbrev pub FileFits : List ℕ → Option (List ℕ) → Option (List ℕ) → Option (List ℕ) → Result Summary RunFault → Type 0
 FileFits script left old new answer =
-    ((answer ≡ Err WriteDevice) × TakesPrefix old new opening)
-    ⊎ ((begun ended : Option (List ℕ)) × (ran : Result Summary RunFault) × (count : EntryCount) × (rows : List ℕ) × Appends old begun opening
+    ((answer ≡ Err WriteDevice) × TakesPrefix old new page_opening)
+    ⊎ ((begun ended : Option (List ℕ)) × (ran : Result Summary RunFault) × (count : EntryCount) × (rows : List ℕ) × Appends old begun page_opening
     × Fits IsEntry refusal_text remark_text script left begun ended ran × IsEnded (end_text count rows) ended new ran answer)
 
 -- markup, and between it paragraphs of original texts, which may have letters outside ASCII
@@ -100,7 +100,7 @@ IsBody text = (body : Body) × (text ≡ body_text body)
 
 -- a whole file: between the opening and the closing all is well nested
 abbrev pub IsWholeFile : Option (List ℕ) → Option (List ℕ) → Type 0
-IsWholeFile old new = (text : List ℕ) × IsBody text × Appends old new (opening ++ (text ++ closing))
+IsWholeFile old new = (text : List ℕ) × IsBody text × Appends old new (page_opening ++ (text ++ page_closing))
 
 -- A file is whole, whatever is held and whatever its tables say, unless its writer failed or there was no memory: a run that stops at a fault of its
 -- script closes the file, too.

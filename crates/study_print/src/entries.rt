@@ -1,6 +1,6 @@
 //! The rows of games that were left out.
 ghost use Rattle.std.specs.Prelude.{◌≡◌, ◌++◌, OnOk, IfOk, IfErr};
-ghost use Rattle.study_html.specs.Elements.{inside};
+ghost use Rattle.study_html.specs.Elements.{element_text};
 ghost use Rattle.study_html.specs.declared.element.Element.TheVariants.{Cell};
 ghost use Rattle.study_print.specs.Entries.{left_out_words, left_out_row};
 
@@ -15,7 +15,7 @@ fn put_reason<'a, A: Allocator>(
     row: &mut Html<'_, A>,
     why: &[u8],
 ) -> Result<(), AllocError>
-    ensures { OnOk result (row.new ≡ row.old ++ inside Cell (left_out_words why.now)) }
+    ensures { OnOk result (row.new ≡ row.old ++ element_text Cell (left_out_words why.now)) }
 {
     let mut words = Html::new(alloc);
     words.say(why)?;

@@ -94,7 +94,7 @@ impl<'s, S: Allocator, N: Watch> Report for Pages<'s, S, N> {
         let rows = write_page(alloc, bench, values, info, list, out)?;
         self.rows = rows;
         self.count = self.count.next();
-        self.watch.reported(info.number);
+        self.watch.report(info.number);
         Ok(())
     }
 

@@ -3,10 +3,10 @@ ghost use Rattle.std.specs.Prelude.{◌≡◌, ◌∷◌, ◌++◌, [], Err, OnO
 ghost use Rattle.std.specs.List.{flat_map};
 ghost use Rattle.std.specs.Io.KnownBytes.{Appends};
 ghost use Rattle.study_text.specs.Taken.{TakesPrefix};
-ghost use Rattle.study_html.specs.Escape.{said};
+ghost use Rattle.study_html.specs.Escape.{escaped_text};
 ghost use Rattle.study_report.specs.Remarks.{statement};
 ghost use Rattle.study_print.specs.LeftOut.{explanation};
-ghost use Rattle.study_print.specs.Remarks.{left_out_part, letter, latin_letter, spelled, original_part, remark_text};
+ghost use Rattle.study_print.specs.Remarks.{left_out_part, letter, latin_letter, printed_text, original_part, remark_text};
 
 use crate::left_out::say_explanation;
 use std::alloc::{AllocError, Allocator};
@@ -19,7 +19,7 @@ use study_text::{Text, write_text};
 /// Adds which game was left out, and why, by the line of its remark.
 fn say_left_out<A: Allocator>(part: &mut Html<'_, A>, line: &[u8]) -> Result<(), AllocError>
     ensures { OnOk result (part.new ≡ part.old
-        ++ (said (drop 2 line.now) ++ explanation (statement line.now))) }
+        ++ (escaped_text (drop 2 line.now) ++ explanation (statement line.now))) }
 {
     part.say(behind(line, 2))?;
     say_explanation(part, statement(line))
@@ -61,7 +61,7 @@ fn add_said<'a, A: Allocator>(
     text: &mut Text<'_, A>,
     byte: u8,
 ) -> Result<(), AllocError>
-    ensures { OnOk result (text.new ≡ text.old ++ said (byte ∷ [])) }
+    ensures { OnOk result (text.new ≡ text.old ++ escaped_text (byte ∷ [])) }
 {
     let mut html = Html::new(alloc);
     html.say(&[byte])?;
@@ -123,13 +123,13 @@ fn add_latin_letters<'a, A: Allocator>(
 }
 
 /// Adds a text in its own letters.
-#[tactic(auto, unfolding(crate::specs::Remarks::spelled))]
+#[tactic(auto, unfolding(crate::specs::Remarks::printed_text))]
 fn add_spelled<'a, A: Allocator>(
     alloc: &'a A,
     text: &mut Text<'_, A>,
     bytes: &[u8],
 ) -> Result<(), AllocError>
-    ensures { OnOk result (text.new ≡ text.old ++ spelled bytes.now) }
+    ensures { OnOk result (text.new ≡ text.old ++ printed_text bytes.now) }
 {
     if is_utf8(bytes) {
         return add_letters(alloc, text, bytes);

@@ -4,7 +4,7 @@
 ///
 /// No contract: it may do anything with the number.
 pub trait Watch: Drop {
-    fn reported(&mut self, count: u32);
+    fn report(&mut self, count: u32);
 }
 
 /// A watcher that does nothing.
@@ -12,5 +12,5 @@ pub trait Watch: Drop {
 pub struct Unwatched;
 
 impl Watch for Unwatched {
-    fn reported(&mut self, _count: u32) {}
+    fn report(&mut self, _count: u32) {}
 }

@@ -3,7 +3,7 @@ use Rattle.std.specs.Prelude.{◌≡◌, ◌⊎◌, ℕ, ◌/◌, ◌%◌, ◌<�
 use Rattle.study_board.specs.Position.{Position, IsValid}
 use Rattle.study_material.specs.declared.class.Class.{Class}
 use Rattle.study_material.specs.Class.{IsOf, class_number}
-use Rattle.study_text.specs.Counts.{counted}
+use Rattle.study_text.specs.Counts.{next_count}
 use Rattle.study_values.specs.Index.{index_of}
 use Rattle.study_values.specs.Cells.{value_of}
 use Rattle.study_values.specs.Game.{IsValueOf}
@@ -27,7 +27,7 @@ is_page_fault (Err (PageDamaged c n)) = true
 
 -- the number of device faults after such an answer
 abbrev pub page_faults_after : {T : Type 0} → ℕ → Result T ProbeFault → ℕ
-page_faults_after count answer = if is_page_fault answer then counted count else count
+page_faults_after count answer = if is_page_fault answer then next_count count else count
 
 -- the source of the class was asked, and is the same source
 pub record IsAskedSource {S : Type 0} (gives : GivesOf S) (honest : HonestOf S) (c : Class) (old new : List (Option (OpenTable S))) : Type 0 where

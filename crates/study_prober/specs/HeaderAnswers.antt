@@ -6,7 +6,7 @@ use Rattle.study_table.specs.Table.{Table}
 use Rattle.study_values.specs.declared.fault.SourceFault.{SourceFault}
 use Rattle.study_values.specs.declared.fault.FileFault.{FileFault}
 use Rattle.study_tablefile.specs.declared.page_source.Header.{Header}
-use Rattle.study_text.specs.Counts.{counted}
+use Rattle.study_text.specs.Counts.{next_count}
 use Rattle.study_tablefile.specs.PageSource.{of_header}
 use Rattle.study_tablefile.specs.Format.{header_text}
 use Rattle.study_tablefile.specs.Reading.{version_of, class_read}
@@ -61,4 +61,4 @@ is_unread (Err OutOfMemory) = false
 
 -- the number of failures of a source after such a result
 abbrev pub unread_after : {T : Type 0} → ℕ → Result T PagedFault → ℕ
-unread_after count answer = if is_unread answer then counted count else count
+unread_after count answer = if is_unread answer then next_count count else count

@@ -9,7 +9,7 @@ use Rattle.study_values.specs.declared.value.Value.{Value}
 use Rattle.study_tablefile.specs.declared.page_source.Header.{Header}
 use Rattle.study_tablefile.specs.Format.{IsVersionOf, fields_text, page_cells_of}
 use Rattle.study_values.specs.declared.fault.SourceFault.{SourceFault}
-use Rattle.study_text.specs.Counts.{counted}
+use Rattle.study_text.specs.Counts.{next_count}
 use Rattle.study_tablefile.specs.PageSource.{is_whole_page, Question, of_page}
 use Rattle.study_prober.specs.declared.open_table.OpenTable.{OpenTable}
 use Rattle.study_prober.specs.declared.page_cache.PageKey.{PageKey}
@@ -91,7 +91,7 @@ is_read_fault (Err (PageDamaged c n)) = false
 
 -- the number of failures of a source after such an answer
 abbrev pub failed_after : {T : Type 0} → ℕ → Result T ProbeFault → ℕ
-failed_after count answer = if is_read_fault answer then counted count else count
+failed_after count answer = if is_read_fault answer then next_count count else count
 
 -- each cached page was cached before, or is a new one
 abbrev pub PutsOnly : {V : Type 0} → (PageKey → V → Type 0) → List (PageKey × V) → List (PageKey × V) → Type 0

@@ -1,7 +1,7 @@
 //! Values whose tables can be read a page at a time, too.
 ghost use Rattle.std.specs.Prelude.{◌≡◌, ◌↔◌, ◌<◌, ℕ, false, OnOk, IfErr, IsErrOf};
 ghost use Rattle.study_material.specs.declared.class.Class.{Class as AClass};
-ghost use Rattle.study_text.specs.Counts.{counted};
+ghost use Rattle.study_text.specs.Counts.{next_count};
 ghost use Rattle.study_values.specs.Size.{pages_of};
 ghost use Rattle.study_values.specs.Values.{IsNotDamage};
 ghost use Rattle.study_values.specs.declared.fault.SourceFault.{SourceFault as ASourceFault};
@@ -46,7 +46,7 @@ pub trait CellPages: Values {
             → (c ≡ class) × (n ≡ number) }
         ensures same_tables { (c : AClass)
             → Self.source.held self.new c ≡ Self.source.held self.old c }
-        ensures asked { Self.source.asked_of self.new ≡ counted (Self.source.asked_of self.old) }
+        ensures asked { Self.source.asked_of self.new ≡ next_count (Self.source.asked_of self.old) }
         ensures failures { Self.source.failed_of self.new
             ≡ page_faults_after (Self.source.failed_of self.old) result };
 }

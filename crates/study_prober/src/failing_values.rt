@@ -3,7 +3,7 @@ ghost use Rattle.std.specs.Prelude.{◌≡◌, ◌↔◌, ◌⊎◌, ℕ, Some, 
 ghost use Rattle.study_material.specs.declared.class.Class.{Class as AClass};
 ghost use Rattle.study_material.specs.Class.{IsOf};
 ghost use Rattle.study_values.specs.Game.{IsValueOf};
-ghost use Rattle.study_text.specs.Counts.{counted};
+ghost use Rattle.study_text.specs.Counts.{next_count};
 ghost use Rattle.study_values.specs.declared.fault.SourceFault.{SourceFault as ASourceFault};
 ghost use Rattle.study_values.specs.declared.fault.SourceFault.TheVariants.{Device};
 ghost use Rattle.study_values.specs.Values.{IsNotDamage, faults_after, page_number};
@@ -68,7 +68,7 @@ impl<V: Values> Values for FailingValues<V> {
             → IsOf c p.now × (n ≡ page_number p.now) }
         ensures same_tables { (c : AClass)
             → V.source.held self.new.values c ≡ V.source.held self.old.values c }
-        ensures asked { self.new.asked ≡ counted self.old.asked }
+        ensures asked { self.new.asked ≡ next_count self.old.asked }
         ensures failures { self.new.failures ≡ faults_after self.old.failures result }
         ensures fails { FailsNext V.source self.old p.now
             → result ≡ Err (ProbeFault.TableRead SourceFault.Device) }
@@ -79,7 +79,7 @@ impl<V: Values> Values for FailingValues<V> {
         ensures passed { (FailsNext V.source self.old p.now → ⊥)
             → V.source.gives self.old.values p.now result }
         ensures asked_on { (FailsNext V.source self.old p.now → ⊥)
-            → V.source.asked_of self.new.values ≡ counted (V.source.asked_of self.old.values) }
+            → V.source.asked_of self.new.values ≡ next_count (V.source.asked_of self.old.values) }
         ensures failures_on { (FailsNext V.source self.old p.now → ⊥)
             → V.source.failed_of self.new.values
             ≡ faults_after (V.source.failed_of self.old.values) result }

@@ -1,7 +1,7 @@
 //! Sources of pages, each with its header, and the cells of their tables.
 ghost use Rattle.std.specs.Prelude.{◌≡◌, ◌<◌, ◌/◌, ℕ, List, Result, Err, None, IfOk, OnOk, OnErr, IsErrOf, Contains, slice_index, take};
 ghost use Rattle.study_material.specs.declared.class.Class.{Class as AClass};
-ghost use Rattle.study_text.specs.Counts.{counted};
+ghost use Rattle.study_text.specs.Counts.{next_count};
 ghost use Rattle.study_values.specs.Cells.{value_of};
 ghost use Rattle.study_table.specs.Table.{Table as Seen, IsComplete};
 ghost use Rattle.study_values.specs.Number.{cells_of};
@@ -32,7 +32,7 @@ pub struct OpenTable<S> {
 pub fn header_of<S: PageSource>(source: &mut S) -> Result<Header, PagedFault>
     ensures same { AreHonestAlike S.honest source.old source.new }
     ensures count { S.failed source.new ≡ unread_after (S.failed source.old) result }
-    ensures asked { S.asked source.new ≡ counted (S.asked source.old) }
+    ensures asked { S.asked source.new ≡ next_count (S.asked source.old) }
     ensures alike { GiveAlike S.gives source.old source.new }
     ensures reported { (reported : Result (List ℕ) ASourceFault)
         × MayAnswer S.gives S.honest source.old reported × IsReported reported result }
@@ -74,7 +74,7 @@ impl<S: PageSource> OpenTable<S> {
             → HasBadPage S.gives self.old number }
         ensures no_table { (c : AClass) → IsErrOf result (ProbeFault.NoTable c) → ⊥ }
         ensures failed { S.failed self.new.source ≡ failed_after (S.failed self.old.source) result }
-        ensures asked { S.asked self.new.source ≡ counted (S.asked self.old.source) }
+        ensures asked { S.asked self.new.source ≡ next_count (S.asked self.old.source) }
     {
         self.source.page(number, into)?;
         if page_cells(&self.header, number, into) {
@@ -144,7 +144,7 @@ fn read_value_from_page<'a, S: PageSource, A: Allocator>(
         → (c ≡ held.old.header.class) × (n ≡ key.number) }
     ensures no_table { (c : AClass) → IsErrOf result (ProbeFault.NoTable c) → ⊥ }
     ensures failed { S.failed held.new.source ≡ failed_after (S.failed held.old.source) result }
-    ensures asked { S.asked held.new.source ≡ counted (S.asked held.old.source) }
+    ensures asked { S.asked held.new.source ≡ next_count (S.asked held.old.source) }
     ensures more { PutsOnly (λ k v. (k ≡ key)
         × ((t : Seen) → S.honest held.old.source t held.old.header.version
         → t.class ≡ held.old.header.class
@@ -191,7 +191,7 @@ pub fn value_of_number<'a, S: PageSource, A: Allocator>(
     ensures no_table { (c : AClass) → IsErrOf result (ProbeFault.NoTable c) → ⊥ }
     ensures failed { S.failed held.new.source ≡ failed_after (S.failed held.old.source) result }
     ensures once { kept_cell (λ v. v.items) pages.old.entries held.old.header.class number ≡ None
-        → S.asked held.new.source ≡ counted (S.asked held.old.source) }
+        → S.asked held.new.source ≡ next_count (S.asked held.old.source) }
     ensures more { PutsOnly (λ k v. (k.class ≡ held.old.header.class)
         × ((t : Seen) → S.honest held.old.source t held.old.header.version
         → t.class ≡ held.old.header.class

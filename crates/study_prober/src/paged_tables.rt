@@ -9,7 +9,7 @@ ghost use Rattle.study_values.specs.Cells.{value_of};
 ghost use Rattle.study_values.specs.Game.{IsValueOf};
 ghost use Rattle.study_material.specs.Class.{class_number};
 ghost use Rattle.study_table.specs.Table.{Table as Seen, IsComplete};
-ghost use Rattle.study_text.specs.Counts.{counted};
+ghost use Rattle.study_text.specs.Counts.{next_count};
 ghost use Rattle.study_tablefile.specs.PageSource.{of_page};
 ghost use Rattle.study_tablefile.specs.Format.{IsVersionOf};
 ghost use Rattle.study_values.specs.Size.{pages_of};
@@ -106,7 +106,7 @@ impl<'a, S: PageSource, A: Allocator> PagedTables<'a, S, A> {
               sources = slice_set (places_for_classes self.old.sources)
                   (class_number class) (Some h);
             })
-            × (S.asked h.source ≡ counted (S.asked source))
+            × (S.asked h.source ≡ next_count (S.asked source))
             ) }
         ensures same { OnErr result (self.new ≡ self.old) }
         ensures takes_no_memory { ¬ (length self.old.sources ≡ 0)
@@ -221,7 +221,7 @@ fn probe_paged<'a, S: PageSource, A: Allocator>(
     ensures once { (c : AClass) (h k : AHeld S) → IsOf c p.now
         → held_of sources.old.items c ≡ Some h → held_of sources.new.items c ≡ Some k
         → kept_cell (λ v. v.items) pages.old.entries c (index_of p.now) ≡ None
-        → S.asked k.source ≡ counted (S.asked h.source) }
+        → S.asked k.source ≡ next_count (S.asked h.source) }
     ensures others { (c : AClass) → (IsOf c p.now → ⊥)
         → held_of sources.new.items c ≡ held_of sources.old.items c }
     ensures again { (c : AClass) → IsOf c p.now
@@ -261,7 +261,7 @@ impl<'a, S: PageSource, A: Allocator> Values for PagedTables<'a, S, A> {
             ↔ (IsOf c p.now × (is_some (held_of self.old.sources c) ≡ false)) }
         ensures same_tables { (c : AClass)
             → is_some (held_of self.new.sources c) ≡ is_some (held_of self.old.sources c) }
-        ensures asked { self.new.asked ≡ counted self.old.asked }
+        ensures asked { self.new.asked ≡ next_count self.old.asked }
         ensures failures { self.new.failed ≡ faults_after self.old.failed result }
 
         // If a source is honest for a table of the class, an answer is the table's, and no page is damaged.
@@ -315,7 +315,7 @@ impl<'a, S: PageSource, A: Allocator> Values for PagedTables<'a, S, A> {
         ensures once { (c : AClass) (h k : AHeld S) → IsOf c p.now
             → held_of self.old.sources c ≡ Some h → held_of self.new.sources c ≡ Some k
             → kept_cell (λ cells. cells) self.old.kept c (index_of p.now) ≡ None
-            → S.asked k.source ≡ counted (S.asked h.source) }
+            → S.asked k.source ≡ next_count (S.asked h.source) }
     {
         self.asked = self.asked.saturating_add(1);
         let answer = probe_paged(&mut self.sources, &mut self.kept, self.alloc, p);

@@ -10,7 +10,7 @@ ghost use Rattle.study_material.specs.Class.{class_number};
 ghost use Rattle.study_table.specs.Table.{Table as Seen, table_of};
 ghost use Rattle.study_table.specs.TableSet.{add_fault};
 ghost use Rattle.study_table.specs.Sound.{IsRight};
-ghost use Rattle.study_text.specs.Counts.{counted};
+ghost use Rattle.study_text.specs.Counts.{next_count};
 ghost use Rattle.study_values.specs.declared.fault.SourceFault.{SourceFault as ASourceFault};
 ghost use Rattle.study_values.specs.Values.{IsNotDamage, faults_after, page_number};
 ghost use Rattle.study_tablefile.specs.Format.{page_cells_of};
@@ -91,7 +91,7 @@ impl<'a, A: Allocator> Values for WholeTables<'a, A> {
             → IsOf c p.now × (n ≡ page_number p.now) }
         ensures same_tables { (c : AClass)
             → is_some (table_of self.new.tables c) ≡ is_some (table_of self.old.tables c) }
-        ensures asked { self.new.asked ≡ counted self.old.asked }
+        ensures asked { self.new.asked ≡ next_count self.old.asked }
         ensures failures { 0 ≡ faults_after 0 result }
         ensures reported { (c : AClass) (t : Seen) → IsOf c p.now
             → table_of self.old.tables c ≡ Some t

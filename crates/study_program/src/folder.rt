@@ -3,7 +3,7 @@ ghost use Rattle.std.specs.Prelude.{⊤, ◌≡◌, true, None, OnOk, OnErr, vec
 ghost use Rattle.std.specs.Io.KnownBytes.{Consumes};
 ghost use Rattle.study_tablefile.specs.Reading.{IsShort};
 ghost use Rattle.study_values.specs.declared.fault.SourceFault.TheVariants.{Device, Short};
-ghost use Rattle.study_text.specs.Counts.{counted};
+ghost use Rattle.study_text.specs.Counts.{next_count};
 
 use std::alloc::{AllocError, Allocator};
 use std::io::{ErrorKind, Read, Seek, SeekFrom};
@@ -117,9 +117,9 @@ impl<F: Read + Seek + Drop> FilePages<F> {
     /// The bytes of the file from a place on, or a fault, which is counted.
     fn bytes(&mut self, start: u64, into: &mut [u8]) -> Result<(), SourceFault>
         ensures len { length into.new ≡ length into.old }
-        ensures asked { self.new.asked ≡ counted self.old.asked }
+        ensures asked { self.new.asked ≡ next_count self.old.asked }
         ensures no_failure { OnOk result (self.new.failures ≡ self.old.failures) }
-        ensures failure { OnErr result (self.new.failures ≡ counted self.old.failures) }
+        ensures failure { OnErr result (self.new.failures ≡ next_count self.old.failures) }
     {
         self.asked = self.asked.saturating_add(1);
         let read = read_at(&mut self.file, start, into);

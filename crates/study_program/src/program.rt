@@ -28,7 +28,7 @@ pub fn studybench(rt: &HostRuntime) -> ExitCode {
     };
     match read_words(rt.alloc(), words.as_slice()) {
         Ok(options) => ExitCode::from(answer_streams(rt, &options)),
-        Err(error) => ExitCode::from(answered(rt, &error)),
+        Err(error) => ExitCode::from(print_usage(rt, &error)),
     }
 }
 
@@ -42,23 +42,23 @@ pub fn words_of(rt: &HostRuntime) -> io::Result<Vec<String>> {
 /// The words of the command line cannot be read.
 fn not_read(rt: &HostRuntime, error: &io::Error) -> u8 {
     if error.kind() == ErrorKind::OutOfMemory {
-        return ended(&mut rt.stderr(), &Err(RunFault::OutOfMemory));
+        return report_end(&mut rt.stderr(), &Err(RunFault::OutOfMemory));
     }
     let _ = eprintln!(rt; "error: a word of the command line is not UTF-8");
     2
 }
 
 /// Prints help, the version, or why the words are refused.
-fn answered(rt: &HostRuntime, error: &Error) -> u8
+fn print_usage(rt: &HostRuntime, error: &Error) -> u8
     ensures { (printed : Bool) × (result ≡ status_unread (kind_of error.now) printed) }
 {
     if error.kind() == clap::error::ErrorKind::OutOfMemory {
-        return ended(&mut rt.stderr(), &Err(RunFault::OutOfMemory));
+        return report_end(&mut rt.stderr(), &Err(RunFault::OutOfMemory));
     }
     let printed = error.print(rt).is_ok();
     let status = status_without_options(error, printed);
     if status == 3 {
-        return ended(&mut rt.stderr(), &Err(RunFault::WriteDevice));
+        return report_end(&mut rt.stderr(), &Err(RunFault::WriteDevice));
     }
     status
 }
@@ -67,10 +67,10 @@ fn answer_streams(rt: &HostRuntime, options: &Options<'_>) -> u8 {
     let alloc = rt.alloc();
     let mut errors = rt.stderr();
     let Ok(mut script) = BufReader::new(alloc, rt.stdin()) else {
-        return ended(&mut errors, &Err(RunFault::OutOfMemory));
+        return report_end(&mut errors, &Err(RunFault::OutOfMemory));
     };
     let Ok(mut out) = LineWriter::new(alloc, rt.stdout()) else {
-        return ended(&mut errors, &Err(RunFault::OutOfMemory));
+        return report_end(&mut errors, &Err(RunFault::OutOfMemory));
     };
     answer_script(rt, &alloc, options, &mut script, &mut out, &mut errors)
 }
@@ -95,11 +95,11 @@ pub fn answer_script<F: Files, R: Read, W: Write, E: Write, A: Allocator>(
     if out.flush().is_err() {
         answer = Err(RunFault::WriteDevice);
     }
-    ended(errors, &answer)
+    report_end(errors, &answer)
 }
 
 /// Reports why a run stopped, if it did. A failure of standard error cannot be reported.
-fn ended<E: Write>(errors: &mut E, answer: &Result<Summary, RunFault>) -> u8
+fn report_end<E: Write>(errors: &mut E, answer: &Result<Summary, RunFault>) -> u8
     ensures status { result ≡ status_reported answer.now }
     ensures reported { IsReported answer.now (E.contents errors.old) (E.contents errors.new) }
 {

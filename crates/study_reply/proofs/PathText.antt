@@ -3,7 +3,7 @@ use Rattle.std.proofs.Common.{◌≡◌, ℕ, ◌-◌, List, [], ◌∷◌, ◌+
 use Rattle.std.specs.Prelude.{decimal}
 use Rattle.std.proofs.lemmas.List.{append-nil, nil_from_length}
 use Rattle.study_tree.specs.Paths.{path_text, more_places}
-use Rattle.study_reply.specs.Words.{raised}
+use Rattle.study_reply.specs.Words.{path_after_move_up}
 
 -- one more place
 more-child : (ks : List ℕ) (p : ℕ) → more_places (ks ++ p ∷ []) ≡ more_places ks ++ (46 ∷ decimal p)
@@ -25,13 +25,13 @@ child_some ks k rest p e = ap (λ (l : List ℕ). path_text (l ++ p ∷ [])) e �
     ∙ ap (λ (t : List ℕ). decimal k ++ t) (more-child rest p)
 
 -- a path whose last place is one less
-raised-last : (front : List ℕ) (last : ℕ) → raised (front ++ last ∷ []) ≡ front ++ (last - 1) ∷ []
-raised-last [] last = refl
-raised-last (k ∷ []) last = refl
-raised-last (k ∷ j ∷ js) last = ap (λ (t : List ℕ). k ∷ t) (raised-last (j ∷ js) last)
+path_after_move_up-last : (front : List ℕ) (last : ℕ) → path_after_move_up (front ++ last ∷ []) ≡ front ++ (last - 1) ∷ []
+path_after_move_up-last [] last = refl
+path_after_move_up-last (k ∷ []) last = refl
+path_after_move_up-last (k ∷ j ∷ js) last = ap (λ (t : List ℕ). k ∷ t) (path_after_move_up-last (j ∷ js) last)
 
-pub raised_none : (ks : List ℕ) → length ks ≡ 0 → path_text (raised ks) ≡ path_text ks
-raised_none ks e = ap (λ (l : List ℕ). path_text (raised l)) (nil_from_length ks e) ∙ ap path_text (sym (nil_from_length ks e))
+pub raised_none : (ks : List ℕ) → length ks ≡ 0 → path_text (path_after_move_up ks) ≡ path_text ks
+raised_none ks e = ap (λ (l : List ℕ). path_text (path_after_move_up l)) (nil_from_length ks e) ∙ ap path_text (sym (nil_from_length ks e))
 
-pub raised_some : (ks front : List ℕ) (last : ℕ) → ks ≡ front ++ last ∷ [] → path_text (raised ks) ≡ path_text (front ++ (last - 1) ∷ [])
-raised_some ks front last e = ap (λ (l : List ℕ). path_text (raised l)) e ∙ ap path_text (raised-last front last)
+pub raised_some : (ks front : List ℕ) (last : ℕ) → ks ≡ front ++ last ∷ [] → path_text (path_after_move_up ks) ≡ path_text (front ++ (last - 1) ∷ [])
+raised_some ks front last e = ap (λ (l : List ℕ). path_text (path_after_move_up l)) e ∙ ap path_text (path_after_move_up-last front last)

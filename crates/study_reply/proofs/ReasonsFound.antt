@@ -18,10 +18,10 @@ use Rattle.study_reply.specs.declared.refusal.Refusal.TheVariants.{NoTable, Miss
 use Rattle.study_reply.specs.declared.refusal.Refusal.TheVariants.{NoFile, Device, File, TableRead, TableReadPage}
 use Rattle.study_reply.specs.declared.refusal.Refusal.TheVariants.{DistanceTooLarge}
 use Rattle.study_reply.specs.Names.{words_of}
-use Rattle.study_reply.specs.Reasons.{reason_of, refusal_reason, explained, TextsHaveReasons}
+use Rattle.study_reply.specs.Reasons.{reason_of, refusal_reason, explained_refusals, TextsHaveReasons}
 
 of-form : (fault : SyntaxFault) → reason_of (words_of (Form fault)) ≡ refusal_reason (Form fault)
-unfolding words_of reason_of explained
+unfolding words_of reason_of explained_refusals
 of-form form.BadByte = refl
 of-form form.UnknownCommand = refl
 of-form form.BadArguments = refl
@@ -29,7 +29,7 @@ of-form form.UnknownStipulation = refl
 of-form form.UnknownTag = refl
 
 of-fen : (fault : FenFault) → reason_of (words_of (Fen fault)) ≡ refusal_reason (Fen fault)
-unfolding words_of reason_of explained
+unfolding words_of reason_of explained_refusals
 of-fen fen.FieldCount = refl
 of-fen fen.Placement = refl
 of-fen fen.TooManyMen = refl
@@ -44,14 +44,14 @@ of-fen fen.Clock = refl
 of-fen fen.MoveNumber = refl
 
 of-san : (fault : SanFault) → reason_of (words_of (San fault)) ≡ refusal_reason (San fault)
-unfolding words_of reason_of explained
+unfolding words_of reason_of explained_refusals
 of-san san.NotSan = refl
 of-san san.CastlingLeftOut = refl
 of-san san.NoSuchMove = refl
 of-san san.Ambiguous = refl
 
 of-file : (fault : FileFault) → reason_of (words_of (File fault)) ≡ refusal_reason (File fault)
-unfolding words_of reason_of explained
+unfolding words_of reason_of explained_refusals
 of-file file.Cut = refl
 of-file file.NotATable = refl
 of-file (file.Version n) = refl
@@ -64,7 +64,7 @@ of-file file.TrailingBytes = refl
 of-file file.Device = refl
 
 of-refusal : (r : Refusal) → reason_of (words_of r) ≡ refusal_reason r
-unfolding words_of reason_of explained
+unfolding words_of reason_of explained_refusals
 of-refusal (Form fault) = of-form fault
 of-refusal (Fen fault) = of-fen fault
 of-refusal (San fault) = of-san fault

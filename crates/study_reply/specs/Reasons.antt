@@ -48,12 +48,12 @@ san_reason san.NoSuchMove = codes "no legal move of this position"
 san_reason san.Ambiguous = codes "several men can make this move"
 
 -- of a refusal without words of its own
-abbrev pub unexplained : List ℕ
-unexplained = codes "it cannot be done"
+abbrev pub default_reason : List ℕ
+default_reason = codes "it cannot be done"
 
 abbrev pub file_reason : FileFault → List ℕ
 file_reason file.OutOfMemory = codes "no memory is left"
-file_reason _ = unexplained
+file_reason _ = default_reason
 
 -- why a line is refused, in words
 abbrev pub refusal_reason : Refusal → List ℕ
@@ -75,7 +75,7 @@ refusal_reason (NoTable c) = codes "the table of this material is not in the fol
 refusal_reason (File fault) = file_reason fault
 refusal_reason (TableRead fault) = codes "the file of a table could not be read"
 refusal_reason (TableReadPage n) = codes "the file of a table could not be read"
-refusal_reason _ = unexplained
+refusal_reason _ = default_reason
 
 -- why a shift is refused after which a move of the tree would not be legal
 abbrev pub shift_reason : List ℕ
@@ -93,8 +93,8 @@ abbrev pub first_word : List ℕ → List ℕ
 first_word text = take (word_length text) text
 
 -- a refusal of each name that has words of its own
-unfoldable pub explained : List Refusal
-explained =
+unfoldable pub explained_refusals : List Refusal
+explained_refusals =
     Form form.BadByte ∷ Form form.UnknownCommand ∷ Form form.BadArguments ∷ Form form.UnknownStipulation ∷ Form form.UnknownTag ∷ TagText ∷
     NoPosition ∷ NoStudy ∷ NoSuchNode ∷ San san.NotSan ∷ San san.CastlingLeftOut ∷ San san.NoSuchMove ∷ San san.Ambiguous ∷ AlreadyThere 0 ∷
     RootNotAllowed ∷ AlreadyFirst ∷ TooDeep ∷ TreeFull ∷ Fen fen.FieldCount ∷ Fen fen.Placement ∷ Fen fen.TooManyMen ∷ Fen fen.KingCount ∷
@@ -103,12 +103,12 @@ explained =
 
 -- the reason of the first of these refusals whose name has this word first
 abbrev pub reason_among : List Refusal → List ℕ → List ℕ
-reason_among [] name = unexplained
+reason_among [] name = default_reason
 reason_among (r ∷ rs) name = if bytes_eq (first_word (name_text r)) name then refusal_reason r else reason_among rs name
 
 -- why a line is refused, by the text of the refusal: its first word decides
 unfoldable pub reason_of : List ℕ → List ℕ
-reason_of text = if bytes_eq (first_word text) (codes "ShiftBroken") then shift_reason else reason_among explained (first_word text)
+reason_of text = if bytes_eq (first_word text) (codes "ShiftBroken") then shift_reason else reason_among explained_refusals (first_word text)
 
 -- law: the text of each refusal has its reason
 abbrev pub TextsHaveReasons : Type 0

@@ -9,7 +9,7 @@ use Rattle.study_reply.specs.declared.reply.LineRefusal.{LineRefusal}
 use Rattle.study_reply.specs.declared.reply.LineRefusal.TheVariants.{Line, Edit}
 use Rattle.study_reply.specs.Names.{words_of, edit_words}
 use Rattle.study_reply.specs.TableReply.{table_text}
-use Rattle.study_reply.specs.Words.{reply_line, stipulation_words, insert_text, mark_text, moves_text, solve_text, raised}
+use Rattle.study_reply.specs.Words.{reply_line, stipulation_words, insert_text, mark_text, moves_text, solve_text, path_after_move_up}
 
 -- the reply to a successful command
 abbrev pub reply_text : {A : Type 0} → Reply A → List ℕ
@@ -18,7 +18,7 @@ reply_text (done.Shift start) = reply_line (codes "shift ") (fen_text start)
 reply_text (done.Stipulated stipulation) = stipulation_words stipulation
 reply_text (done.Inserted steps place san) = insert_text (steps ++ place ∷ []) san.bytes
 reply_text (done.Deleted steps) = reply_line (codes "delete ") (path_text steps)
-reply_text (done.Promoted steps) = reply_line (codes "promote ") (path_text (raised steps))
+reply_text (done.Promoted steps) = reply_line (codes "promote ") (path_text (path_after_move_up steps))
 reply_text (done.Tagged name) = reply_line (codes "tag ") (tag_name name)
 reply_text (done.Mark steps mark) = mark_text steps mark
 reply_text (done.Moves start) = moves_text start.position

@@ -85,7 +85,7 @@ abbrev pub verified_text : Class → List ℕ
 verified_text c = codes "verified " ++ name_of c ++ codes " yes\n"
 
 -- the path of a node after it moved up by one place
-abbrev pub raised : List ℕ → List ℕ
-raised [] = []
-raised (k ∷ []) = (k - 1) ∷ []
-raised (k ∷ j ∷ js) = k ∷ raised (j ∷ js)
+abbrev pub path_after_move_up : List ℕ → List ℕ
+path_after_move_up [] = []
+path_after_move_up (k ∷ []) = (k - 1) ∷ []
+path_after_move_up (k ∷ j ∷ js) = k ∷ path_after_move_up (j ∷ js)

@@ -3,7 +3,7 @@ ghost use Rattle.std.specs.Prelude.{◌∷◌, ◌++◌, [], OnOk, OnErr, codes,
 ghost use Rattle.std.specs.Io.KnownBytes.{Appends};
 ghost use Rattle.study_text.specs.Taken.{TakesPrefix};
 ghost use Rattle.study_tree.specs.Paths.{path_text, more_places};
-ghost use Rattle.study_reply.specs.Words.{raised};
+ghost use Rattle.study_reply.specs.Words.{path_after_move_up};
 ghost use Rattle.study_reply.specs.Words.{reply_line};
 
 use itoa::Buffer;
@@ -76,9 +76,9 @@ pub fn put_child<W: Write>(out: &mut W, steps: &[u16], place: u16) -> Result<(),
 /// Writes the path of a node after it moved up by one place.
 pub fn put_promoted_path<W: Write>(out: &mut W, steps: &[u16]) -> Result<(), DeviceFailed>
     ensures ok { OnOk result
-        (Appends (W.contents out.old) (W.contents out.new) (path_text (raised steps.now))) }
+        (Appends (W.contents out.old) (W.contents out.new) (path_text (path_after_move_up steps.now))) }
     ensures err { OnErr result
-        (TakesPrefix (W.contents out.old) (W.contents out.new) (path_text (raised steps.now))) }
+        (TakesPrefix (W.contents out.old) (W.contents out.new) (path_text (path_after_move_up steps.now))) }
 {
     let Some((last, front)) = steps.split_last() else {
         return put_path(out, steps);
@@ -104,10 +104,10 @@ pub fn put_node<W: Write>(out: &mut W, front: &[u8], steps: &[u16]) -> Result<()
 pub fn put_promoted<W: Write>(out: &mut W, steps: &[u16]) -> Result<(), DeviceFailed>
     ensures ok { OnOk result
         (Appends (W.contents out.old) (W.contents out.new)
-        (reply_line (codes "promote ") (path_text (raised steps.now)))) }
+        (reply_line (codes "promote ") (path_text (path_after_move_up steps.now)))) }
     ensures err { OnErr result
         (TakesPrefix (W.contents out.old) (W.contents out.new)
-        (reply_line (codes "promote ") (path_text (raised steps.now)))) }
+        (reply_line (codes "promote ") (path_text (path_after_move_up steps.now)))) }
 {
     write_text(out, b"promote ")?;
     put_promoted_path(out, steps)?;

@@ -1,7 +1,7 @@
 //! Why a line is refused, in words.
 ghost use Rattle.std.specs.Prelude.{◌≡◌, ◌≤◌, length};
 ghost use Rattle.study_reply.specs.Reasons.{form_reason, fen_reason, san_reason, refusal_reason};
-ghost use Rattle.study_reply.specs.Reasons.{word_length, first_word, explained, reason_among, reason_of};
+ghost use Rattle.study_reply.specs.Reasons.{word_length, first_word, explained_refusals, reason_among, reason_of};
 
 use crate::refusal::Refusal;
 use study_command::SyntaxFault;
@@ -154,13 +154,13 @@ pub fn reason_of(refusal: &[u8]) -> &'static [u8]
     if name == b"ShiftBroken".as_slice() {
         b"a move of the tree is not legal from the new start"
     } else {
-        reason_among(explained(), name)
+        reason_among(explained_refusals(), name)
     }
 }
 
-#[tactic(auto, unfolding(crate::specs::Reasons::explained))]
-fn explained() -> &'static [Refusal]
-    ensures { result.now ≡ explained }
+#[tactic(auto, unfolding(crate::specs::Reasons::explained_refusals))]
+fn explained_refusals() -> &'static [Refusal]
+    ensures { result.now ≡ explained_refusals }
 {
     &EXPLAINED
 }

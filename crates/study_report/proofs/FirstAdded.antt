@@ -19,7 +19,7 @@ use Rattle.study_text.specs.Taken.{TakesPrefix}
 use Rattle.study_report.specs.declared.line_outcome.LineOutcome.{LineOutcome}
 use Rattle.study_report.specs.declared.line_outcome.LineOutcome.TheVariants.{Nothing, Study as AStudy, Refusal as ARefusal}
 use Rattle.study_reply.specs.declared.refusal.Refusal.TheVariants.{NotAClass}
-use Rattle.study_script.specs.Replies.{Reply, refused}
+use Rattle.study_script.specs.Replies.{Reply, refused_reply}
 use Rattle.study_report.specs.declared.line_kind.LineKind.{LineKind}
 use Rattle.study_report.specs.declared.line_kind.LineKind.TheVariants.{Remark, PassedOver, NoClass, Study, Checked}
 use Rattle.study_report.specs.Reported.{Point, Added, IsAdded, IsAddedAs, IsPgnAfter, IsCheckedAfter, line_kind, refusal_count, study_count}
@@ -27,7 +27,7 @@ use Rattle.study_facts.specs.declared.entry.EntryInfo.{EntryInfo}
 use Rattle.study_report.specs.Unread.{unread_after}
 use Rattle.study_report.proofs.LineAdds.{entry}
 use Rattle.study_report.specs.Reported.{nothing_added, refusal_added, Entry, last_entry, studies_on, listed_in, entries_in}
-use Rattle.study_report.specs.Outcome.{begun, AreAdded, report_text, refusals, point_after, IsFollowed, AreListed, StoppedAfter, AreListedBefore, Outcome}
+use Rattle.study_report.specs.Outcome.{start_point, AreAdded, report_text, refusals, point_after, IsFollowed, AreListed, StoppedAfter, AreListedBefore, Outcome}
 use Rattle.study_report.specs.Outcome.{Shape}
 use Rattle.study_report.specs.Written.{Adds, Stops}
 
@@ -103,9 +103,9 @@ module _ (tells : PlainStudy → EntryInfo → List ℕ → Type 0) (refusal : �
     pub within : n ≤ length all
     pub short : AreShort (take n all)
     pub added : List Added
-    pub are : AreAdded tells refusal remark (begun first) (take n all) added
+    pub are : AreAdded tells refusal remark (start_point first) (take n all) added
     pub written : Appends old new (report_text added)
-    pub point_is : p ≡ point_after (begun first) added
+    pub point_is : p ≡ point_after (start_point first) added
     pub refused_is : refused ≡ refusals added
     pub listed : Lists (entries_in (take n all) added)
 
@@ -120,7 +120,7 @@ module _ (tells : PlainStudy → EntryInfo → List ℕ → Type 0) (refusal : �
     pub known : ReportedKnown Lists script now old new first p n refused
 
   pub none_reported : (Lists : List Entry → Type 0) → Lists [] → (script out : Option (List ℕ)) (first : State)
-      → HasReported Lists script script out out first (begun first) 0 0
+      → HasReported Lists script script out out first (start_point first) 0 0
   none_reported Lists h None out first = record { known = tt }
   none_reported Lists h (Some bs) out first =
       record {
@@ -159,13 +159,13 @@ module _ (tells : PlainStudy → EntryInfo → List ℕ → Type 0) (refusal : �
           within = omega arith;
           short = rw grown (short-more (take n all) line v.short short);
           added = v.added ++ a ∷ [];
-          are = rw grown (are-more (begun first) (take n all) v.added line a v.are
+          are = rw grown (are-more (start_point first) (take n all) v.added line a v.are
               (subst (λ (h : Point). IsAdded tells refusal remark h line a) v.point_is is));
           written = rw (text-more v.added a) (Appends-trans old mid new (report_text v.added) a.text v.written wrote);
-          point_is = sym (point_after-more (begun first) v.added a);
+          point_is = sym (point_after-more (start_point first) v.added a);
           refused_is = k ∙ ap (λ i. i + refusal_count a.reported) v.refused_is ∙ sym (sum_by_push (λ (x : Added). refusal_count x.reported) v.added a);
           listed = subst Lists'
-              (sym (ap (λ (ls : List (List ℕ)). entries_in ls (v.added ++ a ∷ [])) grown ∙ entries-more (begun first) (take n all) v.added line a v.are))
+              (sym (ap (λ (ls : List (List ℕ)). entries_in ls (v.added ++ a ∷ [])) grown ∙ entries-more (start_point first) (take n all) v.added line a v.are))
               (l (entries_in (take n all) v.added) v.listed);
         };
       }
@@ -185,7 +185,7 @@ module _ (tells : PlainStudy → EntryInfo → List ℕ → Type 0) (refusal : �
         omega arith,
         subst AreShort d.0 v.short,
         v.added,
-        subst (λ (ls : List (List ℕ)). AreAdded tells refusal remark (begun first) ls v.added) d.0 v.are,
+        subst (λ (ls : List (List ℕ)). AreAdded tells refusal remark (start_point first) ls v.added) d.0 v.are,
         v.written,
         e,
         v.refused_is,
@@ -202,7 +202,7 @@ module _ (tells : PlainStudy → EntryInfo → List ℕ → Type 0) (refusal : �
       let v = r.known in
       let d = none_left (script_lines bs) n v.within (v.left_is ∙ t) in (
         v.added,
-        subst (λ (ls : List (List ℕ)). AreAdded tells refusal remark (begun first) ls v.added) d.0 v.are,
+        subst (λ (ls : List (List ℕ)). AreAdded tells refusal remark (start_point first) ls v.added) d.0 v.are,
         v.written,
         subst (λ (q : Point). holds q.state) v.point_is held,
       )
@@ -218,7 +218,7 @@ module _ (tells : PlainStudy → EntryInfo → List ℕ → Type 0) (refusal : �
       let v = r.known in
       let d = none_left (script_lines bs) n v.within (v.left_is ∙ t) in (
         v.added,
-        subst (λ (ls : List (List ℕ)). AreAdded tells refusal remark (begun first) ls v.added) d.0 v.are,
+        subst (λ (ls : List (List ℕ)). AreAdded tells refusal remark (start_point first) ls v.added) d.0 v.are,
         v.written,
         subst (λ (ls : List (List ℕ)). Lists (entries_in ls v.added)) d.0 v.listed,
       )
@@ -324,7 +324,7 @@ module _ (tells : PlainStudy → EntryInfo → List ℕ → Type 0) (refusal : �
   reported_before Has (Some bs) None old new first p n refused fault r l stopped = absurd r.known
   reported_before Has (Some bs) (Some rest) old new first p n refused fault r l stopped =
       let v = r.known in
-      (n, v.within, v.added, v.are, stopped (begun first) (script_lines bs) v.added v.written, l (entries_in (take n (script_lines bs)) v.added) v.listed)
+      (n, v.within, v.added, v.are, stopped (start_point first) (script_lines bs) v.added v.written, l (entries_in (take n (script_lines bs)) v.added) v.listed)
 
   reported_before_write : {Lists : List Entry → Type 0} (Has : List Entry → Type 0) (script now next old mid new : Option (List ℕ))
       (first : State) (p : Point) (line : List ℕ) (n refused : ℕ) → HasReported Lists script now old mid first p n refused → TakesLine now next true line
@@ -399,7 +399,7 @@ module _ (tells : PlainStudy → EntryInfo → List ℕ → Type 0) (refusal : �
   counts-pgn : (p : Point) (line : List ℕ) (reply : Reply) (a : Added) (b : Bool) → IsPgnAfter tells refusal remark p line reply b a → Counts p line a
   counts-pgn p line reply a true e = counts-refusal p line reply a e
   counts-pgn p line reply a false (inl (plain, text, b, t, e)) = subst (Counts p line) (sym e) (refl, omega arith, refl)
-  counts-pgn p line reply a false (inr (plain, why, d, l, e)) = counts-refusal p line (refused reply.state why) a e
+  counts-pgn p line reply a false (inr (plain, why, d, l, e)) = counts-refusal p line (refused_reply reply.state why) a e
 
   counts-checked : (p : Point) (line : List ℕ) (reply : Reply) (a : Added) (b : Bool) → IsCheckedAfter tells refusal remark p line reply b a → Counts p line a
   counts-checked p line reply a true e = counts-refusal p line reply a e
@@ -408,7 +408,7 @@ module _ (tells : PlainStudy → EntryInfo → List ℕ → Type 0) (refusal : �
   counts-more : (p : Point) (line : List ℕ) (a : Added) (k : LineKind) → IsAddedAs tells refusal remark k p line a → Counts p line a
   counts-more p line a Remark e = subst (Counts p line) (sym e) (refl, omega arith, refl)
   counts-more p line a PassedOver e = counts-nothing p line p.state a e
-  counts-more p line a NoClass e = counts-refusal p line (refused p.state NotAClass) a e
+  counts-more p line a NoClass e = counts-refusal p line (refused_reply p.state NotAClass) a e
   counts-more p line a Study (o, reply, is, after) = counts-pgn p line reply a reply.refused after
   counts-more p line a Checked (o, reply, is, after) = counts-checked p line reply a reply.refused after
 

@@ -10,7 +10,7 @@ use Rattle.study_reply.specs.declared.refusal.Refusal.{Refusal}
 use Rattle.study_script.specs.declared.running.RunFault.{RunFault}
 use Rattle.study_script.specs.declared.running.RunFault.TheVariants.{ReadDevice, WriteDevice, LineTooLong, TooManyLines, OutOfMemory}
 use Rattle.study_script.specs.State.{State, Document, study, Environment}
-use Rattle.study_script.specs.Replies.{Reply, refused, IsReplyIn}
+use Rattle.study_script.specs.Replies.{Reply, refused_reply, IsReplyIn}
 use Rattle.study_script.specs.SessionHolds.{Answered}
 use Rattle.study_report.specs.declared.line_kind.LineKind.TheVariants.{Study, Checked}
 use Rattle.study_report.specs.declared.line_outcome.LineOutcome.{LineOutcome}
@@ -158,7 +158,7 @@ module _ (tells : PlainStudy → EntryInfo → List ℕ → Type 0) (refusal : �
 
   -- a study that is refused
   pub left-out : (p : Point) (s : State) (line : List ℕ) (plain : PlainStudy) (why : Refusal) → s.document ≡ study plain → IsLeftOut s plain why
-      → IsStudyReported tells refusal remark p s line (refusal_added tells refusal remark p line (refused s why))
+      → IsStudyReported tells refusal remark p s line (refusal_added tells refusal remark p line (refused_reply s why))
   left-out p s line plain why b h = inr (plain, why, b, h, refl)
 
   -- ---- after the script's reply

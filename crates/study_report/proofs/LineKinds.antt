@@ -10,7 +10,7 @@ use Rattle.study_reply.specs.declared.refusal.Refusal.{Refusal}
 use Rattle.study_reply.specs.declared.refusal.Refusal.TheVariants.{NoStudy, OutOfMemory}
 use Rattle.study_script.specs.State.{State, Document, empty, start, study, Environment, quiet, no_path, no_room, no_room_for, unread, unopened}
 use Rattle.study_script.specs.State.{cut_off, file, header}
-use Rattle.study_script.specs.Replies.{Reply, refused, class_parsed, IsPgnReply, IsReplyWhere, IsReplyIn, begins_position, emptied}
+use Rattle.study_script.specs.Replies.{Reply, refused_reply, class_parsed, IsPgnReply, IsReplyWhere, IsReplyIn, begins_position, without_document}
 use Rattle.study_report.specs.declared.line_kind.LineKind.{LineKind}
 use Rattle.study_report.specs.declared.line_kind.LineKind.TheVariants.{Remark, PassedOver, Study, Checked}
 use Rattle.study_report.specs.Remarks.{is_remark, is_left_out, is_original, is_omission}
@@ -92,17 +92,17 @@ pgn-asked s o reply (Err fault) k r = absurd cc
 abbrev pub Finds : State → Document → Reply → Type 0
 Finds s b reply = ((plain : PlainStudy) × (b ≡ study plain)) × (reply.state ≡ s)
 
-refused-no : (s : State) (why : Refusal) (reply : Reply) → reply ≡ refused s why → reply.refused ≡ false → ⊥
-refused-no s why reply e f = let yes : reply.refused ≡ true = ap (λ (r : Reply). r.refused) e in
+refused_reply-no : (s : State) (why : Refusal) (reply : Reply) → reply ≡ refused_reply s why → reply.refused ≡ false → ⊥
+refused_reply-no s why reply e f = let yes : reply.refused ≡ true = ap (λ (r : Reply). r.refused) e in
     let bad : true ≡ false = sym yes ∙ f in absurd cc
 
 found-study : (s : State) (old : PlainStudy) (reply : Reply) → IsPgnReply s quiet (study old) reply → Finds s (study old) reply
 found-study s old reply (annotated, right, plain, e) = ((old, refl), ap (λ (r : Reply). r.state) e)
 
 pub pgn-finds : (s : State) (o : Environment) (b : Document) (reply : Reply) → IsPgnReply s o b reply → reply.refused ≡ false → Finds s b reply
-pgn-finds s o empty reply r f = absurd (refused-no s NoStudy reply r f)
-pgn-finds s o (start from) reply r f = absurd (refused-no s NoStudy reply r f)
-pgn-finds s no_room (study old) reply r f = absurd (refused-no s OutOfMemory reply r f)
+pgn-finds s o empty reply r f = absurd (refused_reply-no s NoStudy reply r f)
+pgn-finds s o (start from) reply r f = absurd (refused_reply-no s NoStudy reply r f)
+pgn-finds s no_room (study old) reply r f = absurd (refused_reply-no s OutOfMemory reply r f)
 pgn-finds s quiet (study old) reply r f = found-study s old reply r
 pgn-finds s no_path (study old) reply r f = found-study s old reply r
 pgn-finds s (no_room_for bytes) (study old) reply r f = found-study s old reply r
@@ -118,4 +118,4 @@ pub study-finds : (s : State) (line : List ℕ) (o : Environment) (reply : Reply
 study-finds s line o reply kind (plain, is, e) was =
     let accepted : plain.refused ≡ false = sym (ap (λ (r : Reply). r.refused) e) ∙ was in
     let found = pgn-finds s o s.document plain (pgn-asked s o plain (command_of line) (plain-study line kind) is) accepted in
-    (found.0, ap (λ (r : Reply). r.state) e ∙ ap (λ (b : Bool). emptied (b && begins_position line) plain.state) accepted ∙ found.1)
+    (found.0, ap (λ (r : Reply). r.state) e ∙ ap (λ (b : Bool). without_document (b && begins_position line) plain.state) accepted ∙ found.1)

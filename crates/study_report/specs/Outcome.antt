@@ -25,8 +25,8 @@ over_tables classes paged = record {
 }
 
 -- before the first line: no line was read or refused, and no study was reported
-abbrev pub begun : State → Point
-begun s = record { state = s; lines = 0; studies = 0; unread = None }
+abbrev pub start_point : State → Point
+start_point s = record { state = s; lines = 0; studies = 0; unread = None }
 
 -- the texts of the lines, one after the other
 abbrev pub report_text : List Added → List ℕ
@@ -62,12 +62,12 @@ module _ (tells : PlainStudy → EntryInfo → List ℕ → Type 0) (refusal : �
 
   -- the text of all lines of a script is written, and this holds of the state after them
   abbrev pub IsFollowed : State → List ℕ → Option (List ℕ) → Option (List ℕ) → (State → Type 0) → Type 0
-  IsFollowed first script old new HoldsIt = (added : List Added) × AreAdded (begun first) (script_lines script) added
-      × Appends old new (report_text added) × HoldsIt (point_after (begun first) added).state
+  IsFollowed first script old new HoldsIt = (added : List Added) × AreAdded (start_point first) (script_lines script) added
+      × Appends old new (report_text added) × HoldsIt (point_after (start_point first) added).state
 
   -- the text of all lines of a script is written, and this is true of their entries
   abbrev pub AreListed : State → List ℕ → Option (List ℕ) → Option (List ℕ) → (List Entry → Type 0) → Type 0
-  AreListed first script old new Lists = (added : List Added) × AreAdded (begun first) (script_lines script) added
+  AreListed first script old new Lists = (added : List Added) × AreAdded (start_point first) (script_lines script) added
       × Appends old new (report_text added) × Lists (entries_in (script_lines script) added)
 
   -- the text of the first n lines is written, and the run stopped for this fault after them; if the writer failed, a prefix of the text of the next line
@@ -83,32 +83,32 @@ module _ (tells : PlainStudy → EntryInfo → List ℕ → Type 0) (refusal : �
   -- after a run that stopped for this fault: this is true of the entries of the lines before the stop
   abbrev pub AreListedBefore : State → List ℕ → Option (List ℕ) → Option (List ℕ) → (List Entry → Type 0) → RunFault → Type 0
   AreListedBefore first script old new Lists fault = (n : ℕ) × (n ≤ length (script_lines script)) × (added : List Added)
-      × AreAdded (begun first) (take n (script_lines script)) added
-      × StoppedAfter (begun first) (script_lines script) n added old new fault × Lists (entries_in (take n (script_lines script)) added)
+      × AreAdded (start_point first) (take n (script_lines script)) added
+      × StoppedAfter (start_point first) (script_lines script) n added old new fault × Lists (entries_in (take n (script_lines script)) added)
 
   -- the state at the beginning, the bytes of a script, what the reader has left of them, what the writer had and has, and the result
   abbrev pub Outcome : State → List ℕ → Option (List ℕ) → Option (List ℕ) → Option (List ℕ) → Result Summary RunFault → Type 0
   Outcome first script left old new (Ok summary) =
       (length (script_lines script) ≤ 100000) × AreShort (script_lines script)
-      × (added : List Added) × AreAdded (begun first) (script_lines script) added × Appends old new (report_text added)
+      × (added : List Added) × AreAdded (start_point first) (script_lines script) added × Appends old new (report_text added)
       × (summary.lines ≡ length (script_lines script)) × (summary.refused ≡ refusals added)
   -- exactly the lines whose ends were read are reported
   Outcome first script left old new (Err ReadDevice) = (n : ℕ) × (n ≤ 100000) × (n ≤ length (script_lines script))
       × GaveFeeds (Some script) left n
       × (rest : List ℕ) × (drop n (script_lines script) ≡ script_lines rest) × GaveFeeds (Some rest) left 0
-      × AreReported (begun first) (take n (script_lines script)) old new
+      × AreReported (start_point first) (take n (script_lines script)) old new
   -- if the writer failed, the lines after the one whose text it broke off are left
   Outcome first script left old new (Err WriteDevice) =
       (n : ℕ) × (n < 100000) × GaveFeeds (Some script) left (n + 1) × AreLeft left (drop (n + 1) (script_lines script))
-      × IsSomeAnd (slice_get (script_lines script) n) (λ line. AreBrokenOff (begun first) (take n (script_lines script)) line old new)
+      × IsSomeAnd (slice_get (script_lines script) n) (λ line. AreBrokenOff (start_point first) (take n (script_lines script)) line old new)
   Outcome first script left old new (Err (LineTooLong n)) = (0 < n) × (n ≤ 100000)
       × IsSomeAnd (slice_get (script_lines script) (n - 1)) (λ line. 1024 < length line)
-      × AreReported (begun first) (take (n - 1) (script_lines script)) old new
+      × AreReported (start_point first) (take (n - 1) (script_lines script)) old new
   Outcome first script left old new (Err TooManyLines) =
-      (100000 < length (script_lines script)) × AreReported (begun first) (take 100000 (script_lines script)) old new
+      (100000 < length (script_lines script)) × AreReported (start_point first) (take 100000 (script_lines script)) old new
   -- nothing is written for the line for which there is no memory
   Outcome first script left old new (Err OutOfMemory) = (n : ℕ) × (n ≤ 100000) × (n ≤ length (script_lines script))
-      × AreReported (begun first) (take n (script_lines script)) old new
+      × AreReported (start_point first) (take n (script_lines script)) old new
 
 -- The same without what is reported, whatever the state: the bytes of a script, what the reader has left of them, and the result. Memory may fail at any
 -- line.

@@ -12,7 +12,7 @@ use Rattle.study_reply.specs.declared.refusal.Refusal.{Refusal}
 use Rattle.study_reply.specs.declared.refusal.Refusal.TheVariants.{NotAClass, OutOfMemory}
 use Rattle.study_reply.specs.Names.{of_probe}
 use Rattle.study_script.specs.State.{State, Document, empty, start, study, Environment, is_among}
-use Rattle.study_script.specs.Replies.{Reply, IsReplyIn, refused, class_parsed}
+use Rattle.study_script.specs.Replies.{Reply, IsReplyIn, refused_reply, class_parsed}
 use Rattle.study_report.specs.declared.line_kind.LineKind.{LineKind}
 use Rattle.study_report.specs.declared.line_kind.LineKind.TheVariants.{Remark, PassedOver, NoClass, Study, Checked}
 use Rattle.study_report.specs.declared.line_outcome.ReportPosition.{ReportPosition}
@@ -164,7 +164,7 @@ module _ (tells : PlainStudy → EntryInfo → List ℕ → Type 0) (refusal : �
   abbrev pub IsStudyReported : Point → State → List ℕ → Added → Type 0
   IsStudyReported p s line added =
       ((plain : PlainStudy) × (text : List ℕ) × (s.document ≡ study plain) × tells plain (next_entry p) text × (added ≡ study_added p line s text))
-      ⊎ ((plain : PlainStudy) × (why : Refusal) × (s.document ≡ study plain) × IsLeftOut s plain why × (added ≡ refusal_added p line (refused s why)))
+      ⊎ ((plain : PlainStudy) × (why : Refusal) × (s.document ≡ study plain) × IsLeftOut s plain why × (added ≡ refusal_added p line (refused_reply s why)))
 
   -- after the script's reply to a `pgn` line, and to another line that is answered
   abbrev pub IsPgnAfter : Point → List ℕ → Reply → Bool → Added → Type 0
@@ -179,7 +179,7 @@ module _ (tells : PlainStudy → EntryInfo → List ℕ → Type 0) (refusal : �
   abbrev pub IsAddedAs : LineKind → Point → List ℕ → Added → Type 0
   IsAddedAs Remark p line added = added ≡ remark_added p line
   IsAddedAs PassedOver p line added = added ≡ nothing_added p line p.state
-  IsAddedAs NoClass p line added = added ≡ refusal_added p line (refused p.state NotAClass)
+  IsAddedAs NoClass p line added = added ≡ refusal_added p line (refused_reply p.state NotAClass)
   IsAddedAs Study p line added =
       (o : Environment) × (reply : Reply) × IsReplyIn true p.state line o reply × IsPgnAfter p line reply reply.refused added
   IsAddedAs Checked p line added =

@@ -4,7 +4,7 @@ ghost use Rattle.std.specs.Io.KnownBytes.{Appends};
 ghost use Rattle.study_values.specs.declared.values.ProbeFault.{ProbeFault as AProbeFault};
 ghost use Rattle.study_text.specs.Taken.{TakesPrefix};
 ghost use Rattle.study_marks.specs.Edits.{PlainStudy};
-ghost use Rattle.study_marks.specs.BenchState.{marked, IsKeptRight};
+ghost use Rattle.study_marks.specs.BenchState.{marked_study, IsKeptRight};
 ghost use Rattle.study_marks.specs.Study.{plain_study};
 ghost use Rattle.study_facts.specs.Asked.{within};
 ghost use Rattle.study_facts.specs.Order.{HasReviewed};
@@ -46,13 +46,13 @@ pub trait Report {
     ) -> Result<(), ReviewFault>
         ensures reported { V.source.is_honest values.old → IsKeptRight bench.now
             → OnOk result ((text : List ℕ)
-            × tells (plain_study (marked bench.now)) info text
+            × tells (plain_study (marked_study bench.now)) info text
             × Appends (W.contents out.old) (W.contents out.new) text) }
         ensures formed { OnOk result ((text : List ℕ) × form info.number text
             × Appends (W.contents out.old) (W.contents out.new) text) }
         ensures device { V.source.is_honest values.old → IsKeptRight bench.now
             → result ≡ Err ReviewFault.Device → (text : List ℕ)
-            × tells (plain_study (marked bench.now)) info text
+            × tells (plain_study (marked_study bench.now)) info text
             × TakesPrefix (W.contents out.old) (W.contents out.new) text }
         ensures memory { result ≡ Err ReviewFault.OutOfMemory → out.new ≡ out.old }
         ensures no_value { (fault : AProbeFault)
@@ -60,10 +60,10 @@ pub trait Report {
         ensures listed { (reported : List Entry) → V.source.is_honest values.old
             → IsKeptRight bench.now → lists self.old reported
             → OnOk result
-            (lists self.new (reported ++ study_entry (plain_study (marked bench.now)) info ∷ [])) }
+            (lists self.new (reported ++ study_entry (plain_study (marked_study bench.now)) info ∷ [])) }
         ensures unlisted { (reported : List Entry) → lists self.old reported
             → OnErr result (lists self.new reported) }
-        ensures asked { HasReviewed (within (marked bench.now).start.position V.source)
+        ensures asked { HasReviewed (within (marked_study bench.now).start.position V.source)
             values.old result values.new };
 
     /// Reports a refused line: its number, its bytes, and the script's reply to it.

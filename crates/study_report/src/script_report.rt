@@ -14,7 +14,7 @@ use crate::line_outcome::ReportPosition;
 use crate::no_files::NoFiles;
 use crate::report::Report;
 use crate::report_line::add_line;
-use crate::unread::unread_after;
+use crate::unread_line::unread_after;
 use std::alloc::Allocator;
 use std::io::{Read, Write};
 use study_command::{Line, LineFault, read_byte};
@@ -23,7 +23,7 @@ use study_tablefile::PageSource;
 
 /// Follows a script from a session's state, and reports its studies and its refused lines. The session has the script's final state. Studies are kept
 /// apart, whatever the session's setting: after a refused `position` there is no study for the next lines to edit.
-pub fn follow<'a, 's, R: Read, W: Write, S: TableStore, A: Allocator, T: Report>(
+pub fn report_session<'a, 's, R: Read, W: Write, S: TableStore, A: Allocator, T: Report>(
     line: &mut Line<'_, A>,
     script: &mut R,
     out: &mut W,
@@ -108,7 +108,7 @@ pub fn follow<'a, 's, R: Read, W: Write, S: TableStore, A: Allocator, T: Report>
 }
 
 /// Follows a script over these tables, from an empty document.
-pub fn follow_script<'a, R: Read, W: Write, P: PageSource, A: Allocator, T: Report>(
+pub fn write_report<'a, R: Read, W: Write, P: PageSource, A: Allocator, T: Report>(
     alloc: &'a A,
     script: &mut R,
     out: &mut W,
@@ -147,11 +147,11 @@ pub fn follow_script<'a, R: Read, W: Write, P: PageSource, A: Allocator, T: Repo
         (W.contents out.old) (W.contents out.new) result) }
 {
     let mut store = NoFiles::new();
-    follow_over(alloc, script, out, report, tables, &mut store)
+    write_report_over(alloc, script, out, report, tables, &mut store)
 }
 
 /// The same over a store, of which no file is opened; the files known to it determine with which faults these tables may fail.
-pub fn follow_over<'a, R: Read, W: Write, S: TableStore, A: Allocator, T: Report>(
+pub fn write_report_over<'a, R: Read, W: Write, S: TableStore, A: Allocator, T: Report>(
     alloc: &'a A,
     script: &mut R,
     out: &mut W,
@@ -199,5 +199,5 @@ pub fn follow_over<'a, R: Read, W: Write, S: TableStore, A: Allocator, T: Report
         store,
         separate: true,
     };
-    follow(&mut line, script, out, report, &mut session)
+    report_session(&mut line, script, out, report, &mut session)
 }

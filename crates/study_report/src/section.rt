@@ -6,7 +6,7 @@ ghost use Rattle.study_values.specs.declared.fault.SourceFault.{SourceFault as A
 ghost use Rattle.study_text.specs.Taken.{TakesPrefix};
 ghost use Rattle.study_values.specs.declared.values.ProbeFault.{ProbeFault as AProbeFault};
 ghost use Rattle.study_marks.specs.Edits.{PlainStudy};
-ghost use Rattle.study_marks.specs.BenchState.{marked, IsKeptRight};
+ghost use Rattle.study_marks.specs.BenchState.{marked_study, IsKeptRight};
 ghost use Rattle.study_marks.specs.Study.{plain_study};
 ghost use Rattle.study_script.specs.State.{State, study};
 ghost use Rattle.study_script.specs.SessionHolds.{Holds, document_seen, tables_honest, tables_held, tables_may_fail, are_paged};
@@ -34,13 +34,13 @@ pub fn add_study<'a, P: PageSource, A: Allocator, W: Write, T: Report>(
     // Many clauses: what is reported, why nothing is, and what stays of the tables.
     ensures reported { tables_honest P.honest tables.old → IsKeptRight bench.now
         → OnOk result ((text : List ℕ)
-        × T.tells (plain_study (marked bench.now)) info text
+        × T.tells (plain_study (marked_study bench.now)) info text
         × Appends (W.contents out.old) (W.contents out.new) text) }
     ensures formed { OnOk result ((text : List ℕ) × T.form info.number text
         × Appends (W.contents out.old) (W.contents out.new) text) }
     ensures device { tables_honest P.honest tables.old → IsKeptRight bench.now
         → result ≡ Err ReviewFault.Device → (text : List ℕ)
-        × T.tells (plain_study (marked bench.now)) info text
+        × T.tells (plain_study (marked_study bench.now)) info text
         × TakesPrefix (W.contents out.old) (W.contents out.new) text }
     ensures memory { result ≡ Err ReviewFault.OutOfMemory → out.new ≡ out.old }
     ensures no_value { (fault : AProbeFault)
@@ -48,13 +48,13 @@ pub fn add_study<'a, P: PageSource, A: Allocator, W: Write, T: Report>(
     ensures listed { (reported : List Entry) → tables_honest P.honest tables.old
         → IsKeptRight bench.now → T.lists report.old reported
         → OnOk result
-        (T.lists report.new (reported ++ study_entry (plain_study (marked bench.now)) info ∷ [])) }
+        (T.lists report.new (reported ++ study_entry (plain_study (marked_study bench.now)) info ∷ [])) }
     ensures unlisted { (reported : List Entry) → T.lists report.old reported
         → OnErr result (T.lists report.new reported) }
     ensures why { (fault : AProbeFault) → tables_honest P.honest tables.old
         → result ≡ Err (ReviewFault.Values fault)
         → IsValueFaultBy (tables_held tables.old) (are_paged tables.old)
-        (tables_may_fail P.gives tables.old) (marked bench.now).start.position fault }
+        (tables_may_fail P.gives tables.old) (marked_study bench.now).start.position fault }
     ensures honest { tables_honest P.honest tables.old → tables_honest P.honest tables.new }
     ensures tables { (c : AClass) → tables_held tables.new c ≡ tables_held tables.old c }
     ensures fails_as_before { (c : AClass) (f : ASourceFault)

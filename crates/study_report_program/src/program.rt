@@ -16,13 +16,13 @@ use std::io;
 use std::io::{BufReader, ErrorKind, LineWriter, Read, Write};
 use std::process::ExitCode;
 use std::rt::Files;
-use study_list::follow_list;
-use study_print::{Unwatched, follow_pages};
+use study_list::write_list;
+use study_print::{Unwatched, write_pages};
 use study_prober::PagedTables;
 use study_program::{FolderStore, status_of, status_without_options, words_of};
-use study_report::{Lines, follow_script};
+use study_report::{Lines, write_report};
 use study_script::{RunFault, Summary, Tables};
-use study_sheet::follow_sheet;
+use study_sheet::write_sheet;
 
 /// Reads the script from standard input and writes the report of each study to standard output as soon as its line is answered.
 ///
@@ -37,30 +37,30 @@ pub fn studyreport(rt: &HostRuntime) -> ExitCode {
     };
     match read_words(rt.alloc(), words.as_slice()) {
         Ok(options) => ExitCode::from(report_streams(rt, &options)),
-        Err(error) => ExitCode::from(answered(rt, &error)),
+        Err(error) => ExitCode::from(print_usage(rt, &error)),
     }
 }
 
 /// The words of the command line cannot be read.
 fn not_read(rt: &HostRuntime, error: &io::Error) -> u8 {
     if error.kind() == ErrorKind::OutOfMemory {
-        return ended(&mut rt.stderr(), &Err(RunFault::OutOfMemory));
+        return report_end(&mut rt.stderr(), &Err(RunFault::OutOfMemory));
     }
     let _ = eprintln!(rt; "error: a word of the command line is not UTF-8");
     2
 }
 
 /// Prints help, the version, or why the words are refused.
-fn answered(rt: &HostRuntime, error: &Error) -> u8
+fn print_usage(rt: &HostRuntime, error: &Error) -> u8
     ensures { (printed : Bool) × (result ≡ status_unread (kind_of error.now) printed) }
 {
     if error.kind() == clap::error::ErrorKind::OutOfMemory {
-        return ended(&mut rt.stderr(), &Err(RunFault::OutOfMemory));
+        return report_end(&mut rt.stderr(), &Err(RunFault::OutOfMemory));
     }
     let printed = error.print(rt).is_ok();
     let status = status_without_options(error, printed);
     if status == 3 {
-        return ended(&mut rt.stderr(), &Err(RunFault::WriteDevice));
+        return report_end(&mut rt.stderr(), &Err(RunFault::WriteDevice));
     }
     status
 }
@@ -71,10 +71,10 @@ fn report_streams(rt: &HostRuntime, options: &Options<'_>) -> u8 {
     let alloc = rt.alloc();
     let mut errors = rt.stderr();
     let Ok(mut script) = BufReader::new(alloc, rt.stdin()) else {
-        return ended(&mut errors, &Err(RunFault::OutOfMemory));
+        return report_end(&mut errors, &Err(RunFault::OutOfMemory));
     };
     let Ok(mut out) = LineWriter::new(alloc, rt.stdout()) else {
-        return ended(&mut errors, &Err(RunFault::OutOfMemory));
+        return report_end(&mut errors, &Err(RunFault::OutOfMemory));
     };
     report_script(rt, &alloc, options, &mut script, &mut out, &mut errors)
 }
@@ -99,11 +99,11 @@ pub fn report_script<F: Files, A: Allocator, R: Read, W: Write, E: Write>(
     if out.flush().is_err() {
         answer = Err(RunFault::WriteDevice);
     }
-    ended(errors, &answer)
+    report_end(errors, &answer)
 }
 
 /// Reports why a run stopped, if it did. A failure of standard error cannot be reported.
-fn ended<E: Write>(errors: &mut E, answer: &Result<Summary, RunFault>) -> u8
+fn report_end<E: Write>(errors: &mut E, answer: &Result<Summary, RunFault>) -> u8
     ensures status { result ≡ status_reported answer.now }
     ensures stop { IsStopReported answer.now (E.contents errors.old) (E.contents errors.new) }
 {
@@ -135,13 +135,13 @@ fn report_over_files<F: Files, A: Allocator, R: Read, W: Write, E: Write>(
     };
     open_tables(alloc, &mut tables, &mut store, errors);
     match options.form {
-        Form::Lines => follow_script(alloc, script, out, &mut Lines, Tables::Paged(tables)),
-        Form::Sheet => follow_sheet(alloc, script, out, Tables::Paged(tables)),
-        Form::List => follow_list(alloc, script, out, Tables::Paged(tables)),
+        Form::Lines => write_report(alloc, script, out, &mut Lines, Tables::Paged(tables)),
+        Form::Sheet => write_sheet(alloc, script, out, Tables::Paged(tables)),
+        Form::List => write_list(alloc, script, out, Tables::Paged(tables)),
         Form::Pages if options.progress => {
             let progress = Progress { errors };
-            follow_pages(alloc, script, out, progress, Tables::Paged(tables))
+            write_pages(alloc, script, out, progress, Tables::Paged(tables))
         }
-        Form::Pages => follow_pages(alloc, script, out, Unwatched, Tables::Paged(tables)),
+        Form::Pages => write_pages(alloc, script, out, Unwatched, Tables::Paged(tables)),
     }
 }

@@ -11,7 +11,7 @@ pub struct Progress<'e, E: Write> {
 }
 
 impl<'e, E: Write> Watch for Progress<'e, E> {
-    fn reported(&mut self, count: u32) {
+    fn report(&mut self, count: u32) {
         if count % 10 == 0 {
             // A failure of standard error cannot be reported.
             let _ = put_studies(self.errors, count);

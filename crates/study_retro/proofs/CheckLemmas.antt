@@ -21,7 +21,7 @@ use Rattle.study_retro.specs.RowMoves.{AreOnDistinctSquares, AreAttackers, AreRe
 use Rattle.study_retro.specs.RowMoves.{keeps_attack_with, gone_to}
 use Rattle.study_retro.specs.RowMoves.{king_attacked_with, does_not_block}
 use Rattle.study_retro.specs.declared.rows.checks.Attacker.{Attacker}
-use Rattle.study_retro.specs.Still.{facing, on_square}
+use Rattle.study_retro.specs.Still.{opposing_man, on_square}
 use Rattle.study_retro.proofs.RowChecks.{and_and, bears_last, bears_men, between_self, or_none, reach_if, row_check}
 use Rattle.study_retro.proofs.RowLemmas.{bears_alone}
 use Rattle.study_retro.proofs.RowMoveLemmas.{unoccupied}
@@ -266,14 +266,14 @@ module _ (others staying : List Man) (last man : Man) (to y : ℕ) (among : Cont
       nowhere (same_side man.side side) (to == to) (reaches moved man.side man.kind to to) (not (is_slider man.kind && strictly_between to y to))
       (eq-eqb to to refl)
 
-  last_there : attacks_square moved (facing last to) y ≡ attacks_square staying (facing last to) y
+  last_there : attacks_square moved (opposing_man last to) y ≡ attacks_square staying (opposing_man last to) y
   last_there =
-      bears_moved (facing last to) y
-      ∙ aside (attacks_square staying (facing last to) y) (is_slider last.kind) (strictly_between to to y) (between_self to y)
+      bears_moved (opposing_man last to) y
+      ∙ aside (attacks_square staying (opposing_man last to) y) (is_slider last.kind) (strictly_between to to y) (between_self to y)
 
   attacked_there : (side : Side) → attacked_with_last moved last side to y ≡ attacked_with_last staying last side to y
   attacked_there side =
-      ap (λ (b : Bool). b || (same_side last.side side && attacks_square moved (facing last to) y))
+      ap (λ (b : Bool). b || (same_side last.side side && attacks_square moved (opposing_man last to) y))
       (any_moved (λ m. same_side m.side side && keeps_attack_with moved y m to)
       ∙ ap (λ (b : Bool). list_any (λ m. same_side m.side side && keeps_attack_with moved y m to) staying || b) (none_itself side)
       ∙ or_none (list_any (λ m. same_side m.side side && keeps_attack_with moved y m to) staying)
@@ -293,28 +293,29 @@ module _ (others staying : List Man) (last man : Man) (to y : ℕ) (among : Cont
         ∙ sym (bear x on (λ m. does_not_block m x to && does_not_block m x y))
 
     by_itself : (same_side man.side side && keeps_attack_with moved y z x)
-        ≡ ((same_side man.side side && attacks_square staying (facing man x) to) && does_not_block z x y)
+        ≡ ((same_side man.side side && attacks_square staying (opposing_man man x) to) && does_not_block z x y)
     by_itself =
         ap (λ (b : Bool). same_side man.side side && (b && does_not_block z x y))
         (bears_moved z x ∙ sym (bears_men staying man to z x) ∙ bears_last staying man to x)
-        ∙ sym (and_and (same_side man.side side) (attacks_square staying (facing man x) to) (does_not_block z x y))
+        ∙ sym (and_and (same_side man.side side) (attacks_square staying (opposing_man man x) to) (does_not_block z x y))
 
-    by_last : (same_side last.side side && attacks_square moved (facing last x) y)
-        ≡ ((same_side last.side side && attacks_square staying (facing last x) y) && does_not_block (facing last x) y to)
+    by_last : (same_side last.side side && attacks_square moved (opposing_man last x) y)
+        ≡ ((same_side last.side side && attacks_square staying (opposing_man last x) y) && does_not_block (opposing_man last x) y to)
     by_last =
-        ap (λ (b : Bool). same_side last.side side && b) (bears_moved (facing last x) y)
-        ∙ sym (and_and (same_side last.side side) (attacks_square staying (facing last x) y) (does_not_block (facing last x) y to))
+        ap (λ (b : Bool). same_side last.side side && b) (bears_moved (opposing_man last x) y)
+        ∙ sym (and_and (same_side last.side side) (attacks_square staying (opposing_man last x) y) (does_not_block (opposing_man last x) y to))
 
     pub by_three : attacked_with_last moved last side x y
-        ≡ ((list_any (keeps_attack_past to x y) attackers || ((same_side man.side side && attacks_square staying (facing man x) to) && does_not_block z x y))
-        || ((same_side last.side side && attacks_square staying (facing last x) y) && does_not_block (facing last x) y to))
+        ≡ ((list_any (keeps_attack_past to x y) attackers || ((same_side man.side side && attacks_square staying (opposing_man man x) to) &&
+        does_not_block z x y))
+        || ((same_side last.side side && attacks_square staying (opposing_man last x) y) && does_not_block (opposing_man last x) y to))
     by_three =
-        ap (λ (b : Bool). b || (same_side last.side side && attacks_square moved (facing last x) y))
+        ap (λ (b : Bool). b || (same_side last.side side && attacks_square moved (opposing_man last x) y))
         (any_moved (λ m. same_side m.side side && keeps_attack_with moved y m x)
         ∙ ap (λ (b : Bool). b || (same_side man.side side && keeps_attack_with moved y z x)) by_staying
         ∙ ap (λ (b : Bool). list_any (keeps_attack_past to x y) attackers || b) by_itself)
         ∙ ap (λ (b : Bool). (list_any (keeps_attack_past to x y) attackers
-        || ((same_side man.side side && attacks_square staying (facing man x) to) && does_not_block z x y)) || b) by_last
+        || ((same_side man.side side && attacks_square staying (opposing_man man x) to) && does_not_block z x y)) || b) by_last
 
   -- ---- on the square of a king, that of the man or another
 

@@ -24,7 +24,7 @@ use Rattle.study_moves.proofs.NoMoveBetween.{HasMover-from_is_legal}
 use Rattle.study_moves.proofs.AfterMove.{IsValid-after}
 use Rattle.study_moves.proofs.AlikePositions.{admits_bare}
 use Rattle.study_material.specs.declared.class.Class.{Class}
-use Rattle.study_material.specs.Lists.{Lists, lists, ordered}
+use Rattle.study_material.specs.Lists.{Lists, lists, ordered_lists}
 use Rattle.study_material.specs.Class.{IsOf}
 use Rattle.study_values.specs.Number.{IsIndex, with_bit, without_bit}
 use Rattle.study_index.specs.Decoded.{slots_of, decoded_men, decoded_side}
@@ -92,7 +92,7 @@ before_alike c p q m v u o l k h =
     } in
     let here : IsOf c r = same_class p r c alike.alike o in
     let there : IsOf c q = same_class (after p m) q c h.alike k in
-    let lands : IsOf c (after r m') = there ∙ ap (λ (x : Position). ordered (lists x.men)) (sym same) in
+    let lands : IsOf c (after r m') = there ∙ ap (λ (x : Position). ordered_lists (lists x.men)) (sym same) in
     let va : IsValid (after p m) = IsValid-after p m v l in
     record {
       from = r;
@@ -196,11 +196,11 @@ module _ (c : Class) where
   pub lands_home : (n : ℕ) (q r : Position) (m : Move) → position_numbered c n ≡ Some q → LeadsQuietly r m q → IsOf c (after r m)
   lands_home n q r m e b =
       let d = entry c n q (decoded_of_numbered c n q e) in
-      d.of_class ∙ ap (λ (y : Position). ordered (lists y.men)) (sym b.leads)
+      d.of_class ∙ ap (λ (y : Position). ordered_lists (lists y.men)) (sym b.leads)
 
   pub starts_home : (n : ℕ) (q r : Position) (m : Move) → position_numbered c n ≡ Some q → LeadsQuietly r m q → IsOf c r
   starts_home n q r m e b =
-      lands_home n q r m e b ∙ ap (λ (l : Lists). ordered l) (quiet_lists r m b.valid b.legal (unpassing r m b.valid b.legal b.unpassed) b.quiet)
+      lands_home n q r m e b ∙ ap (λ (l : Lists). ordered_lists l) (quiet_lists r m b.valid b.legal (unpassing r m b.valid b.legal b.unpassed) b.quiet)
 
   pub IsLed-from : (n : ℕ) (q r : Position) (m : Move) → position_numbered c n ≡ Some q → LeadsQuietly r m q → index_of (after r m) ≡ n → IsLed c r n
   IsLed-from n q r m e b lands =
@@ -327,7 +327,7 @@ module _ (c : Class) where
   quiet_home n p m e l o u none =
       let d = entry c n p (decoded_of_numbered c n p e) in
       is_of-IsOf c (after p m)
-      (d.of_class ∙ ap (λ (k : Lists). ordered k)
+      (d.of_class ∙ ap (λ (k : Lists). ordered_lists k)
       (sym (quiet_lists p m d.valid l (unpassing p m d.valid l u) (unoccupied p.men m.target none, o))))
 
   pub numbered_index : (n : ℕ) (q : Position) → position_numbered c n ≡ Some q → index_of q ≡ n

@@ -17,7 +17,7 @@ use Rattle.study_moves.specs.EnPassant.{is_capturable_en_passant, has_legal_en_p
 use Rattle.study_moves.specs.Unmoves.{IsQuiet, LeadsQuietly}
 use Rattle.study_moves.proofs.AfterMove.{IsValid-after}
 use Rattle.study_material.specs.declared.class.Class.{Class}
-use Rattle.study_material.specs.Lists.{ordered}
+use Rattle.study_material.specs.Lists.{ordered_lists}
 use Rattle.study_material.specs.Class.{lists_of, IsOf}
 use Rattle.study_material.proofs.Classes.{is_of-IsOf}
 use Rattle.study_values.specs.Number.{with_bit, without_bit, has_both_pawns, cells_of}
@@ -134,7 +134,7 @@ module _ (c : Class) (n : ℕ) (q : Position) (at : position_numbered c n ≡ So
     pub quiet_stays : IsOf c (after q m)
     quiet_stays =
         let d = decoded_of_numbered c n q at in
-        (entry c n q d).of_class ∙ ap (λ l. ordered l) (sym (quiet_lists q m d.valid legal no_passing quiet))
+        (entry c n q d).of_class ∙ ap (λ l. ordered_lists l) (sym (quiet_lists q m d.valid legal no_passing quiet))
 
     -- the position after a quiet move, without its passed square
     moved_bare : IsMoved c n m.origin m.target (without_passed (after q m))

@@ -21,14 +21,14 @@ use Rattle.study_board.specs.Geometry.{file_of, rank_of}
 use Rattle.study_board.specs.Men.{same_side, other_side, is_man, is_pawn, moved_if}
 use Rattle.study_board.specs.Position.{Position, IsValid, AllAbove, IsAscending, is_occupied, has_man, man_at}
 use Rattle.study_moves.specs.declared.moves.Move.{Move}
-use Rattle.study_moves.specs.Rules.{is_en_passant, is_square, has_side, survives, moved, is_legal, after, is_promotion_choice, is_promotion_piece}
+use Rattle.study_moves.specs.Rules.{is_en_passant, is_square, has_side, survives, moved_man, is_legal, after, is_promotion_choice, is_promotion_piece}
 use Rattle.study_moves.specs.Rules.{reaches_last_rank, last_rank}
 use Rattle.study_moves.specs.Unmoves.{IsQuiet}
 use Rattle.study_moves.proofs.MenOfList.{IsAmong, none_among, some_among, found_among}
 use Rattle.study_moves.proofs.NoMoveBetween.{HasMover-from_is_legal}
 use Rattle.study_moves.proofs.AfterMove.{IsMoveFrom-is_legal, IsValid-after, en_passant_pawn}
 use Rattle.study_material.specs.declared.class.Class.{Class}
-use Rattle.study_material.specs.Lists.{Lists, kind_place, put_kind, kinds_of, lists, ordered, lists_exchanged, is_exchanged}
+use Rattle.study_material.specs.Lists.{Lists, kind_place, put_kind, kinds_of, lists, ordered_lists, lists_exchanged, is_exchanged}
 use Rattle.study_material.specs.Class.{IsOf}
 use Rattle.study_material.proofs.KindCounts.{lists-IsPermutation}
 use Rattle.study_material.proofs.MenBesideKings.{one_king}
@@ -65,8 +65,8 @@ weight-put k (x ∷ xs) = by_test (nat_lt (kind_place x) (kind_place k)) (weight
 abbrev both : Lists → ℕ
 both l = sum_by weight_of l.white + sum_by weight_of l.black
 
-both-ordered : (l : Lists) → both (ordered l) ≡ both l
-both-ordered l = by_test (is_exchanged l)
+both-ordered_lists : (l : Lists) → both (ordered_lists l) ≡ both l
+both-ordered_lists l = by_test (is_exchanged l)
   where
     by_test : (b : Bool) → both (cond b (lists_exchanged l) l) ≡ both l
     by_test true = omega arith
@@ -226,7 +226,7 @@ module _ (p : Position) (m : Move) (v : IsValid p) (legal : is_legal p m ≡ tru
   step_empty : is_en_passant p.passed mover m.target ≡ true → list_any (λ y. y.at == m.target) p.men ≡ false
   step_empty e = passed_empty p.men p.to_move m.target (passed_there p mover m.target v e)
 
-  after_men : IsPermutation (moved mover m ∷ left) (after p m).men
+  after_men : IsPermutation (moved_man mover m ∷ left) (after p m).men
   unfolding after
   after_men = (let e = (HasMover-from_is_legal p m legal).here in rw e (IsStep-move p mover m v.ordered step_empty).after)
 
@@ -244,12 +244,12 @@ module _ (p : Position) (m : Move) (v : IsValid p) (legal : is_legal p m ≡ tru
       let at : (mover.at == m.target) ≡ true = same_number mover.at m.target e in
       false≢true (sym none ∙ rw (mine, at) refl)
 
-  sums : sum_by weight (after p m).men + sum_by weight gone ≡ sum_by weight p.men + weight (moved mover m)
+  sums : sum_by weight (after p m).men + sum_by weight gone ≡ sum_by weight p.men + weight (moved_man mover m)
   sums =
-      let a = sum_by-IsPermutation weight (moved mover m ∷ left) (after p m).men after_men in
+      let a = sum_by-IsPermutation weight (moved_man mover m ∷ left) (after p m).men after_men in
       let b = sum_by-IsPermutation weight p.men (left ++ gone) before_men in
       let c = sum-append left gone in
-      let d = sum_by-cons weight (moved mover m) left in
+      let d = sum_by-cons weight (moved_man mover m) left in
       omega arith
 
   same_sums : (c : Class) → IsOf c p → IsOf c (after p m) → sum_by weight (after p m).men ≡ sum_by weight p.men
@@ -260,7 +260,7 @@ module _ (p : Position) (m : Move) (v : IsValid p) (legal : is_legal p m ≡ tru
       let a = weight-lists p.men in
       let b = weight-lists (after p m).men in
       let d : both (lists p.men) ≡ both (lists (after p m).men) =
-      sym (both-ordered (lists p.men)) ∙ ap both (sym h ∙ k) ∙ both-ordered (lists (after p m).men) in
+      sym (both-ordered_lists (lists p.men)) ∙ ap both (sym h ∙ k) ∙ both-ordered_lists (lists (after p m).men) in
       omega (arith, x.0, x.1, y.0, y.1)
 
   -- a promotion makes the mover lighter, and no move heavier
@@ -370,13 +370,13 @@ module _ (p : Position) (m : Move) (v : IsValid p) (legal : is_legal p m ≡ tru
         (subst (λ (ys : List Man). IsPermutation p.men (left ++ ys)) (gone_alone quiet) before_men)
         (IsPermutation-append_comm left (mover ∷ []))
 
-    moved_quietly : m.promoted ≡ None → moved mover m ≡ record { side = mover.side; kind = mover.kind; at = m.target }
+    moved_quietly : m.promoted ≡ None → moved_man mover m ≡ record { side = mover.side; kind = mover.kind; at = m.target }
     moved_quietly e = ap (λ (o : Option Kind). record { side = mover.side; kind = unwrap_or o mover.kind; at = m.target }) e
 
     -- the lists stay
     pub quiet_lists : IsQuiet p m → lists (after p m).men ≡ lists p.men
     quiet_lists q =
-        lists-IsPermutation (moved mover m ∷ left) (after p m).men after_men ∙ ap (λ (x : Man). lists (x ∷ left))
+        lists-IsPermutation (moved_man mover m ∷ left) (after p m).men after_men ∙ ap (λ (x : Man). lists (x ∷ left))
         (moved_quietly q.1)
         ∙ sym
         (lists-IsPermutation (mover ∷ left) p.men (IsPermutation-sym p.men (mover ∷ left) (before_alone q.0)))
@@ -392,10 +392,10 @@ module _ (p : Position) (m : Move) (v : IsValid p) (legal : is_legal p m ≡ tru
         let more : count_by (λ y. y.at == m.origin) (mover ∷ left) ≡ 1 + count_by (λ y. y.at == m.origin) left =
         count_by-cons (λ y. y.at == m.origin) mover left ∙ rw same refl in
         let none : count_by (λ y. y.at == m.origin) left ≡ 0 = omega (arith, one, count, more) in
-        let first : f mover ≡ moved mover m = moves_there m.origin m.target mover same ∙ sym (moved_quietly q.1) in
-        let is : map f (mover ∷ left) ≡ moved mover m ∷ left =
-        ap (λ (z : Man). z ∷ map f left) first ∙ ap (λ (zs : List Man). moved mover m ∷ zs) (none_moves m.origin m.target left none) in
-        IsPermutation-trans (map f p.men) (moved mover m ∷ left) (after p m).men
+        let first : f mover ≡ moved_man mover m = moves_there m.origin m.target mover same ∙ sym (moved_quietly q.1) in
+        let is : map f (mover ∷ left) ≡ moved_man mover m ∷ left =
+        ap (λ (z : Man). z ∷ map f left) first ∙ ap (λ (zs : List Man). moved_man mover m ∷ zs) (none_moves m.origin m.target left none) in
+        IsPermutation-trans (map f p.men) (moved_man mover m ∷ left) (after p m).men
         (subst (λ (zs : List Man). IsPermutation (map f p.men) zs) is (IsPermutation-map f p.men (mover ∷ left) (before_alone q.0))) after_men
 
     -- and so does the number of men of each kind
@@ -403,7 +403,7 @@ module _ (p : Position) (m : Move) (v : IsValid p) (legal : is_legal p m ≡ tru
         → ((s : Side) (k : Kind) (a b : ℕ) → f (record { side = s; kind = k; at = a })
         ≡ f (record { side = s; kind = k; at = b })) → IsQuiet p m → list_any f (after p m).men ≡ list_any f p.men
     quiet_any f any q =
-        sym (list_any-IsPermutation f (moved mover m ∷ left) (after p m).men after_men) ∙ ap (λ (x : Man). list_any f (x ∷ left)) (moved_quietly q.1)
+        sym (list_any-IsPermutation f (moved_man mover m ∷ left) (after p m).men after_men) ∙ ap (λ (x : Man). list_any f (x ∷ left)) (moved_quietly q.1)
         ∙ ap (λ (b : Bool). b || list_any f left) (any mover.side mover.kind m.target mover.at)
         ∙ list_any-IsPermutation f (mover ∷ left) p.men
         (IsPermutation-sym p.men (mover ∷ left) (before_alone q.0))
@@ -413,7 +413,7 @@ module _ (p : Position) (m : Move) (v : IsValid p) (legal : is_legal p m ≡ tru
     unfolding is_occupied survives
     quiet_within c h k = (empty (is_occupied p.men m.target) refl, unpromoted)
       where
-        total : sum_by weight gone ≡ weight (moved mover m)
+        total : sum_by weight gone ≡ weight (moved_man mover m)
         total = let a = sums in let b = same_sums c h k in omega arith
 
         unpromoted : m.promoted ≡ None

@@ -2,7 +2,7 @@
 use Rattle.std.proofs.Common.{◌≡◌, ℕ, ◌+◌, ◌<◌, ◌≤◌, ◌⊎◌, inl, inr, max, List, length, slice_index, Option, Some, None, sym, ◌∙◌, subst, ap, arith}
 use Rattle.study_values.specs.declared.value.Value.{Value}
 use Rattle.study_values.specs.Cells.{value_of}
-use Rattle.study_retro.specs.Report.{IsGreatest, greater}
+use Rattle.study_retro.specs.Report.{IsGreatest, option_max}
 
 module _ (distance : Value → Option ℕ) (xs : List ℕ) where
   abbrev encodes : ℕ → Option ℕ
@@ -37,7 +37,7 @@ module _ (distance : Value → Option ℕ) (xs : List ℕ) where
   same_some : (m n : ℕ) (o : Option ℕ) → o ≡ Some m → o ≡ Some n → n ≡ m
   same_some m n o e f = let s : Some m ≡ Some n = sym e ∙ f in let t : m ≡ n = cc in sym t
 
-  by_one_more : (i : ℕ) (o d : Option ℕ) → encodes i ≡ d → IsGreatestBelow i o → IsGreatestBelow (i + 1) (greater o d)
+  by_one_more : (i : ℕ) (o d : Option ℕ) → encodes i ≡ d → IsGreatestBelow i o → IsGreatestBelow (i + 1) (option_max o d)
   by_one_more i None None e h = λ n t. elim (split i n t) [ inl u ↦ h n u | inr f ↦ absurd (let s : None ≡ Some n = sym e ∙ f in let no : ⊥ = cc in no) ]
   by_one_more i None (Some k) e h = (
     record { cell = i; inside = omega arith; is = e },
@@ -59,7 +59,7 @@ module _ (distance : Value → Option ℕ) (xs : List ℕ) where
       less_or a b = grind arith
 
   pub IsGreatestBelow-more : (i : ℕ) (o p : Option ℕ) (v : Value) → v ≡ value_of (slice_index xs i)
-      → p ≡ greater o (distance v) → IsGreatestBelow i o → IsGreatestBelow (i + 1) p
+      → p ≡ option_max o (distance v) → IsGreatestBelow i o → IsGreatestBelow (i + 1) p
   IsGreatestBelow-more i o p v e f h = subst (λ (q : Option ℕ). IsGreatestBelow (i + 1) q) (sym f) (by_one_more i o (distance v) (ap distance (sym e)) h)
 
   pub IsGreatest-below : (i : ℕ) (o : Option ℕ) → length xs ≡ i → IsGreatestBelow i o → IsGreatest distance xs o

@@ -15,7 +15,7 @@ use Rattle.study_board.proofs.Faults.{list_any_same}
 use Rattle.study_moves.proofs.KingSafety.{not_at_end}
 use Rattle.study_moves.proofs.BearsBothWays.{between-both, blocked-both, reaches-both, same_test}
 use Rattle.study_retro.specs.RowMoves.{keeps_attack_with, king_attacked_with}
-use Rattle.study_retro.specs.Still.{facing, on_square}
+use Rattle.study_retro.specs.Still.{opposing_man, on_square}
 
 -- ---- tests
 
@@ -79,7 +79,7 @@ module _ (others : List Man) (last : Man) (y : ℕ) where
   same_squares : (a b : ℕ) → (a == b) ≡ (b == a)
   same_squares a b = same_test (a == b) (b == a) (λ e. eq-eqb b a (sym (eqb-true a b e))) (λ e. eq-eqb a b (sym (eqb-true b a e)))
 
-  pub bears_last : (x : ℕ) → attacks_square men l x ≡ attacks_square others (facing last x) y
+  pub bears_last : (x : ℕ) → attacks_square men l x ≡ attacks_square others (opposing_man last x) y
   bears_last x =
       rw (
         same_squares y x,
@@ -93,7 +93,7 @@ module _ (others : List Man) (last : Man) (y : ℕ) where
       ) refl
 
   attacked_with : (by : Side) (x : ℕ) → is_attacked men by x ≡ (list_any (λ m. same_side m.side by && keeps_attack_with others y m x) others
-      || (same_side last.side by && attacks_square others (facing last x) y))
+      || (same_side last.side by && attacks_square others (opposing_man last x) y))
   unfolding is_attacked
   attacked_with by x =
       list_any-append (λ m. same_side m.side by && attacks_square men m x) others (l ∷ [])

@@ -4,7 +4,8 @@ use borrow.Author.Tests.{ltb-true}
 use Rattle.std.proofs.lemmas.Bool.{and_from, and_parts, eq-eqb, eqb-true, false≢true, leb-true, lt-ltb, or_cases, or_right}
 use Rattle.study_board.specs.declared.men.Side.{Side}
 use Rattle.study_board.specs.declared.men.Side.TheVariants.{White, Black}
-use Rattle.study_board.specs.Geometry.{apart, file_of, rank_of, files_apart, ranks_apart, is_between, king_step, knight_jump, on_bishop_line, strictly_between}
+use Rattle.study_board.specs.Geometry.{distance_between, file_of, rank_of, files_apart, ranks_apart, is_between, king_step, knight_jump, on_bishop_line}
+use Rattle.study_board.specs.Geometry.{strictly_between}
 use Rattle.study_moves.specs.Rules.{half_way, is_ahead}
 use Rattle.study_moves.proofs.BearsBothWays.{same_test}
 
@@ -22,9 +23,9 @@ inside i j k e =
 -- y between a and x, of files f g h and ranks i j k: on a file, on a rank or on a diagonal
 abbrev IsOnWay : ℕ → ℕ → ℕ → ℕ → ℕ → ℕ → Type 0
 IsOnWay f g h i j k =
-    ((apart f g ≡ 0) × (apart f h ≡ 0) × IsInside i j k)
-    ⊎ (((apart i j ≡ 0) × (apart i k ≡ 0) × IsInside f g h)
-    ⊎ ((apart f h ≡ apart i k) × IsInside f g h × IsInside i j k))
+    ((distance_between f g ≡ 0) × (distance_between f h ≡ 0) × IsInside i j k)
+    ⊎ (((distance_between i j ≡ 0) × (distance_between i k ≡ 0) × IsInside f g h)
+    ⊎ ((distance_between f h ≡ distance_between i k) × IsInside f g h × IsInside i j k))
 
 on_way : (a y x : ℕ) → strictly_between a y x ≡ true → IsOnWay (file_of a) (file_of y) (file_of x) (rank_of a) (rank_of y) (rank_of x)
 unfolding strictly_between on_bishop_line
@@ -51,12 +52,13 @@ none_if : (b : Bool) → (b ≡ true → ⊥) → b ≡ false
 none_if true f = absurd (f refl)
 none_if false f = refl
 
-none_near : (f g h i j k : ℕ) → IsOnWay f g h i j k → apart f h ≤ 1 → apart i k ≤ 1 → ⊥
+none_near : (f g h i j k : ℕ) → IsOnWay f g h i j k → distance_between f h ≤ 1 → distance_between i k ≤ 1 → ⊥
 none_near f g h i j k (inl w) m n = elim w.2 [ inl p ↦ absurd (omega (arith, p.0, p.1, m, n)) | inr p ↦ absurd (omega (arith, p.0, p.1, m, n)) ]
 none_near f g h i j k (inr (inl w)) m n = elim w.2 [ inl p ↦ absurd (omega (arith, p.0, p.1, m, n)) | inr p ↦ absurd (omega (arith, p.0, p.1, m, n)) ]
 none_near f g h i j k (inr (inr w)) m n = elim w.2 [ inl p ↦ absurd (omega (arith, p.0, p.1, m, n)) | inr p ↦ absurd (omega (arith, p.0, p.1, m, n)) ]
 
-none_askew : (f g h i j k : ℕ) → IsOnWay f g h i j k → (apart f h ≡ 0 → ⊥) → (apart i k ≡ 0 → ⊥) → (apart f h ≡ apart i k → ⊥) → ⊥
+none_askew : (f g h i j k : ℕ) → IsOnWay f g h i j k → (distance_between f h ≡ 0 → ⊥) → (distance_between i k ≡ 0 → ⊥)
+    → (distance_between f h ≡ distance_between i k → ⊥) → ⊥
 none_askew f g h i j k (inl w) l m n = l w.1
 none_askew f g h i j k (inr (inl w)) l m n = m w.1
 none_askew f g h i j k (inr (inr w)) l m n = n w.0

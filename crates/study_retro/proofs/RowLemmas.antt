@@ -29,7 +29,7 @@ use Rattle.study_index.proofs.ComputedIndex.{decoded_of_numbered}
 use Rattle.study_index.proofs.DecodedNumbers.{encoded_by}
 use Rattle.study_index.proofs.Symmetries.{all_below, at_below}
 use Rattle.study_retro.specs.Predecessors.{AreEncoded}
-use Rattle.study_retro.specs.Still.{AreQuietPositions, AreStillOrNone, IsQuietPosition, facing, is_capturable_or_promotes, has_forcing_move}
+use Rattle.study_retro.specs.Still.{AreQuietPositions, AreStillOrNone, IsQuietPosition, opposing_man, is_capturable_or_promotes, has_forcing_move}
 use Rattle.study_retro.specs.Still.{is_relevant_target, on_square, rank_before_last}
 use Rattle.study_retro.proofs.BackLemmas.{side_is}
 use Rattle.study_retro.proofs.StillChess.{no_capture_of_king, stays_quiet}
@@ -92,7 +92,7 @@ open_reach side Pawn a x = refl
 same_squares : (a b : ℕ) → (a == b) ≡ (b == a)
 same_squares a b = same_test (a == b) (b == a) (λ e. eq-eqb b a (sym (eqb-true a b e))) (λ e. eq-eqb a b (sym (eqb-true b a e)))
 
-faces : (man : Man) (x y : ℕ) → attacks_square [] (facing man x) y ≡ attacks_square [] (on_square man y) x
+faces : (man : Man) (x y : ℕ) → attacks_square [] (opposing_man man x) y ≡ attacks_square [] (on_square man y) x
 faces man x y =
     rw (same_squares x y, open_reach (other_side man.side) man.kind x y, open_reach man.side man.kind y x, reaches-both false man.side man.kind y x) refl
 
@@ -167,7 +167,7 @@ module _ (others : List Man) (last : Man) (side : Side) (ours theirs y : ℕ)
     (attacked : (x : ℕ) → x < 64 → has ours x ≡ is_attacked others side x)
     (checked : (x : ℕ) → x < 64 → has theirs x ≡ is_attacked others (other_side side) x)
     (restless : has_forcing_move others last side ours theirs ≡ false)
-    (bearing : list_any (λ m. is_relevant_target last side m && attacks_square [] (facing last m.at) y) others ≡ false)
+    (bearing : list_any (λ m. is_relevant_target last side m && attacks_square [] (opposing_man last m.at) y) others ≡ false)
     (exposed : is_capturable_or_promotes last side ours y ≡ false) (board : All (λ m. m.at < 64) others) (on : y < 64) where
   abbrev pub l : Man
   l = on_square last y
@@ -185,11 +185,11 @@ module _ (others : List Man) (last : Man) (side : Side) (ours theirs y : ℕ)
       (λ k i. and_less (same_side k.side s) _ _ (bears_more others l k x)
       (none_among (λ n. same_side n.side s && attacks_square others n x) others k (sym (word x lx) ∙ out) i))) (or_from _ _ mine refl)
 
-  from_square : (m : Man) → IsAmong m others → attacks_square [] (facing last m.at) y ≡ false → attacks_square men l m.at ≡ false
+  from_square : (m : Man) → IsAmong m others → attacks_square [] (opposing_man last m.at) y ≡ false → attacks_square men l m.at ≡ false
   from_square m i e = bears_alone men l m.at (sym (faces last m.at y) ∙ e)
 
-  bears_none : (m : Man) → IsAmong m others → (is_relevant_target last side m && attacks_square [] (facing last m.at) y) ≡ false
-  bears_none m i = none_among (λ k. is_relevant_target last side k && attacks_square [] (facing last k.at) y) others m bearing i
+  bears_none : (m : Man) → IsAmong m others → (is_relevant_target last side m && attacks_square [] (opposing_man last m.at) y) ≡ false
+  bears_none m i = none_among (λ k. is_relevant_target last side k && attacks_square [] (opposing_man last k.at) y) others m bearing i
 
   quiet_parts : (same_kind last.kind King ≡ false) × (list_any (λ m. same_side m.side (other_side side) && has ours m.at) others ≡ false)
       × (list_any (λ m. is_man side Pawn m && (rank_of m.at == rank_before_last side)) others ≡ false)

@@ -21,7 +21,7 @@ use Rattle.study_board.specs.Position.{Position, IsValid, in_check, is_empty, is
 use Rattle.study_board.specs.Sets.{has, is_slider}
 use Rattle.study_board.proofs.Faults.{in_check_same}
 use Rattle.study_board.proofs.Lists.{count_by-cons}
-use Rattle.study_board.proofs.MenInOrder.{IsPermutation-placed}
+use Rattle.study_board.proofs.MenInOrder.{IsPermutation-insert_man}
 use Rattle.study_moves.specs.Rules.{half_way, has_side, is_ahead, pawn_double_steps, pawn_steps, pawn_takes, reaches_target, starting_rank, survives}
 use Rattle.study_moves.specs.AnyOrder.{is_safe_target}
 use Rattle.study_moves.specs.KingSafety.{is_unsafe}
@@ -371,7 +371,7 @@ module _ (others : List Man) (last : Man) (y : ℕ) where
     check_before his free =
         sym (in_check_before men man a free side (sides_equal man.side (other_side side) his))
         ∙ sym (in_check_same (on_square man a ∷ filter (survives None man a) men) (men_before men man a)
-        (IsPermutation-placed (on_square man a) (filter (survives None man a) men)) side)
+        (IsPermutation-insert_man (on_square man a) (filter (survives None man a) men)) side)
         ∙ check_moved free
 
     check_after : same_side man.side side ≡ true → is_occupied men a ≡ false → is_unsafe men side man a ≡ in_check (map (moved_if man.at a) men) side

@@ -26,7 +26,7 @@ IsGreatest distance cells None = (n : ℕ) → Tells distance cells n → ⊥
 IsGreatest distance cells (Some n) = Tells distance cells n × ((m : ℕ) → Tells distance cells m → m ≤ n)
 
 -- the greater of two optional distances, or the only one
-abbrev pub greater : Option ℕ → Option ℕ → Option ℕ
-greater None b = b
-greater (Some m) None = Some m
-greater (Some m) (Some n) = Some (max m n)
+abbrev pub option_max : Option ℕ → Option ℕ → Option ℕ
+option_max None b = b
+option_max (Some m) None = Some m
+option_max (Some m) (Some n) = Some (max m n)

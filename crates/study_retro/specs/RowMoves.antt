@@ -10,7 +10,7 @@ use Rattle.study_board.specs.Position.{in_check, is_empty, is_occupied}
 use Rattle.study_board.specs.Sets.{has, is_slider}
 use Rattle.study_moves.specs.Rules.{half_way, is_ahead, reaches_target, starting_rank}
 use Rattle.study_retro.specs.declared.rows.checks.Attacker.{Attacker}
-use Rattle.study_retro.specs.Still.{facing, on_square}
+use Rattle.study_retro.specs.Still.{opposing_man, on_square}
 
 -- the man bears on x with a further man on y
 abbrev pub keeps_attack_with : List Man → ℕ → Man → ℕ → Bool
@@ -20,7 +20,7 @@ keeps_attack_with others y m x = attacks_square others m x && not (is_slider m.k
 abbrev pub king_attacked_with : List Man → Man → Side → ℕ → Man → Bool
 king_attacked_with others last side y k = is_man side King k
     && (list_any (λ m. same_side m.side (other_side side) && keeps_attack_with others y m k.at) others
-    || (same_side last.side (other_side side) && attacks_square others (facing last k.at) y))
+    || (same_side last.side (other_side side) && attacks_square others (opposing_man last k.at) y))
 
 -- no two of the men share a square
 abbrev pub AreOnDistinctSquares : List Man → Type 0
@@ -46,7 +46,7 @@ does_not_interfere others last side from to y = not (hinders from to y || in_che
 -- with the last man on y some man of the side, the last or another, bears on x
 abbrev pub attacked_with_last : List Man → Man → Side → ℕ → ℕ → Bool
 attacked_with_last others last side x y = list_any (λ m. same_side m.side side && keeps_attack_with others y m x) others
-    || (same_side last.side side && attacks_square others (facing last x) y)
+    || (same_side last.side side && attacks_square others (opposing_man last x) y)
 
 -- the others that do not stand on the square, by the properties that one of them has
 abbrev pub AreRest : List Man → ℕ → List Man → Type 0
@@ -75,4 +75,4 @@ AreAttackers men side attackers = (x : ℕ) → x < 64 → (p : Man → Bool)
 
 -- the set has the squares from which the man, if it is of the side, bears on k
 abbrev pub AreChecks : List Man → Man → Side → ℕ → ℕ → Type 0
-AreChecks men man side set k = (y : ℕ) → y < 64 → has set y ≡ (same_side man.side side && attacks_square men (facing man k) y)
+AreChecks men man side set k = (y : ℕ) → y < 64 → has set y ≡ (same_side man.side side && attacks_square men (opposing_man man k) y)

@@ -73,8 +73,8 @@ pub record AreQuietPositions (men : List Man) (side : Side) : Type 0 where
 abbrev pub on_square : Man → ℕ → Man
 on_square man x = record { side = man.side; kind = man.kind; at = x }
 
-abbrev pub facing : Man → ℕ → Man
-facing man x = record { side = other_side man.side; kind = man.kind; at = x }
+abbrev pub opposing_man : Man → ℕ → Man
+opposing_man man x = record { side = other_side man.side; kind = man.kind; at = x }
 
 -- if the man bears on the other one, the men are not still: that one is of the other side, and is the king if it is not the man's turn
 abbrev pub is_relevant_target : Man → Side → Man → Bool

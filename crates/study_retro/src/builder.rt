@@ -6,7 +6,7 @@ ghost use Rattle.study_values.specs.Number.{cells_of};
 ghost use Rattle.study_table.specs.TableSet.{first_missing};
 ghost use Rattle.study_table.specs.Table.{IsReady};
 ghost use Rattle.study_table.specs.Sound.{IsRight, NeedsAreRight, HasFarPosition};
-ghost use Rattle.study_retro.specs.Report.{IsGreatest, greater, win_of, loss_of};
+ghost use Rattle.study_retro.specs.Report.{IsGreatest, option_max, win_of, loss_of};
 
 use crate::class_game::ClassGame;
 use std::alloc::Allocator;
@@ -95,8 +95,8 @@ struct DeepestMates {
 
 impl DeepestMates {
     fn with(self, value: Value) -> DeepestMates
-        ensures win { result.win ≡ greater self.win (win_of value) }
-        ensures loss { result.loss ≡ greater self.loss (loss_of value) }
+        ensures win { result.win ≡ option_max self.win (win_of value) }
+        ensures loss { result.loss ≡ option_max self.loss (loss_of value) }
     {
         match value {
             Value::Win(n) => DeepestMates {
@@ -113,7 +113,7 @@ impl DeepestMates {
 }
 
 fn at_least(known: Option<u8>, n: u8) -> u8
-    ensures { Some result ≡ greater known (Some n) }
+    ensures { Some result ≡ option_max known (Some n) }
 {
     match known {
         None => n,

@@ -24,7 +24,7 @@ use Rattle.study_facts.specs.Continuations.{wanted_moves, contains_move}
 use Rattle.study_facts.specs.Defences.{only_move, AreAnswered, IsAnswered}
 use Rattle.study_facts.specs.Made.{Grew}
 use Rattle.study_facts.specs.Time.{IsTimeGiven, AreTimed}
-use Rattle.study_review.specs.NodeFacts.{AreAlsoLines, AreMissingLines, AreAnswers, besides, apart}
+use Rattle.study_review.specs.NodeFacts.{AreAlsoLines, AreMissingLines, AreAnswers, besides, moves_outside}
 use Rattle.study_facts.specs.Words.{also_line, missing_line, times_lost}
 use Rattle.study_facts.specs.TimeFaults.{all_lose_time}
 use Rattle.study_facts.proofs.NodesShown.{not-zero}
@@ -204,8 +204,9 @@ module _ (path : List ℕ) (a : Aim) (d : ℕ) (p : Position) (there : List Move
       → Grew (AreMissingLines path a d p there rest) old new → Grew (AreMissingLines path a d p there evaluated) old new
   defence-there x evaluated rest old new e h k =
       let left = filter-left (λ y. not (contains_move y.played there)) x (ap not h) in
-      let list : apart there evaluated ≡ apart there rest =
-      ap (apart there) e ∙ filter-more (λ y. not (contains_move y.played there)) x rest ∙ ap (λ (l : List EvaluatedMove). l ++ apart there rest) left in
+      let list : moves_outside there evaluated ≡ moves_outside there rest =
+      ap (moves_outside there) e ∙ filter-more (λ y. not (contains_move y.played there)) x rest
+      ∙ ap (λ (l : List EvaluatedMove). l ++ moves_outside there rest) left in
       (k.0, (k.1.0, subst (λ (l : List EvaluatedMove). AreAnswered a d p l k.1.0) (sym list) k.1.1, k.1.2), k.2)
 
   pub defence-more : (x : EvaluatedMove) (evaluated rest : List EvaluatedMove) (old mid new : List ℕ) → evaluated ≡ x ∷ rest
@@ -214,8 +215,9 @@ module _ (path : List ℕ) (a : Aim) (d : ℕ) (p : Position) (there : List Move
   defence-more x evaluated rest old mid new e h o k =
       let y = o.0 in
       let kept = filter-kept (λ z. not (contains_move z.played there)) x (ap not h) in
-      let list : apart there evaluated ≡ x ∷ apart there rest =
-      ap (apart there) e ∙ filter-more (λ z. not (contains_move z.played there)) x rest ∙ ap (λ (l : List EvaluatedMove). l ++ apart there rest) kept in (
+      let list : moves_outside there evaluated ≡ x ∷ moves_outside there rest =
+      ap (moves_outside there) e ∙ filter-more (λ z. not (contains_move z.played there)) x rest
+      ∙ ap (λ (l : List EvaluatedMove). l ++ moves_outside there rest) kept in (
         missing_line path p y ++ k.0,
         (
           y ∷ k.1.0,

@@ -31,12 +31,12 @@ use Rattle.study_facts.specs.Nodes.{refuted_text, AreAlso, AlsoLines, RefutedLin
 use Rattle.study_facts.specs.Made.{Grew, Rose}
 use Rattle.study_facts.specs.TimeFaults.{CountWhere, IsTimeFaultOf, IsTimeFault, all_lose_time}
 use Rattle.study_facts.specs.WalkState.{IsNodeAt, IsStep}
-use Rattle.study_review.specs.NodeFacts.{AreAlsoLines, AreMissingLines, OwnLines, HereLines, besides, failing, drawing}
+use Rattle.study_review.specs.NodeFacts.{AreAlsoLines, AreMissingLines, OwnLines, HereLines, besides, failing_moves, drawing_moves}
 use Rattle.study_facts.specs.declared.zugzwang.Zugzwang.{Zugzwang}
 use Rattle.study_facts.specs.Zugzwang.{IsZugzwangOf, zugzwang_line}
 use Rattle.study_facts.proofs.NodesShown.{are-there, not-there, none-counted}
 use Rattle.study_review.proofs.MovesReported.{timed-length, all-counted}
-use Rattle.study_review.proofs.ReportedMoves.{failing-evaluated, drawing-evaluated, apart-evaluated, besides-evaluated}
+use Rattle.study_review.proofs.ReportedMoves.{failing_moves-evaluated, drawing_moves-evaluated, moves_outside-evaluated, besides-evaluated}
 
 module _ (s : Study Mark) (path : List ℕ) where
   -- ---- the move to the node
@@ -193,10 +193,10 @@ module _ (s : Study Mark) (path : List ℕ) where
 
   module _ (a : Aim) (d : ℕ) (p : Position) (h : IsNodeAt s path a d p) where
     pub refuted-evaluated : (evaluated : List EvaluatedMove) (old new : List ℕ) → is_try s path ≡ true → AreChosen (λ v. true) p (legal_list p) evaluated
-        → new ≡ old ++ refuted_text path p (failing a d evaluated) → Grew (RefutedLines s path) old new
+        → new ≡ old ++ refuted_text path p (failing_moves a d evaluated) → Grew (RefutedLines s path) old new
     refuted-evaluated evaluated old new is all grew =
-        let list = failing a d evaluated in
-        let one = subst (λ (x : Aim). AreRefutations x d p list) h.aim (failing-evaluated a d p evaluated all) in
+        let list = failing_moves a d evaluated in
+        let one = subst (λ (x : Aim). AreRefutations x d p list) h.aim (failing_moves-evaluated a d p evaluated all) in
         let two = subst (λ n. AreRefutations (aim_of s) n p list) h.depth one in
         let three = subst (λ (q : Position). AreRefutations (aim_of s) (length path) q list) h.position two in
         are-there (is_try s path) _ old new is
@@ -207,7 +207,7 @@ module _ (s : Study Mark) (path : List ℕ) where
         → Grew (AreMissingLines path a d p there evaluated) old new → Grew (MissingLines s path) old new
     missing-evaluated there evaluated old new is all chosen grew =
         let list = grew.1.0 in
-        let k : AreDefences a d p there list = (_, apart-evaluated p there evaluated chosen, grew.1.1) in
+        let k : AreDefences a d p there list = (_, moves_outside-evaluated p there evaluated chosen, grew.1.1) in
         let one = subst (λ (x : Aim). AreDefences x d p there list) h.aim k in
         let two = subst (λ n. AreDefences (aim_of s) n p there list) h.depth one in
         let three = subst (λ (q : Position). AreDefences (aim_of s) (length path) q there list) h.position two in
@@ -256,7 +256,7 @@ module _ (s : Study Mark) (path : List ℕ) where
 
 -- the moves that keep a draw
 pub keep-evaluated : (path : List ℕ) (p : Position) (evaluated : List EvaluatedMove) (v : Value) (old new : List ℕ) → v ≡ values.Draw
-    → AreChosen (λ w. true) p (legal_list p) evaluated → new ≡ old ++ keep_line path p (drawing evaluated) → Grew (IsEnd path p v) old new
+    → AreChosen (λ w. true) p (legal_list p) evaluated → new ≡ old ++ keep_line path p (drawing_moves evaluated) → Grew (IsEnd path p v) old new
 keep-evaluated path p evaluated v old new e all grew =
-    let text = keep_line path p (drawing evaluated) in
-    (text, subst (λ w. IsEnd path p w text) (sym e) (drawing evaluated, drawing-evaluated p evaluated all, refl), grew)
+    let text = keep_line path p (drawing_moves evaluated) in
+    (text, subst (λ w. IsEnd path p w text) (sym e) (drawing_moves evaluated, drawing_moves-evaluated p evaluated all, refl), grew)

@@ -12,7 +12,7 @@ use Rattle.study_marks.specs.Goals.{holds}
 use Rattle.study_marks.specs.Annotated.{AreValuesAfter}
 use Rattle.study_facts.specs.declared.continuation.EvaluatedMove.{EvaluatedMove}
 use Rattle.study_facts.specs.Continuations.{wanted_moves, contains_move, is_draw, AreChosen, AreRefutations, AreDrawingMoves, AreMissing, AreAlternatives}
-use Rattle.study_review.specs.NodeFacts.{AreReported, failing, drawing, apart, besides}
+use Rattle.study_review.specs.NodeFacts.{AreReported, failing_moves, drawing_moves, moves_outside, besides}
 use Rattle.study_facts.proofs.Chosen.{one-added}
 
 -- one more move is written
@@ -48,12 +48,12 @@ some-evaluated : (f : Value → Bool) (p : Position) (ms : List Move) (list : Li
     → AreChosen f p ms (filter (λ x. f x.value) list)
 some-evaluated f p ms list h = (h.0, h.1, ap (λ (l : List EvaluatedMove). filter (λ x. f x.value) l) h.2 ∙ some-kept f ms h.0)
 
-pub failing-evaluated : (a : Aim) (d : ℕ) (p : Position) (list : List EvaluatedMove) → AreChosen (λ v. true) p (legal_list p) list
-    → AreRefutations a d p (failing a d list)
-failing-evaluated a d p list h = some-evaluated (λ v. not (holds a (d + 1) v)) p (legal_list p) list h
+pub failing_moves-evaluated : (a : Aim) (d : ℕ) (p : Position) (list : List EvaluatedMove) → AreChosen (λ v. true) p (legal_list p) list
+    → AreRefutations a d p (failing_moves a d list)
+failing_moves-evaluated a d p list h = some-evaluated (λ v. not (holds a (d + 1) v)) p (legal_list p) list h
 
-pub drawing-evaluated : (p : Position) (list : List EvaluatedMove) → AreChosen (λ v. true) p (legal_list p) list → AreDrawingMoves p (drawing list)
-drawing-evaluated p list h = some-evaluated is_draw p (legal_list p) list h
+pub drawing_moves-evaluated : (p : Position) (list : List EvaluatedMove) → AreChosen (λ v. true) p (legal_list p) list → AreDrawingMoves p (drawing_moves list)
+drawing_moves-evaluated p list h = some-evaluated is_draw p (legal_list p) list h
 
 -- ---- the moves that are not in the list
 
@@ -90,9 +90,9 @@ and-true : (b : Bool) → b ≡ (b && true)
 and-true true = refl
 and-true false = refl
 
-pub apart-evaluated : (p : Position) (there : List Move) (list : List EvaluatedMove) → AreChosen (λ v. true) p (legal_list p) list
-    → AreMissing p there (apart there list)
-apart-evaluated p there list k =
+pub moves_outside-evaluated : (p : Position) (there : List Move) (list : List EvaluatedMove) → AreChosen (λ v. true) p (legal_list p) list
+    → AreMissing p there (moves_outside there list)
+moves_outside-evaluated p there list k =
     picked-evaluated p (λ m. not (contains_move m there)) (λ v. true) (λ x. not (contains_move x.played there))
     (λ x. and-true (not (contains_move x.played there))) (legal_list p) list k
 

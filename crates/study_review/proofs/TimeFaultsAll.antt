@@ -13,7 +13,7 @@ use Rattle.study_marks.specs.declared.mark.MoveMark.{MoveMark}
 use Rattle.study_marks.specs.declared.mark.MoveMark.TheVariants.{Only, Dual, Mistake, Idle, Reply}
 use Rattle.study_marks.specs.declared.mark_rules.Aim.{Aim}
 use Rattle.study_marks.specs.Bench.{played_by, on_move_of}
-use Rattle.study_marks.specs.FaultSums.{below_at, skipped}
+use Rattle.study_marks.specs.FaultSums.{below_at, siblings_from}
 use Rattle.study_marks.specs.Study.{Study, position_at}
 use Rattle.study_marks.specs.Goals.{aim_of, hero_moves}
 use Rattle.study_marks.specs.Marks.{own_faults, faults_in}
@@ -151,20 +151,20 @@ module _ (law : EachHasAtMostOneValue) (s : Study Mark) where
 
   -- ---- the nodes of the tree
 
-  here-at : (g : Forest Mark) (k : ℕ) (m : Move) (x : Mark) (b r : Forest Mark) → skipped k g ≡ more m x b r
-      → (node_in g k [] ≡ Some (record { played = m; label = x; below = b })) × (skipped (suc k) g ≡ r)
+  here-at : (g : Forest Mark) (k : ℕ) (m : Move) (x : Mark) (b r : Forest Mark) → siblings_from k g ≡ more m x b r
+      → (node_in g k [] ≡ Some (record { played = m; label = x; below = b })) × (siblings_from (suc k) g ≡ r)
   here-at none zero m x b r e = absurd cc
   here-at none (suc k) m x b r e = absurd cc
   here-at (more n y c t) zero m x b r e =
       let h : (more n y c t) ≡ more m x b r = e in
-      (ap (λ f. node_in f 0 []) h, ap (λ f. skipped 1 f) h)
+      (ap (λ f. node_in f 0 []) h, ap (λ f. siblings_from 1 f) h)
   here-at (more n y c t) (suc k) m x b r e = here-at t k m x b r e
 
   made-last : (a : Aim) (path : List ℕ) (k : ℕ) → is_hero_move a (path ++ k ∷ []) ≡ hero_moves a (length path)
   made-last a [] k = refl
   made-last a (j ∷ js) k = ap (hero_moves a) (let n = length-append js (k ∷ []) in let z : length (js ++ k ∷ []) ≡ length (j ∷ js) = omega (arith, n) in z)
 
-  all-moved : (path : List ℕ) (k : ℕ) (f : Forest Mark) → skipped k (below_at s.tree.below path) ≡ f → AreMoved (paths_from path k f)
+  all-moved : (path : List ℕ) (k : ℕ) (f : Forest Mark) → siblings_from k (below_at s.tree.below path) ≡ f → AreMoved (paths_from path k f)
   all-moved path k none e = tt
   all-moved path k (more m x b r) e =
       let here = path ++ k ∷ [] in
@@ -173,7 +173,7 @@ module _ (law : EachHasAtMostOneValue) (s : Study Mark) where
         (m, ap played_by (spot_last s.tree path k ∙ ap twig_spot at.0)),
         moved-append (paths_from here 0 b) (paths_from path (k + 1) r)
             (all-moved here 0 b (below_entered s.tree.below path k t at.0))
-            (all-moved path (k + 1) r (ap (λ j. skipped j (below_at s.tree.below path)) (add-one k) ∙ at.1)),
+            (all-moved path (k + 1) r (ap (λ j. siblings_from j (below_at s.tree.below path)) (add-one k) ∙ at.1)),
       )
 
   -- no fault of the solution is below a node outside it
@@ -238,7 +238,7 @@ module _ (law : EachHasAtMostOneValue) (s : Study Mark) where
       own false None = refl
       own false (Some y) = refl
 
-  inside : (path : List ℕ) (d k : ℕ) (f : Forest Mark) → skipped k (below_at s.tree.below path) ≡ f → d ≡ length path
+  inside : (path : List ℕ) (d k : ℕ) (f : Forest Mark) → siblings_from k (below_at s.tree.below path) ≡ f → d ≡ length path
       → in_solution (aim_of s) 0 path ≡ true → (not (hero_moves (aim_of s) d) || (k == 0)) ≡ true
       → total (paths_from path k f) ≡ faults_in (aim_of s) d f
   inside path d k none e depth on turn = refl
@@ -254,7 +254,7 @@ module _ (law : EachHasAtMostOneValue) (s : Study Mark) where
       let deep : d + 1 ≡ length here = let n = length-append path (k ∷ []) in omega (arith, n, depth) in
       let own = own-weight path k d x depth mark there in
       let below = inside here (d + 1) 0 b (below_entered s.tree.below path k t at.0) deep there (first (hero_moves (aim_of s) (d + 1))) in
-      let left = ap (λ j. skipped j (below_at s.tree.below path)) (add-one k) ∙ at.1 in
+      let left = ap (λ j. siblings_from j (below_at s.tree.below path)) (add-one k) ∙ at.1 in
       let rest = others (λ h. inside path d (k + 1) r left depth on (ap (λ c. not c || (k + 1 == 0)) h)) (hero_moves (aim_of s) d) refl in
       let sum = total-append (paths_from here 0 b) (paths_from path (k + 1) r) in
       omega (arith, own, below, rest, sum)

@@ -25,16 +25,16 @@ abbrev pub AreReported : Position → List Move → List EvaluatedMove → List 
 AreReported p ms old new = (all : List Value) × AreValuesAfter p ms all × (new ≡ old ++ wanted_moves (λ v. true) ms all)
 
 -- the evaluated moves at depth d after which the position does not hold
-abbrev pub failing : Aim → ℕ → List EvaluatedMove → List EvaluatedMove
-failing a d list = filter (λ x. not (holds a (d + 1) x.value)) list
+abbrev pub failing_moves : Aim → ℕ → List EvaluatedMove → List EvaluatedMove
+failing_moves a d list = filter (λ x. not (holds a (d + 1) x.value)) list
 
 -- the evaluated moves after which the position is drawn
-abbrev pub drawing : List EvaluatedMove → List EvaluatedMove
-drawing list = filter (λ x. is_draw x.value) list
+abbrev pub drawing_moves : List EvaluatedMove → List EvaluatedMove
+drawing_moves list = filter (λ x. is_draw x.value) list
 
 -- the evaluated moves that are not in the tree
-abbrev pub apart : List Move → List EvaluatedMove → List EvaluatedMove
-apart there list = filter (λ x. not (contains_move x.played there)) list
+abbrev pub moves_outside : List Move → List EvaluatedMove → List EvaluatedMove
+moves_outside there list = filter (λ x. not (contains_move x.played there)) list
 
 -- the evaluated moves that are not in the tree, and after which the position holds
 abbrev pub besides : Aim → ℕ → List Move → List EvaluatedMove → List EvaluatedMove
@@ -49,7 +49,7 @@ AreAlsoLines path a d line p m list n text =
 -- a line for each of these missing defences, with its answers
 abbrev pub AreMissingLines : List ℕ → Aim → ℕ → Position → List Move → List EvaluatedMove → List ℕ → Type 0
 AreMissingLines path a d p there list text =
-    (answered : List Defence) × AreAnswered a d p (apart there list) answered × (text ≡ flat_map (missing_line path p) answered)
+    (answered : List Defence) × AreAnswered a d p (moves_outside there list) answered × (text ≡ flat_map (missing_line path p) answered)
 
 -- the number of these moves of q at depth d that hold, and the move if it is the only one
 abbrev pub AreAnswers : Aim → ℕ → Position → List Move → Answers → Type 0

@@ -2,7 +2,7 @@
 ghost use Rattle.std.specs.Prelude.{◌≡◌, ◌+◌, ◌++◌, ◌∷◌, [], ◌<◌, ◌≤◌, ◌^◌, ◌==◌, not, ◌&&◌, true, length, Some, OnOk, IfOk, if◌then◌else◌};
 ghost use Rattle.std.specs.List.{All};
 ghost use Rattle.study_moves.specs.Rules.{is_legal};
-ghost use Rattle.study_marks.specs.BenchState.{marked};
+ghost use Rattle.study_marks.specs.BenchState.{marked_study};
 ghost use Rattle.study_marks.specs.Goals.{holds};
 ghost use Rattle.study_facts.specs.Asked.{within};
 ghost use Rattle.study_facts.specs.Continuations.{contains_move};
@@ -155,18 +155,18 @@ fn add_dual_lines<'a, 'b, A: Allocator, B: Allocator, V: Values>(
     values: &mut V,
 ) -> Result<(), TextFault>
     // Many clauses: one for each group of lines, and those of the probes.
-    requires made { IsStudyMove (marked bench.now) step.now }
+    requires made { IsStudyMove (marked_study bench.now) step.now }
     requires mark { step.now.mark.on_move ≡ Some (MoveMark.Dual others) }
     ensures also { V.source.is_honest values.old
         → OnOk result
-        (Grew (AlsoLines (marked bench.now) step.now.steps.now) draft.old.nodes draft.new.nodes) }
+        (Grew (AlsoLines (marked_study bench.now) step.now.steps.now) draft.old.nodes draft.new.nodes) }
     ensures fault { V.source.is_honest values.old
         → OnOk result
-        (Grew (FaultLines (marked bench.now) step.now.steps.now)
+        (Grew (FaultLines (marked_study bench.now) step.now.steps.now)
         draft.old.faults draft.new.faults) }
     ensures time { V.source.is_honest values.old
         → OnOk result
-        (Rose (IsTimeFault (marked bench.now) step.now.steps.now) draft.old.time_faults
+        (Rose (IsTimeFault (marked_study bench.now) step.now.steps.now) draft.old.time_faults
         draft.new.time_faults) }
     ensures asked { HasAsked (within step.now.before.position.now V.source)
         values.old result values.new }
@@ -189,10 +189,10 @@ fn add_listed_mistake<'b, A: Allocator, B: Allocator>(
     bench: &Bench<'b, B>,
     step: &StudyMove<'_>,
 ) -> Result<(), AllocError>
-    requires made { IsStudyMove (marked bench.now) step.now }
+    requires made { IsStudyMove (marked_study bench.now) step.now }
     requires mark { step.now.mark.on_move ≡ Some MoveMark.Mistake }
     ensures { OnOk result
-        (Grew (FaultLines (marked bench.now) step.now.steps.now) text.old text.new) }
+        (Grew (FaultLines (marked_study bench.now) step.now.steps.now) text.old text.new) }
 {
     if !step.solution {
         return Ok(());
@@ -212,17 +212,17 @@ pub fn add_move<'a, 'b, A: Allocator, B: Allocator, V: Values>(
     values: &mut V,
 ) -> Result<(), TextFault>
     // Many clauses: one for each group of lines, and those of the probes.
-    requires made { IsStudyMove (marked bench.now) step.now }
+    requires made { IsStudyMove (marked_study bench.now) step.now }
     ensures also { V.source.is_honest values.old
         → OnOk result
-        (Grew (AlsoLines (marked bench.now) step.now.steps.now) draft.old.nodes draft.new.nodes) }
+        (Grew (AlsoLines (marked_study bench.now) step.now.steps.now) draft.old.nodes draft.new.nodes) }
     ensures fault { V.source.is_honest values.old
         → OnOk result
-        (Grew (FaultLines (marked bench.now) step.now.steps.now)
+        (Grew (FaultLines (marked_study bench.now) step.now.steps.now)
         draft.old.faults draft.new.faults) }
     ensures time { V.source.is_honest values.old
         → OnOk result
-        (Rose (IsTimeFault (marked bench.now) step.now.steps.now) draft.old.time_faults
+        (Rose (IsTimeFault (marked_study bench.now) step.now.steps.now) draft.old.time_faults
         draft.new.time_faults) }
     ensures asked { HasAsked (within step.now.before.position.now V.source)
         values.old result values.new }

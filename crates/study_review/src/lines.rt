@@ -7,7 +7,7 @@ ghost use Rattle.study_facts.specs.Words.{move_and_value, time_words, also_line,
 ghost use Rattle.study_facts.specs.Words.{only_words, none_words, answers_words, missing_line, play_words, play_line};
 ghost use Rattle.study_facts.specs.Words.{move_words, keep_line, dual_line, mistake_line};
 ghost use Rattle.study_moves.specs.LegalList.{legal_list};
-ghost use Rattle.study_review.specs.NodeFacts.{failing, drawing};
+ghost use Rattle.study_review.specs.NodeFacts.{failing_moves, drawing_moves};
 
 use std::alloc::{AllocError, Allocator};
 use study_board::Position;
@@ -89,7 +89,7 @@ pub fn add_refuted_lines<A: Allocator>(
     requires legal { All (λ x. is_legal node.now.position.now x.played ≡ true) evaluated.now }
     ensures { OnOk result (text.new ≡ text.old
         ++ flat_map (refuted_line steps.now node.now.position.now)
-        (failing node.now.aim.now node.now.depth evaluated.now)) }
+        (failing_moves node.now.aim.now node.now.depth evaluated.now)) }
 {
     for x in evaluated {
         if !holds(node.aim, node.depth + 1, x.value) {
@@ -213,7 +213,7 @@ fn add_drawing_moves<A: Allocator>(
 ) -> Result<(), AllocError>
     requires { All (λ x. is_legal p.now x.played ≡ true) evaluated.now }
     ensures { OnOk result (text.new ≡ text.old
-        ++ flat_map (move_words p.now) (drawing evaluated.now)) }
+        ++ flat_map (move_words p.now) (drawing_moves evaluated.now)) }
 {
     for x in evaluated {
         if is_draw(x.value) {
@@ -226,7 +226,7 @@ fn add_drawing_moves<A: Allocator>(
 /// The number of these moves that keep a draw.
 fn count_drawing(evaluated: &[EvaluatedMove]) -> u32
     requires { length evaluated.now < 2 ^ 32 }
-    ensures count { result ≡ length (drawing evaluated.now) }
+    ensures count { result ≡ length (drawing_moves evaluated.now) }
     ensures few { result ≤ length evaluated.now }
 {
     match evaluated.split_first() {
@@ -247,7 +247,7 @@ pub fn add_drawing_moves_line<A: Allocator>(
     requires all { length evaluated.now ≡ length (legal_list p.now) }
     requires legal { All (λ x. is_legal p.now x.played ≡ true) evaluated.now }
     ensures { OnOk result (text.new ≡ text.old
-        ++ keep_line steps.now p.now (drawing evaluated.now)) }
+        ++ keep_line steps.now p.now (drawing_moves evaluated.now)) }
 {
     add_line_start(text, b"keep ", steps)?;
     text.add_number(count_drawing(evaluated))?;

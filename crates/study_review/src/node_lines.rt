@@ -3,13 +3,13 @@ ghost use Rattle.std.specs.Prelude.{◌≡◌, ◌++◌, Option, ◌+◌, ◌^�
 ghost use Rattle.std.specs.List.{All};
 ghost use Rattle.study_moves.specs.Rules.{is_legal};
 ghost use Rattle.study_moves.specs.LegalList.{legal_list};
-ghost use Rattle.study_marks.specs.BenchState.{marked};
+ghost use Rattle.study_marks.specs.BenchState.{marked_study};
 ghost use Rattle.study_facts.specs.Asked.{within};
 ghost use Rattle.study_facts.specs.Continuations.{AreChosen};
 ghost use Rattle.study_facts.specs.Made.{Grew, HasAsked};
 ghost use Rattle.study_facts.specs.Nodes.{RefutedLines, MissingLines, EndLines, is_stalemate, refuted_text};
 ghost use Rattle.study_facts.specs.StudyNode.{IsStudyNode};
-ghost use Rattle.study_review.specs.NodeFacts.{OwnLines, HereLines, failing};
+ghost use Rattle.study_review.specs.NodeFacts.{OwnLines, HereLines, failing_moves};
 ghost use Rattle.study_facts.specs.Zugzwang.{IsZugzwangOf, zugzwang_line};
 ghost use Rattle.study_facts.specs.declared.zugzwang.Zugzwang.{Zugzwang as AZugzwang};
 
@@ -47,7 +47,7 @@ fn add_refutations<A: Allocator>(
     requires all { length evaluated.now ≡ length (legal_list node.now.position.now) }
     ensures { OnOk result (text.new ≡ text.old
         ++ refuted_text steps.now node.now.position.now
-        (failing node.now.aim.now node.now.depth evaluated.now)) }
+        (failing_moves node.now.aim.now node.now.depth evaluated.now)) }
 {
     if is_stalemate(node.position, evaluated) {
         return add_stalemate(text, steps);
@@ -62,13 +62,13 @@ fn add_refuted<'b, A: Allocator, B: Allocator>(
     here: &StudyNode<'_>,
     evaluated: &[EvaluatedMove],
 ) -> Result<(), AllocError>
-    requires here { IsStudyNode (marked bench.now) here.now }
+    requires here { IsStudyNode (marked_study bench.now) here.now }
     requires legal { All (λ x. is_legal here.now.node.position.now x.played ≡ true) evaluated.now }
     requires all { length evaluated.now ≡ length (legal_list here.now.node.position.now) }
     ensures { AreChosen (λ v. true) here.now.node.position.now
         (legal_list here.now.node.position.now) evaluated.now
         → OnOk result
-        (Grew (RefutedLines (marked bench.now) here.now.steps.now) text.old text.new) }
+        (Grew (RefutedLines (marked_study bench.now) here.now.steps.now) text.old text.new) }
 {
     if !here.tried {
         return Ok(());
@@ -85,13 +85,13 @@ fn add_missing<'a, 'b, A: Allocator, B: Allocator, V: Values>(
     evaluated: &[EvaluatedMove],
     values: &mut V,
 ) -> Result<(), TextFault>
-    requires here { IsStudyNode (marked bench.now) here.now }
+    requires here { IsStudyNode (marked_study bench.now) here.now }
     requires legal { All (λ x. is_legal here.now.node.position.now x.played ≡ true) evaluated.now }
     ensures text { AreChosen (λ v.
         true) here.now.node.position.now (legal_list here.now.node.position.now) evaluated.now
         → V.source.is_honest values.old
         → OnOk result
-        (Grew (MissingLines (marked bench.now) here.now.steps.now) text.old text.new) }
+        (Grew (MissingLines (marked_study bench.now) here.now.steps.now) text.old text.new) }
     ensures asked { HasAsked (within here.now.node.position.now V.source)
         values.old result values.new }
 {
@@ -119,14 +119,15 @@ fn add_end<'b, A: Allocator, B: Allocator, V: Values>(
     evaluated: &[EvaluatedMove],
     values: &mut V,
 ) -> Result<(), TextFault>
-    requires here { IsStudyNode (marked bench.now) here.now }
+    requires here { IsStudyNode (marked_study bench.now) here.now }
     requires legal { All (λ x. is_legal here.now.node.position.now x.played ≡ true) evaluated.now }
     requires all { length evaluated.now ≡ length (legal_list here.now.node.position.now) }
     requires few { length evaluated.now < 2 ^ 32 }
     ensures text { AreChosen (λ v.
         true) here.now.node.position.now (legal_list here.now.node.position.now) evaluated.now
         → V.source.is_honest values.old
-        → OnOk result (Grew (EndLines (marked bench.now) here.now.steps.now) text.old text.new) }
+        → OnOk result (Grew (EndLines (marked_study bench.now) here.now.steps.now) text.old
+        text.new) }
     ensures asked { HasAsked (within here.now.node.position.now V.source)
         values.old result values.new }
 {
@@ -153,14 +154,15 @@ fn add_reported<'a, 'b, A: Allocator, B: Allocator, V: Values>(
     values: &mut V,
 ) -> Result<(), TextFault>
     // Many clauses: one for each group of lines, and those of the probes.
-    requires here { IsStudyNode (marked bench.now) here.now }
+    requires here { IsStudyNode (marked_study bench.now) here.now }
     requires legal { All (λ x. is_legal here.now.node.position.now x.played ≡ true) evaluated.now }
     requires all { length evaluated.now ≡ length (legal_list here.now.node.position.now) }
     requires few { length evaluated.now < 2 ^ 32 }
     ensures text { AreChosen (λ v.
         true) here.now.node.position.now (legal_list here.now.node.position.now) evaluated.now
         → V.source.is_honest values.old
-        → OnOk result (Grew (OwnLines (marked bench.now) here.now.steps.now) text.old text.new) }
+        → OnOk result (Grew (OwnLines (marked_study bench.now) here.now.steps.now) text.old
+        text.new) }
     ensures asked { HasAsked (within here.now.node.position.now V.source)
         values.old result values.new }
 {
@@ -178,9 +180,10 @@ fn add_node_lines<'a, 'b, A: Allocator, B: Allocator, V: Values>(
     evaluated: &mut Vec<EvaluatedMove, &'a A>,
     values: &mut V,
 ) -> Result<(), TextFault>
-    requires here { IsStudyNode (marked bench.now) here.now }
+    requires here { IsStudyNode (marked_study bench.now) here.now }
     ensures text { V.source.is_honest values.old
-        → OnOk result (Grew (OwnLines (marked bench.now) here.now.steps.now) text.old text.new) }
+        → OnOk result (Grew (OwnLines (marked_study bench.now) here.now.steps.now) text.old
+        text.new) }
     ensures asked { HasAsked (within here.now.node.position.now V.source)
         values.old result values.new }
 {
@@ -221,9 +224,10 @@ pub fn add_here<'a, 'b, A: Allocator, B: Allocator, V: Values>(
     evaluated: &mut Vec<EvaluatedMove, &'a A>,
     values: &mut V,
 ) -> Result<(), TextFault>
-    requires here { IsStudyNode (marked bench.now) here.now }
+    requires here { IsStudyNode (marked_study bench.now) here.now }
     ensures text { V.source.is_honest values.old
-        → OnOk result (Grew (HereLines (marked bench.now) here.now.steps.now) text.old text.new) }
+        → OnOk result (Grew (HereLines (marked_study bench.now) here.now.steps.now) text.old
+        text.new) }
     ensures asked { HasAsked (within here.now.node.position.now V.source)
         values.old result values.new }
 {

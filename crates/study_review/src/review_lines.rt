@@ -1,6 +1,6 @@
 //! The lines of a review before it is whole.
 ghost use Rattle.std.specs.Prelude.{◌≡◌, [], OnOk};
-ghost use Rattle.study_marks.specs.BenchState.{marked};
+ghost use Rattle.study_marks.specs.BenchState.{marked_study};
 ghost use Rattle.study_facts.specs.Asked.{within};
 ghost use Rattle.study_facts.specs.Made.{Grew, Rose, HasAsked};
 ghost use Rattle.study_facts.specs.Nodes.{FaultLines, NodeLines};
@@ -104,16 +104,16 @@ pub fn add_all<'a, 'b, A: Allocator, B: Allocator, V: Values>(
 ) -> Result<(), TextFault>
     ensures faults { V.source.is_honest values.old
         → OnOk result
-        (Grew (LinesOfEach (FaultLines (marked bench.now)) (written_order (marked bench.now)))
+        (Grew (LinesOfEach (FaultLines (marked_study bench.now)) (written_order (marked_study bench.now)))
         draft.old.faults draft.new.faults) }
     ensures time { V.source.is_honest values.old
         → OnOk result
-        (Rose (AreTimeFaults (marked bench.now)) draft.old.time_faults draft.new.time_faults) }
+        (Rose (AreTimeFaults (marked_study bench.now)) draft.old.time_faults draft.new.time_faults) }
     ensures nodes { V.source.is_honest values.old
         → OnOk result
-        (Grew (LinesOfEach (NodeLines (marked bench.now)) (written_order (marked bench.now)))
+        (Grew (LinesOfEach (NodeLines (marked_study bench.now)) (written_order (marked_study bench.now)))
         draft.old.nodes draft.new.nodes) }
-    ensures asked { HasAsked (within (marked bench.now).start.position V.source)
+    ensures asked { HasAsked (within (marked_study bench.now).start.position V.source)
         values.old result values.new }
 {
     walk_study(alloc, draft, bench, values)

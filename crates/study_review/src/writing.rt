@@ -2,7 +2,7 @@
 ghost use Rattle.std.specs.Prelude.{◌≡◌, ◌++◌, List, ℕ, OnOk, IfOk, IfErr, Ok, Err};
 ghost use Rattle.std.specs.Io.KnownBytes.{Appends};
 ghost use Rattle.study_text.specs.Taken.{TakesPrefix};
-ghost use Rattle.study_marks.specs.BenchState.{marked, IsKeptRight};
+ghost use Rattle.study_marks.specs.BenchState.{marked_study, IsKeptRight};
 ghost use Rattle.study_marks.specs.Study.{Study, plain_study};
 ghost use Rattle.study_marks.specs.Verdict.{verdict};
 ghost use Rattle.study_marks.specs.declared.mark.Mark.{Mark as AMark};
@@ -30,7 +30,7 @@ fn add_study<'b, A: Allocator, B: Allocator>(
     bench: &Bench<'b, B>,
     number: u32,
 ) -> Result<(), AllocError>
-    ensures { OnOk result (text.new ≡ text.old ++ study_line (marked bench.now) number) }
+    ensures { OnOk result (text.new ≡ text.old ++ study_line (marked_study bench.now) number) }
 {
     let fen = write_fen(bench.start());
     text.add(b"study ")?;
@@ -47,8 +47,8 @@ pub fn add_stipulation_line<'b, A: Allocator, B: Allocator>(
     bench: &Bench<'b, B>,
     root: Mark,
 ) -> Result<(), AllocError>
-    requires { root ≡ (marked bench.now).tree.label }
-    ensures { OnOk result (text.new ≡ text.old ++ stipulation_line (marked bench.now)) }
+    requires { root ≡ (marked_study bench.now).tree.label }
+    ensures { OnOk result (text.new ≡ text.old ++ stipulation_line (marked_study bench.now)) }
 {
     text.add(b"stipulation ")?;
     add_opening_words(
@@ -64,7 +64,7 @@ fn add_empty<'b, A: Allocator, B: Allocator>(
     text: &mut Text<'_, A>,
     bench: &Bench<'b, B>,
 ) -> Result<(), AllocError>
-    ensures { OnOk result (text.new ≡ text.old ++ empty_line (marked bench.now)) }
+    ensures { OnOk result (text.new ≡ text.old ++ empty_line (marked_study bench.now)) }
 {
     if is_empty(bench) {
         return text.add(b"empty\n");
@@ -79,9 +79,9 @@ fn add_head<'b, A: Allocator, B: Allocator>(
     root: Mark,
     number: u32,
 ) -> Result<(), AllocError>
-    requires { root ≡ (marked bench.now).tree.label }
-    ensures { OnOk result (text.new ≡ text.old ++ (study_line (marked bench.now) number
-        ++ (stipulation_line (marked bench.now) ++ empty_line (marked bench.now)))) }
+    requires { root ≡ (marked_study bench.now).tree.label }
+    ensures { OnOk result (text.new ≡ text.old ++ (study_line (marked_study bench.now) number
+        ++ (stipulation_line (marked_study bench.now) ++ empty_line (marked_study bench.now)))) }
 {
     add_study(text, bench, number)?;
     add_stipulation_line(text, bench, root)?;
@@ -117,8 +117,8 @@ fn add_waste<'b, A: Allocator, B: Allocator>(
     root: Mark,
     time: u32,
 ) -> Result<(), AllocError>
-    requires { root ≡ (marked bench.now).tree.label }
-    ensures { OnOk result (text.new ≡ text.old ++ waste_line (marked bench.now) time) }
+    requires { root ≡ (marked_study bench.now).tree.label }
+    ensures { OnOk result (text.new ≡ text.old ++ waste_line (marked_study bench.now) time) }
 {
     add_waste_words(
         text,
@@ -151,9 +151,9 @@ fn text_of<'a, 'b, A: Allocator, B: Allocator, V: Values>(
     number: u32,
 ) -> Result<Text<'a, A>, TextFault>
     ensures text { V.source.is_honest values.old
-        → IfOk result (IsReview (marked bench.now) number) }
+        → IfOk result (IsReview (marked_study bench.now) number) }
     ensures begins { IfOk result (BeginsReview number) }
-    ensures asked { HasAsked (within (marked bench.now).start.position V.source)
+    ensures asked { HasAsked (within (marked_study bench.now).start.position V.source)
         values.old result values.new }
 {
     // (the study has at most 4,096 nodes)
@@ -181,21 +181,21 @@ pub fn write_review<'a, 'b, A: Allocator, B: Allocator, V: Values, W: Write>(
     out: &mut W,
 ) -> Result<(), ReviewFault>
     ensures ok { V.source.is_honest values.old
-        → OnOk result ((text : List ℕ) × IsReview (marked bench.now) number text
+        → OnOk result ((text : List ℕ) × IsReview (marked_study bench.now) number text
         × Appends (W.contents out.old) (W.contents out.new) text) }
     ensures plain { V.source.is_honest values.old → IsKeptRight bench.now
         → OnOk result ((text : List ℕ)
-        × IsReviewOf (plain_study (marked bench.now)) number text
+        × IsReviewOf (plain_study (marked_study bench.now)) number text
         × Appends (W.contents out.old) (W.contents out.new) text) }
     ensures begins { OnOk result ((text : List ℕ) × BeginsReview number text
         × Appends (W.contents out.old) (W.contents out.new) text) }
     ensures device { V.source.is_honest values.old → result ≡ Err ReviewFault.Device
-        → (text : List ℕ) × IsReview (marked bench.now) number text
+        → (text : List ℕ) × IsReview (marked_study bench.now) number text
         × TakesPrefix (W.contents out.old) (W.contents out.new) text }
     ensures memory { result ≡ Err ReviewFault.OutOfMemory → out.new ≡ out.old }
     ensures no_value { (fault : AProbeFault)
         → result ≡ Err (ReviewFault.Values fault) → out.new ≡ out.old }
-    ensures asked { HasReviewed (within (marked bench.now).start.position V.source)
+    ensures asked { HasReviewed (within (marked_study bench.now).start.position V.source)
         values.old result values.new }
 {
     let text = text_of(alloc, bench, values, number)?;

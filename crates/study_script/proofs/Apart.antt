@@ -9,19 +9,19 @@ use Rattle.study_script.specs.declared.document.Document.{Document as HeldDocume
 use Rattle.study_script.specs.declared.document.Document.TheVariants as held
 use Rattle.study_script.specs.declared.tables.Tables.{Tables}
 use Rattle.study_script.specs.State.{State}
-use Rattle.study_script.specs.Replies.{IsReply, IsReplyIn, begins_position, emptied, kept_apart}
+use Rattle.study_script.specs.Replies.{IsReply, IsReplyIn, begins_position, without_document, kept_apart}
 use Rattle.study_script.specs.SessionHolds.{Answered, BrokenOff}
 use Rattle.study_script.specs.Session.{Known, SessionHolds}
 
 pub answered-apart : (s : State) (line : List ℕ) (H K : State → Type 0) (old new : Option (List ℕ)) (was : Bool)
-    → ((t : State) → H t → K (emptied (was && begins_position line) t))
+    → ((t : State) → H t → K (without_document (was && begins_position line) t))
     → Answered (IsReply s line) H old new was → Answered (IsReplyIn true s line) K old new was
 answered-apart s line H K old new was f (o, reply, is, wrote, held, same) = (
   o,
   kept_apart line reply,
   (reply, is, refl),
   wrote,
-  subst (λ (b : Bool). K (emptied (b && begins_position line) reply.state)) same (f reply.state held),
+  subst (λ (b : Bool). K (without_document (b && begins_position line) reply.state)) same (f reply.state held),
   same,
 )
 
@@ -31,11 +31,12 @@ module _ {S P A : Type 0} (source_honest : P → Table → ℕ → Type 0) (sour
   pub holds-cleared : (b c : HeldDocument A) (t : Tables P A) (store : S) (s : State) (clears : Bool) → (clears ≡ true → c ≡ held.Empty)
       → (clears ≡ false → c ≡ b)
       → SessionHolds source_honest source_gives store_honest files headers faults b t store s
-      → SessionHolds source_honest source_gives store_honest files headers faults c t store (emptied clears s)
+      → SessionHolds source_honest source_gives store_honest files headers faults c t store (without_document clears s)
   holds-cleared b c t store s false f g h =
       subst (λ (x : HeldDocument A). SessionHolds source_honest source_gives store_honest files headers faults x t store s) (sym (g refl)) h
   holds-cleared b c t store s true f g h =
-      subst (λ (x : HeldDocument A). SessionHolds source_honest source_gives store_honest files headers faults x t store (emptied true s)) (sym (f refl))
+      subst (λ (x : HeldDocument A). SessionHolds source_honest source_gives store_honest files headers faults x t store (without_document true s))
+      (sym (f refl))
       (record {
         held =
             record {

@@ -11,7 +11,7 @@ use Rattle.study_marks.specs.Answers.{IsUndamaged}
 use Rattle.study_marks.specs.Edits.{PlainStudy}
 use Rattle.study_reply.specs.Names.{edit_words}
 use Rattle.study_script.specs.State.{State, is_among, Environment, quiet, no_room, unread}
-use Rattle.study_script.specs.Replies.{accepted, refused_as, holding, missing, found, IsProbingEdit, IsProbingEditWithMemory}
+use Rattle.study_script.specs.Replies.{accepted_reply, refused_as, with_study, missing, found, IsProbingEdit, IsProbingEditWithMemory}
 use Rattle.study_script.specs.SessionHolds.{HasNoDeviceFault, IsFailingTable}
 
 -- the same tables are loaded
@@ -90,5 +90,5 @@ refused_asking A s held paged asked new text edit.TagText e m out reported clean
 -- an accepted edit found all tables that it probed
 pub accepted_outside : (s : State) (held : Class → Bool) (asked : List Position) (new : PlainStudy) (text : List ℕ)
     → ((c : Class) → held c ≡ is_among s.classes c) → AllHeld held asked
-    → IsProbingEditWithMemory s quiet asked new text (accepted (holding s new) text)
+    → IsProbingEditWithMemory s quiet asked new text (accepted_reply (with_study s new) text)
 accepted_outside s held asked new text e all = found (record { each = are_held-same held (is_among s.classes) asked e all.each }) refl

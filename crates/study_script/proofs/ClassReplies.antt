@@ -27,7 +27,7 @@ use Rattle.study_reply.specs.declared.table_reply.TableReply.{TableReply}
 use Rattle.study_reply.specs.declared.table_reply.TableReply.TheVariants.{Built, Loaded, Saved, Verified}
 use Rattle.study_script.specs.State.{State, is_among, first_lacking, written_anew, IsGiven, IsOpened}
 use Rattle.study_script.specs.State.{Environment, quiet, no_room, no_room_for, unopened, cut_off, file}
-use Rattle.study_script.specs.Replies.{Reply, refused, refused_as, with_class, built, too_far, IsBuildReply}
+use Rattle.study_script.specs.Replies.{Reply, refused_reply, refused_as, with_class, built, too_far, IsBuildReply}
 use Rattle.study_script.specs.Replies.{IsLoadReply, IsNamedReply, IsTableReply, IsClassReply, IsClassReplyIn, IsOpenReply, IsLoadIn}
 use Rattle.study_script.specs.Replies.{class_parsed, needs_whole_tables, save_reply, verify_reply}
 use Rattle.study_reply.specs.Names.{words_of}
@@ -208,14 +208,14 @@ asked_whole s o word name reply e h = subst (λ b. IsClassReplyIn s o word name 
 
 -- and tables by pages only one
 pub refused_paged : (s : State) (word : TableCommand) (name : List ℕ) → true ≡ s.paged → (word ≡ Build)
-    ⊎ ((word ≡ Save) ⊎ (word ≡ Verify)) → IsClassReply s quiet word name (refused s PagedMode)
-refused_paged s word name e (inl k) = subst (λ w. IsClassReply s quiet w name (refused s PagedMode)) (sym k) (rw (← e) refl)
-refused_paged s word name e (inr (inl k)) = subst (λ w. IsClassReply s quiet w name (refused s PagedMode)) (sym k) (rw (← e) refl)
-refused_paged s word name e (inr (inr k)) = subst (λ w. IsClassReply s quiet w name (refused s PagedMode)) (sym k) (rw (← e) refl)
+    ⊎ ((word ≡ Save) ⊎ (word ≡ Verify)) → IsClassReply s quiet word name (refused_reply s PagedMode)
+refused_paged s word name e (inl k) = subst (λ w. IsClassReply s quiet w name (refused_reply s PagedMode)) (sym k) (rw (← e) refl)
+refused_paged s word name e (inr (inl k)) = subst (λ w. IsClassReply s quiet w name (refused_reply s PagedMode)) (sym k) (rw (← e) refl)
+refused_paged s word name e (inr (inr k)) = subst (λ w. IsClassReply s quiet w name (refused_reply s PagedMode)) (sym k) (rw (← e) refl)
 
 -- a word that is not the name of a class
 pub not_named : (s : State) (o : Environment) (word : TableCommand) (name : List ℕ) → class_parsed name ≡ None
-    → IsNamedReply s o word (class_parsed name) (refused s NotAClass)
+    → IsNamedReply s o word (class_parsed name) (refused_reply s NotAClass)
 not_named s o word name e = rw e refl
 
 pub named_as : (s : State) (o : Environment) (word : TableCommand) (name : List ℕ) (c : Class) (reply : Reply)

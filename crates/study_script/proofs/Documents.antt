@@ -7,13 +7,13 @@ use Rattle.study_values.specs.declared.fault.SourceFault.{SourceFault}
 use Rattle.study_table.specs.Table.{Table}
 use Rattle.study_notation.specs.declared.start.Start.{Start}
 use Rattle.study_marks.specs.Study.{plain_study}
-use Rattle.study_marks.specs.BenchState.{BenchState, marked, IsKeptRight}
+use Rattle.study_marks.specs.BenchState.{BenchState, marked_study, IsKeptRight}
 use Rattle.study_marks.specs.Edits.{PlainStudy}
 use Rattle.study_script.specs.declared.tables.Tables.{Tables}
 use Rattle.study_script.specs.declared.document.Document.{Document as HeldDocument}
 use Rattle.study_script.specs.declared.document.Document.TheVariants as held
 use Rattle.study_script.specs.State.{State, start, study}
-use Rattle.study_script.specs.Replies.{holding}
+use Rattle.study_script.specs.Replies.{with_study}
 use Rattle.study_script.specs.SessionHolds.{document_seen, Holds, tables_honest, tables_held, tables_may_fail, are_paged}
 
 module _ {P A : Type 0} where
@@ -34,8 +34,8 @@ module _ {P A : Type 0} where
 
   -- a study is set without probing a table
   pub study_held : (honest : P → Table → ℕ → Type 0) (gives : GivesOf P) (old k : BenchState) (t : Tables P A) (s : State) (new : PlainStudy)
-      → plain_study (marked k) ≡ new → IsKeptRight k → Holds honest gives (held.Study old) t s
-      → Holds honest gives (held.Study k) t (holding s new)
+      → plain_study (marked_study k) ≡ new → IsKeptRight k → Holds honest gives (held.Study old) t s
+      → Holds honest gives (held.Study k) t (with_study s new)
   study_held honest gives old k t s new e r h = record {
     document = ap study e;
     marks = r;
@@ -49,9 +49,9 @@ module _ {P A : Type 0} where
 module _ {P A : Type 0} where
   -- a study is made by probing tables
   pub study_made : (honest : P → Table → ℕ → Type 0) (gives : GivesOf P) (b : HeldDocument A) (k : BenchState) (t u : Tables P A) (s : State)
-      (new : PlainStudy) → Holds honest gives b t s → plain_study (marked k) ≡ new → IsKeptRight k → tables_honest honest u
+      (new : PlainStudy) → Holds honest gives b t s → plain_study (marked_study k) ≡ new → IsKeptRight k → tables_honest honest u
       → ((c : Class) → tables_held u c ≡ tables_held t c) → are_paged u ≡ are_paged t
-      → ((c : Class) (f : SourceFault) → tables_may_fail gives u c f → tables_may_fail gives t c f) → Holds honest gives (held.Study k) u (holding s new)
+      → ((c : Class) (f : SourceFault) → tables_may_fail gives u c f → tables_may_fail gives t c f) → Holds honest gives (held.Study k) u (with_study s new)
   study_made honest gives b k t u s new h e r v same mode fails =
       record {
         document = ap study e;

@@ -19,7 +19,7 @@ use Rattle.study_reply.specs.declared.reply.Reply.TheVariants as done
 use Rattle.study_reply.specs.declared.reply.LineRefusal.{LineRefusal}
 use Rattle.study_reply.specs.Replied.{reply_text, refused_words, answer_text}
 use Rattle.study_reply.specs.TableReply.{table_text}
-use Rattle.study_reply.specs.Words.{reply_line, ends_line, list_text, moves_listed, solve_text, win_text, side_word, goal_words, raised}
+use Rattle.study_reply.specs.Words.{reply_line, ends_line, list_text, moves_listed, solve_text, win_text, side_word, goal_words, path_after_move_up}
 use Rattle.study_reply.proofs.LineEnds.{ends-behind}
 use Rattle.study_script.proofs.Behind.{behind2, behind4, behind6}
 use Rattle.study_values.specs.Number.{cells_of}
@@ -71,7 +71,7 @@ module _ {A : Type 0} where
   reply-done (done.Inserted steps place san) = done-as (codes "insert ") _ refl refl (behind2 (codes "insert ") (path_text (steps ++ place ∷ []))
       (reply_line (codes " ") san.bytes) (line-ends (codes " ") san.bytes))
   reply-done (done.Deleted steps) = done-as (codes "delete ") _ refl refl (line-ends (codes "delete ") (path_text steps))
-  reply-done (done.Promoted steps) = done-as (codes "promote ") _ refl refl (line-ends (codes "promote ") (path_text (raised steps)))
+  reply-done (done.Promoted steps) = done-as (codes "promote ") _ refl refl (line-ends (codes "promote ") (path_text (path_after_move_up steps)))
   reply-done (done.Tagged name) = done-as (codes "tag ") _ refl refl (line-ends (codes "tag ") (tag_name name))
   reply-done (done.Mark steps mark) = done-as (codes "mark ") _ refl refl (behind6 (codes "mark ") (path_text steps) (32 ∷ []) (value_words mark.value)
       (32 ∷ []) (on_move_text mark.on_move) (reply_line (codes " faults ") (decimal mark.faults)) (line-ends (codes " faults ") (decimal mark.faults)))

@@ -11,7 +11,7 @@ use Rattle.study_command.specs.declared.command.TableCommand.TheVariants.{Build}
 use Rattle.study_command.specs.declared.command.SyntaxFault.TheVariants.{BadByte, UnknownCommand, BadArguments, UnknownStipulation, UnknownTag}
 use Rattle.study_command.specs.Lines.{script_lines}
 use Rattle.study_command.specs.Paths.{place_parsed, is_path, is_path_word, steps_of}
-use Rattle.study_command.specs.Parser.{Asks, fen_command, table_command, stipulate, insert, tag, solve, trimmed, word_asked, word_of, command_of}
+use Rattle.study_command.specs.Parser.{Asks, fen_command, table_command, stipulate, insert, tag, solve, trim, word_asked, word_of, command_of}
 
 -- ---- lines
 
@@ -48,7 +48,7 @@ unfolding command_of words word_of
 unknown = refl
 
 of_position : ◌≡◌ {A = Asks} (command_of (codes "position  k7 ")) (Ok (Some (fen_command Position (codes "k7"))))
-unfolding command_of words behind_word word_of word_asked trimmed
+unfolding command_of words behind_word word_of word_asked trim
 of_position = refl
 
 -- a class is checked after the mode
@@ -94,13 +94,13 @@ no_goal = refl
 
 -- a name is checked before its text
 no_tag : ◌≡◌ {A = Asks} (command_of (codes "tag Foo")) (Err UnknownTag)
-unfolding command_of words behind_word word_of word_asked trimmed
+unfolding command_of words behind_word word_of word_asked trim
 no_tag = refl
 
 no_text : ◌≡◌ {A = Asks} (command_of (codes "tag Event")) (Err BadArguments)
-unfolding command_of words behind_word word_of word_asked trimmed
+unfolding command_of words behind_word word_of word_asked trim
 no_text = refl
 
 of_tag : ◌≡◌ {A = Asks} (command_of (codes "tag Event  a b ")) (Ok (Some (tag Event (codes "a b"))))
-unfolding command_of words behind_word word_of word_asked trimmed
+unfolding command_of words behind_word word_of word_asked trim
 of_tag = refl

@@ -4,7 +4,7 @@ use Rattle.std.specs.Prelude.{IfSome, IfNone}
 use Rattle.study_board.specs.Position.{Position}
 use Rattle.study_moves.specs.Game.{MatesWithin}
 use Rattle.study_marks.specs.Study.{plain_study}
-use Rattle.study_marks.specs.BenchState.{BenchState, marked, IsKeptRight}
+use Rattle.study_marks.specs.BenchState.{BenchState, marked_study, IsKeptRight}
 use Rattle.study_notation.specs.declared.start.Start.{Start}
 use Rattle.study_marks.specs.Edits.{PlainStudy}
 use Rattle.std.specs.Option.{option_map}
@@ -20,7 +20,7 @@ use Rattle.study_reply.specs.Words.{mark_text}
 use Rattle.study_script.specs.declared.document.Document.{Document as HeldDocument}
 use Rattle.study_script.specs.declared.document.Document.TheVariants as held
 use Rattle.study_script.specs.State.{State, empty, start, study}
-use Rattle.study_script.specs.Replies.{accepted, refused, holding, marked_reply, IsSolution}
+use Rattle.study_script.specs.Replies.{accepted_reply, refused_reply, with_study, marked_reply, IsSolution}
 use Rattle.study_script.specs.SessionHolds.{document_seen, Holds, tables_honest, tables_held, tables_may_fail, are_paged, HoldsDocument}
 use Rattle.study_script.specs.SessionHolds.{HoldsFrom, HoldsBench, HoldsBenchFrom}
 
@@ -35,7 +35,7 @@ module _ {A : Type 0} where
   pub start_seen : (b : HeldDocument A) (from : Start) (s : State) → b ≡ held.Start from → HoldsDocument b s → start from ≡ s.document
   start_seen b from s e h = ap document_seen (sym e) ∙ h.document
 
-  pub study_seen : (b : HeldDocument A) (k : BenchState) (s : State) → b ≡ held.Study k → HoldsDocument b s → study (plain_study (marked k)) ≡ s.document
+  pub study_seen : (b : HeldDocument A) (k : BenchState) (s : State) → b ≡ held.Study k → HoldsDocument b s → study (plain_study (marked_study k)) ≡ s.document
   study_seen b k s e h = ap document_seen (sym e) ∙ h.document
 
   -- a document that is a study is kept as a study
@@ -56,7 +56,7 @@ pub bench_kept : (k : BenchState) (s : State) → HoldsBench k s → HoldsBenchF
 bench_kept k s h = record { holds = h; classes = refl; paged = refl; shelf = refl }
 
 -- an edited study is kept after an accepted edit
-pub bench_edited : (k : BenchState) (s : State) (new : PlainStudy) → plain_study (marked k) ≡ new → IsKeptRight k → HoldsBenchFrom s k (holding s new)
+pub bench_edited : (k : BenchState) (s : State) (new : PlainStudy) → plain_study (marked_study k) ≡ new → IsKeptRight k → HoldsBenchFrom s k (with_study s new)
 bench_edited k s new e r = record { holds = record { document = ap study e; marks = r }; classes = refl; paged = refl; shelf = refl }
 
 -- an unchanged study is kept after a refused edit
@@ -73,22 +73,22 @@ solution_of p count (Some n) forced least within none = ((forced, least), within
 -- `mark` reports the mark of the node
 pub mark_reported : (s : State) (steps : List ℕ) (spot : Option (Spot Mark)) (m : Mark)
     → Some m ≡ option_map (λ (x : Spot Mark). x.label) spot
-    → accepted s (mark_text steps m) ≡ marked_reply s steps spot
+    → accepted_reply s (mark_text steps m) ≡ marked_reply s steps spot
 mark_reported s steps None m e = absurd cc
-mark_reported s steps (Some x) m e = let same : m ≡ x.label = cc in ap (λ (l : Mark). accepted s (mark_text steps l)) same
+mark_reported s steps (Some x) m e = let same : m ≡ x.label = cc in ap (λ (l : Mark). accepted_reply s (mark_text steps l)) same
 
 pub mark_missing : (s : State) (steps : List ℕ) (spot : Option (Spot Mark))
     → ◌≡◌ {A = Option Mark} None (option_map (λ (x : Spot Mark). x.label) spot)
-    → refused s NoSuchNode ≡ marked_reply s steps spot
+    → refused_reply s NoSuchNode ≡ marked_reply s steps spot
 mark_missing s steps None e = refl
 mark_missing s steps (Some x) e = absurd cc
 
 module _ {P A : Type 0} where
   -- a study that was edited, and tables that were probed
   pub study_edited : (honest : P → Table → ℕ → Type 0) (gives : GivesOf P) (old k : BenchState) (t u : Tables P A) (s : State) (new : PlainStudy)
-      → Holds honest gives (held.Study old) t s → plain_study (marked k) ≡ new → IsKeptRight k → tables_honest honest u
+      → Holds honest gives (held.Study old) t s → plain_study (marked_study k) ≡ new → IsKeptRight k → tables_honest honest u
       → ((c : Class) → tables_held u c ≡ tables_held t c) → are_paged u ≡ are_paged t
-      → ((c : Class) (f : SourceFault) → tables_may_fail gives u c f → tables_may_fail gives t c f) → Holds honest gives (held.Study k) u (holding s new)
+      → ((c : Class) (f : SourceFault) → tables_may_fail gives u c f → tables_may_fail gives t c f) → Holds honest gives (held.Study k) u (with_study s new)
   study_edited honest gives old k t u s new h e r v same mode fails =
       record {
         document = ap study e;
@@ -107,7 +107,7 @@ module _ {P A : Type 0} where
       → ((c : Class) (f : SourceFault) → tables_may_fail gives u c f → tables_may_fail gives t c f) → Holds honest gives (held.Study k) u s
   study_same honest gives old k t u s h e v same mode fails =
       record {
-        document = subst (λ (x : BenchState). study (plain_study (marked x)) ≡ s.document) (sym e) h.document;
+        document = subst (λ (x : BenchState). study (plain_study (marked_study x)) ≡ s.document) (sym e) h.document;
         marks = subst IsKeptRight (sym e) h.marks;
         values = v;
         classes = λ c. same c ∙ h.classes c;

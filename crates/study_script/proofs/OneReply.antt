@@ -52,7 +52,7 @@ use Rattle.std.specs.Prelude.{◌==◌, ◌%◌, ◌&&◌, codes}
 use Rattle.study_notation.specs.FenSpelling.{fen_text}
 use Rattle.study_material.specs.Class.{IsOf}
 use Rattle.study_reply.specs.Words.{reply_line, built_text, solve_text}
-use Rattle.study_script.specs.Replies.{Reply, Answer, accepted, refused, with_class, IsValued, missing, found}
+use Rattle.study_script.specs.Replies.{Reply, Answer, accepted_reply, refused_reply, with_class, IsValued, missing, found}
 use Rattle.study_script.specs.Replies.{IsProbingEdit, IsProbingEditWithMemory, IsPositionReply, IsShiftReply, IsStartReply, IsStipulateReply}
 use Rattle.study_script.specs.Replies.{IsInserted, IsMoveReply, IsMoveReplyAt, IsInsertReply, start_found}
 use Rattle.study_script.specs.Replies.{IsSolution, IsSolveReply, marked_reply, Annotated, IsStudyReply, IsStudyReplyAt}
@@ -82,7 +82,7 @@ missing_once held (p ∷ ps) c d (inr m) (inr n) = missing_once held ps c d m.1 
 valued_once : (s : State) (asked : List Position) (new : PlainStudy) (text : List ℕ) (a b : Reply)
     → IsValued s asked new text a → IsValued s asked new text b → a ≡ b
 valued_once s asked new text a b (missing c m e) (missing d n f) =
-    e ∙ ap (λ (x : Class). refused s (NoTable x)) (missing_once (is_among s.classes) asked c d m n) ∙ sym f
+    e ∙ ap (λ (x : Class). refused_reply s (NoTable x)) (missing_once (is_among s.classes) asked c d m n) ∙ sym f
 valued_once s asked new text a b (missing c m e) (found all f) = absurd (missing_held (is_among s.classes) asked c m all.each)
 valued_once s asked new text a b (found all e) (missing d n f) = absurd (missing_held (is_among s.classes) asked d n all.each)
 valued_once s asked new text a b (found all e) (found more f) = e ∙ sym f
@@ -223,7 +223,7 @@ solution_once p count (Some n) (Some m) x y = ap (λ (k : ℕ). Some k) (won_onc
 
 solve_once : (s : State) (count : ℕ) (found : Result Start Refusal) (a b : Reply) → IsSolveReply s count found a → IsSolveReply s count found b → a ≡ b
 solve_once s count (Ok at) a b (n, x, e) (m, y, f) =
-    e ∙ ap (λ (plies : Option ℕ). accepted s (solve_text plies)) (solution_once at.position count n m x y) ∙ sym f
+    e ∙ ap (λ (plies : Option ℕ). accepted_reply s (solve_text plies)) (solution_once at.position count n m x y) ∙ sym f
 solve_once s count (Err refusal) a b e f = e ∙ sym f
 
 module _ (one_annotation : AnnotationsAreUnique) where
@@ -255,15 +255,15 @@ module _ (one_annotation : AnnotationsAreUnique) where
   pgn_once : (s : State) (o : Environment) (at : Document) (a b : Reply) → IsPgnReply s o at a → IsPgnReply s o at b → a ≡ b
   pgn_once s o empty a b h k = h ∙ sym k
   pgn_once s o (start from) a b h k = h ∙ sym k
-  pgn_once s quiet (study old) a b h k = annotated_once old (λ x. accepted s (pgn_text x)) a b h k
-  pgn_once s no_path (study old) a b h k = annotated_once old (λ x. accepted s (pgn_text x)) a b h k
+  pgn_once s quiet (study old) a b h k = annotated_once old (λ x. accepted_reply s (pgn_text x)) a b h k
+  pgn_once s no_path (study old) a b h k = annotated_once old (λ x. accepted_reply s (pgn_text x)) a b h k
   pgn_once s no_room (study old) a b h k = h ∙ sym k
-  pgn_once s (no_room_for bytes) (study old) a b h k = annotated_once old (λ x. accepted s (pgn_text x)) a b h k
-  pgn_once s (unread fault) (study old) a b h k = annotated_once old (λ x. accepted s (pgn_text x)) a b h k
-  pgn_once s (unopened fault) (study old) a b h k = annotated_once old (λ x. accepted s (pgn_text x)) a b h k
-  pgn_once s cut_off (study old) a b h k = annotated_once old (λ x. accepted s (pgn_text x)) a b h k
-  pgn_once s (file bytes) (study old) a b h k = annotated_once old (λ x. accepted s (pgn_text x)) a b h k
-  pgn_once s (header reported) (study old) a b h k = annotated_once old (λ x. accepted s (pgn_text x)) a b h k
+  pgn_once s (no_room_for bytes) (study old) a b h k = annotated_once old (λ x. accepted_reply s (pgn_text x)) a b h k
+  pgn_once s (unread fault) (study old) a b h k = annotated_once old (λ x. accepted_reply s (pgn_text x)) a b h k
+  pgn_once s (unopened fault) (study old) a b h k = annotated_once old (λ x. accepted_reply s (pgn_text x)) a b h k
+  pgn_once s cut_off (study old) a b h k = annotated_once old (λ x. accepted_reply s (pgn_text x)) a b h k
+  pgn_once s (file bytes) (study old) a b h k = annotated_once old (λ x. accepted_reply s (pgn_text x)) a b h k
+  pgn_once s (header reported) (study old) a b h k = annotated_once old (λ x. accepted_reply s (pgn_text x)) a b h k
 
 -- ---- tables
 
@@ -324,7 +324,7 @@ module _ (one_value : EachHasAtMostOneValue) where
 
   built_once : (s : State) (c : Class) (a b : Reply) → IsBuilt s c a → IsBuilt s c b → a ≡ b
   built_once s c a b (built t x e whole right g h) (built u y f complete good i k) =
-      h ∙ ap (λ (w : Option ℕ). accepted (with_class s c) (built_text c w))
+      h ∙ ap (λ (w : Option ℕ). accepted_reply (with_class s c) (built_text c w))
       (greatest_once t.cells u.cells (reported_again c t u e f whole complete right good)
       (reported_again c u t f e complete whole good right) x y g i) ∙ sym k
   built_once s c a b (built t x e whole right g h) (too_far far k) = absurd (not_far c t e whole right far)

@@ -20,7 +20,7 @@ use Rattle.study_script.specs.declared.store.StoreFault.{StoreFault}
 use Rattle.study_reply.specs.declared.refusal.Refusal.TheVariants.{AlreadyHeld}
 use Rattle.study_reply.specs.declared.table_reply.TableReply.TheVariants.{Loaded}
 use Rattle.study_script.specs.State.{State, is_among, IsGiven, IsOpened, IsGivenAs, quiet, no_room_for, unopened, header}
-use Rattle.study_script.specs.Replies.{refused, with_class, opened, IsOpenReply}
+use Rattle.study_script.specs.Replies.{refused_reply, with_class, opened_reply, IsOpenReply}
 use Rattle.study_script.specs.StoreRefusals.{refusal_of_store, refusal_of_paged}
 use Rattle.study_script.specs.Stores.{IsRightSource}
 use Rattle.study_script.specs.Decided.{Decided, HoldsPaged}
@@ -72,7 +72,7 @@ module _ {P : Type 0} (honest : P → Table → ℕ → Type 0) (gives : GivesOf
   open_done v reported seen holds e is_reported none = (
     header reported,
     with_class s c,
-    rw (among false e) (is_reported, ap (opened s c) (sym none)),
+    rw (among false e) (is_reported, ap (opened_reply s c) (sym none)),
     (holds, refl, seen),
   )
 
@@ -94,7 +94,7 @@ module _ {P : Type 0} (honest : P → Table → ℕ → Type 0) (gives : GivesOf
       no_room (Ok bytes) given none is = (
         no_room_for bytes,
         s,
-        rw (among false e) (given, none, ap (λ (f : PagedFault). refused s (refusal_of_paged f)) is),
+        rw (among false e) (given, none, ap (λ (f : PagedFault). refused_reply s (refusal_of_paged f)) is),
         (kept, refl, seen),
       )
       no_room (Err f) given none is = absurd (no_fault_of c f none)
@@ -110,7 +110,7 @@ module _ {P : Type 0} (honest : P → Table → ℕ → Type 0) (gives : GivesOf
         s,
         rw (among false e) (
           is_reported,
-          sym (ap (opened s c) is ∙ ap (λ (x : PagedFault). refused s (refusal_of_paged x)) (same_fault fault f k)),
+          sym (ap (opened_reply s c) is ∙ ap (λ (x : PagedFault). refused_reply s (refusal_of_paged x)) (same_fault fault f k)),
         ),
         (kept, refl, seen),
       )

@@ -19,7 +19,7 @@ use Rattle.study_reply.specs.declared.refusal.Refusal.{Refusal}
 use Rattle.study_reply.specs.declared.refusal.Refusal.TheVariants.{NoSuchNode, OutOfMemory}
 use Rattle.study_script.specs.State.{State, start, study, quiet, no_path}
 use Rattle.study_reply.specs.Words.{insert_text}
-use Rattle.study_script.specs.Replies.{refused, inserted_text, named, start_found, IsStudyReplyAt, IsInsertReply}
+use Rattle.study_script.specs.Replies.{refused_reply, inserted_text, named_start, start_found, IsStudyReplyAt, IsInsertReply}
 
 module _ {L M : Type 0} where
   has_node-mapped : (f : L → M) (t : Forest L) (ks : List ℕ) → has_node (mapped f t) ks ≡ has_node t ks
@@ -89,14 +89,14 @@ module _ {L : Type 0} where
       ∙ ap (λ (x : ℕ). insert_text (ks ++ x ∷ []) (move_text p m)) (b ∙ sym (children_at-mapped (λ _. tt) s.tree.below ks))
       ∙ ap (λ (x : Position). insert_text (ks ++ children_at (plain_study s).tree.below ks ∷ []) (move_text x m)) (c ∙ sym (position_at-plain s ks))
 
-named_ok : (found : Option Start) → ok_or found NoSuchNode ≡ named found
+named_ok : (found : Option Start) → ok_or found NoSuchNode ≡ named_start found
 named_ok None = refl
 named_ok (Some st) = refl
 
 -- the start at a node of the study
 pub node_found : {L : Type 0} (s : Study L) (ks : List ℕ) (found : Option Start) (r : Result Start Refusal)
-    → found ≡ start_at s ks → r ≡ ok_or found NoSuchNode → r ≡ named (start_at (plain_study s) ks)
-node_found s ks found r e is = is ∙ named_ok found ∙ ap named (e ∙ sym (start_at-plain s ks))
+    → found ≡ start_at s ks → r ≡ ok_or found NoSuchNode → r ≡ named_start (start_at (plain_study s) ks)
+node_found s ks found r e is = is ∙ named_ok found ∙ ap named_start (e ∙ sym (start_at-plain s ks))
 
 -- without a study the root is the only node
 pub root_found : (from st : Start) (ks : List ℕ) → length ks ≡ 0 → st ≡ from → ◌≡◌ {A = Result Start Refusal} (Ok st) (start_found quiet (start from) ks)
@@ -118,11 +118,11 @@ no_path_study old [] some = absurd (some refl)
 no_path_study old (k ∷ ks) some = refl
 
 pub no_path_word : (s : State) (word : NodeCommand) (old : PlainStudy) (ks : List ℕ) → (ks ≡ [] → ⊥)
-    → IsStudyReplyAt s no_path word (study old) ks (refused s OutOfMemory)
+    → IsStudyReplyAt s no_path word (study old) ks (refused_reply s OutOfMemory)
 no_path_word s word old [] some = absurd (some refl)
 no_path_word s word old (k ∷ ks) some = refl
 
 pub no_path_insert : (s : State) (old : PlainStudy) (ks san : List ℕ) → (ks ≡ [] → ⊥)
-    → IsInsertReply s no_path (study old) ks san (refused s OutOfMemory)
+    → IsInsertReply s no_path (study old) ks san (refused_reply s OutOfMemory)
 no_path_insert s old [] san some = absurd (some refl)
 no_path_insert s old (k ∷ ks) san some = refl

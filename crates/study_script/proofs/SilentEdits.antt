@@ -8,7 +8,7 @@ use Rattle.study_marks.specs.declared.refusal.Refusal.{Refusal as EditRefusal}
 use Rattle.study_marks.specs.Edits.{PlainStudy, there, is_tag_text, delete_refusal, promote_refusal, tag_refusal}
 use Rattle.study_reply.specs.Names.{edit_words}
 use Rattle.study_script.specs.State.{State}
-use Rattle.study_script.specs.Replies.{accepted, refused_as, holding, edit_reply}
+use Rattle.study_script.specs.Replies.{accepted_reply, refused_as, with_study, edit_reply}
 
 -- two reasons have the same words
 abbrev pub SameWords : {A B : Type 0} → Option (EditRefusal A) → Option (EditRefusal B) → Type 0
@@ -51,7 +51,7 @@ module _ {T A : Type 0} where
 
   pub edit_accepted : (s : State) (x : Option (EditRefusal A)) (y : Option (EditRefusal (Unit {0}))) (new : PlainStudy)
       (text : List ℕ) → SameWords x y → (r : Result T (EditRefusal A)) (v : T)
-      → MatchOption x (IsOk r) (λ f. r ≡ Err f) → r ≡ Ok v → accepted (holding s new) text ≡ edit_reply s y new text
+      → MatchOption x (IsOk r) (λ f. r ≡ Err f) → r ≡ Ok v → accepted_reply (with_study s new) text ≡ edit_reply s y new text
   edit_accepted s x y new text same r v m is = ap (λ z. edit_reply s z new text) (sym (accepted_same x y same r v m is))
 
 -- ---- the reasons

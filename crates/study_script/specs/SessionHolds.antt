@@ -14,7 +14,7 @@ use Rattle.study_prober.specs.PagedTables.{SourcesAreRight, IsPagedAnswer, MayFa
 use Rattle.study_marks.specs.declared.refusal.Refusal.{Refusal as EditRefusal}
 use Rattle.study_marks.specs.declared.refusal.Refusal.TheVariants as edit
 use Rattle.study_marks.specs.Study.{plain_study}
-use Rattle.study_marks.specs.BenchState.{BenchState, marked, IsKeptRight}
+use Rattle.study_marks.specs.BenchState.{BenchState, marked_study, IsKeptRight}
 use Rattle.study_script.specs.declared.document.Document.{Document as HeldDocument}
 use Rattle.study_script.specs.declared.document.Document.TheVariants as held
 use Rattle.study_script.specs.declared.tables.Tables.{Tables}
@@ -28,7 +28,7 @@ module _ {A : Type 0} where
   abbrev pub document_seen : HeldDocument A → Document
   document_seen held.Empty = empty
   document_seen (held.Start s) = start s
-  document_seen (held.Study b) = study (plain_study (marked b))
+  document_seen (held.Study b) = study (plain_study (marked_study b))
 
   -- the marks are those of annotating from scratch
   abbrev pub IsMarked : HeldDocument A → Type 0
@@ -103,7 +103,7 @@ module _ {A : Type 0} where
 
 -- `Holds` for the study
 pub record HoldsBench (b : BenchState) (s : State) : Type 0 where
-  pub document : study (plain_study (marked b)) ≡ s.document
+  pub document : study (plain_study (marked_study b)) ≡ s.document
   pub marks : IsKeptRight b
 
 pub record HoldsBenchFrom (old : State) (b : BenchState) (s : State) : Type 0 where

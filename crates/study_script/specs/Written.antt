@@ -20,8 +20,8 @@ pub record Piece : Type 0 where
   pub text : List ℕ
   pub refused : Bool
 
-abbrev pub silent : Piece
-silent = record { text = []; refused = false }
+abbrev pub silent_piece : Piece
+silent_piece = record { text = []; refused = false }
 
 -- `error NAME`
 abbrev pub error_of : List ℕ → Piece
@@ -40,7 +40,7 @@ IsDone text = (front : List ℕ) × (list_any (bytes_eq front) fronts ≡ true) 
 
 -- nothing for a line without a command, the fault of its form for a line with one, and for a command its reply or an error
 abbrev pub IsPieceWhere : Asks → Piece → Type 0
-IsPieceWhere (Ok None) piece = piece ≡ silent
+IsPieceWhere (Ok None) piece = piece ≡ silent_piece
 IsPieceWhere (Ok (Some asked)) piece = ((words : List ℕ) × (piece ≡ error_of words)) ⊎ (IsDone piece.text × (piece.refused ≡ false))
 IsPieceWhere (Err fault) piece = piece ≡ error_of (words_of (Form fault))
 

@@ -4,7 +4,7 @@ ghost use Rattle.study_moves.specs.Rules.{is_legal};
 ghost use Rattle.study_notation.specs.Matching.{move_of};
 ghost use Rattle.study_tree.specs.Tree.{has_spot};
 ghost use Rattle.study_marks.specs.Study.{plain_study, position_at};
-ghost use Rattle.study_marks.specs.BenchState.{marked};
+ghost use Rattle.study_marks.specs.BenchState.{marked_study};
 ghost use Rattle.study_command.specs.Paths.{steps_of, is_path_word};
 ghost use Rattle.study_script.specs.State.{State, study};
 ghost use Rattle.study_script.specs.Replies.{IsInsertReply, IsMoveReply, IsMoveReplyAt, IsStudyReply, IsStudyReplyAt, tag_reply};
@@ -53,7 +53,7 @@ fn node_command_on<'a, A: Allocator>(
     requires { is_path_word path.now ≡ true }
     ensures { (s : State) → HoldsBench bench.old s
         → Executed (λ o.
-        IsStudyReplyAt s o word (study (plain_study (marked bench.old))) (steps_of path.now))
+        IsStudyReplyAt s o word (study (plain_study (marked_study bench.old))) (steps_of path.now))
         (HoldsBenchFrom s bench.new) result }
 {
     match read_path(alloc, path) {
@@ -68,7 +68,7 @@ fn node_command_at<'a, A: Allocator>(
     path: Path<'a, A>,
 ) -> Answer<'a, A>
     ensures { (s : State) → HoldsBench bench.old s
-        → Executed (λ o. IsStudyReply s word (plain_study (marked bench.old)) path.entry)
+        → Executed (λ o. IsStudyReply s word (plain_study (marked_study bench.old)) path.entry)
         (HoldsBenchFrom s bench.new) result }
 {
     match word {
@@ -81,7 +81,7 @@ fn node_command_at<'a, A: Allocator>(
 fn delete<'a, A: Allocator>(bench: &mut Bench<'a, A>, path: Path<'a, A>) -> Answer<'a, A>
     ensures { (s : State) → HoldsBench bench.old s
         → Executed (λ o.
-        IsStudyReply s NodeCommand.Delete (plain_study (marked bench.old)) path.entry)
+        IsStudyReply s NodeCommand.Delete (plain_study (marked_study bench.old)) path.entry)
         (HoldsBenchFrom s bench.new) result }
 {
     match bench.delete(&path) {
@@ -93,7 +93,7 @@ fn delete<'a, A: Allocator>(bench: &mut Bench<'a, A>, path: Path<'a, A>) -> Answ
 fn promote<'a, A: Allocator>(bench: &mut Bench<'a, A>, path: Path<'a, A>) -> Answer<'a, A>
     ensures { (s : State) → HoldsBench bench.old s
         → Executed (λ o.
-        IsStudyReply s NodeCommand.Promote (plain_study (marked bench.old)) path.entry)
+        IsStudyReply s NodeCommand.Promote (plain_study (marked_study bench.old)) path.entry)
         (HoldsBenchFrom s bench.new) result }
 {
     match bench.promote(&path) {
@@ -126,7 +126,7 @@ fn set_study_tag<'a, A: Allocator>(
 ) -> Answer<'a, A>
     ensures { (s : State) → HoldsBench bench.old s
         → Executed (λ o reply.
-        reply ≡ tag_reply s (study (plain_study (marked bench.old))) name text.now)
+        reply ≡ tag_reply s (study (plain_study (marked_study bench.old))) name text.now)
         (HoldsBenchFrom s bench.new) result }
 {
     match bench.set_tag(name, text) {
@@ -165,7 +165,7 @@ fn insert_in_study<'a, P: PageSource, A: Allocator>(
     requires { is_path_word path.now ≡ true }
     ensures { (s : State) → Holds P.honest P.gives (held.Study bench.old) tables.old s
         → Executed (λ o.
-        IsInsertReply s o (study (plain_study (marked bench.old))) (steps_of path.now) san.now)
+        IsInsertReply s o (study (plain_study (marked_study bench.old))) (steps_of path.now) san.now)
         (Holds P.honest P.gives (held.Study bench.new) tables.new) result }
 {
     match read_path(alloc, path) {
@@ -181,8 +181,8 @@ fn insert_at<'a, P: PageSource, A: Allocator>(
     san: &str,
 ) -> Answer<'a, A>
     ensures { (s : State) → Holds P.honest P.gives (held.Study bench.old) tables.old s
-        → Executed (λ o. IsMoveReplyAt s o (plain_study (marked bench.old)) path.entry san.now
-        (has_spot (plain_study (marked bench.old)).tree path.entry))
+        → Executed (λ o. IsMoveReplyAt s o (plain_study (marked_study bench.old)) path.entry san.now
+        (has_spot (plain_study (marked_study bench.old)).tree path.entry))
         (Holds P.honest P.gives (held.Study bench.new) tables.new) result }
 {
     match bench.start_at(&path) {
@@ -198,10 +198,10 @@ fn insert_san<'a, P: PageSource, A: Allocator>(
     start: &Start,
     san: &str,
 ) -> Answer<'a, A>
-    requires at { start.now.position ≡ position_at (marked bench.old) path }
+    requires at { start.now.position ≡ position_at (marked_study bench.old) path }
     ensures { (s : State) → Holds P.honest P.gives (held.Study bench.old) tables.old s
         → Executed (λ o.
-        IsMoveReply s o (plain_study (marked bench.old)) path.entry
+        IsMoveReply s o (plain_study (marked_study bench.old)) path.entry
         (move_of start.now.position san.now))
         (Holds P.honest P.gives (held.Study bench.new) tables.new) result }
 {
@@ -219,9 +219,10 @@ fn insert_move<'a, P: PageSource, A: Allocator>(
     by: &Move,
 ) -> Answer<'a, A>
     requires legal { is_legal start.now.position by.now ≡ true }
-    requires at { start.now.position ≡ position_at (marked bench.old) path }
+    requires at { start.now.position ≡ position_at (marked_study bench.old) path }
     ensures { (s : State) → Holds P.honest P.gives (held.Study bench.old) tables.old s
-        → Executed (λ o. IsMoveReply s o (plain_study (marked bench.old)) path.entry (Ok by.now))
+        → Executed (λ o. IsMoveReply s o (plain_study (marked_study bench.old)) path.entry
+        (Ok by.now))
         (Holds P.honest P.gives (held.Study bench.new) tables.new) result }
 {
     match table_edits::insert_move(bench, &path, *by, tables) {

@@ -7,7 +7,7 @@ ghost use Rattle.study_script.specs.Replies.{IsStartReply, IsPositionReply, IsSh
 ghost use Rattle.study_notation.specs.Fen.{start_of};
 ghost use Rattle.study_script.specs.declared.document.Document.TheVariants as held;
 ghost use Rattle.study_marks.specs.Study.{plain_study};
-ghost use Rattle.study_marks.specs.BenchState.{marked, IsKeptRight};
+ghost use Rattle.study_marks.specs.BenchState.{marked_study, IsKeptRight};
 ghost use Rattle.study_script.specs.SessionHolds.{Holds};
 ghost use Rattle.study_script.specs.Executed.{Executed};
 
@@ -77,7 +77,7 @@ fn shift_study<'a, P: PageSource, A: Allocator>(
     ensures { (s : State) → Holds P.honest P.gives (held.Study bench.old) tables.old s
         → Executed (λ o.
         IsStartReply s o FenCommand.Shift
-        (study (plain_study (marked bench.old))) (start_of fen.now))
+        (study (plain_study (marked_study bench.old))) (start_of fen.now))
         (Holds P.honest P.gives (held.Study bench.new) tables.new) result }
 {
     match read_fen(fen) {
@@ -118,7 +118,7 @@ fn reposition<'a, P: PageSource, A: Allocator>(
     start: Start,
 ) -> Answer<'a, A>
     ensures { (s : State) → Holds P.honest P.gives (held.Study bench.old) tables.old s
-        → Executed (λ o. IsPositionReply s o (study (plain_study (marked bench.old))) start)
+        → Executed (λ o. IsPositionReply s o (study (plain_study (marked_study bench.old))) start)
         (Holds P.honest P.gives (held.Study bench.new) tables.new) result }
 {
     match table_edits::set_position(bench, start.copied(), tables) {
@@ -133,8 +133,8 @@ fn shift<'a, P: PageSource, A: Allocator>(
     start: Start,
 ) -> Answer<'a, A>
     ensures { (s : State) → Holds P.honest P.gives (held.Study bench.old) tables.old s
-        → Executed (λ o. IsShiftReply s o (plain_study (marked bench.old)) start
-        (shift_refusal (plain_study (marked bench.old)) start))
+        → Executed (λ o. IsShiftReply s o (plain_study (marked_study bench.old)) start
+        (shift_refusal (plain_study (marked_study bench.old)) start))
         (Holds P.honest P.gives (held.Study bench.new) tables.new) result }
 {
     match table_edits::shift_position(bench, start.copied(), tables) {
@@ -168,8 +168,8 @@ fn restipulate<'a, A: Allocator>(
     bench: &mut Bench<'a, A>,
     stipulation: &Stipulation,
 ) -> Reply<'a, A>
-    ensures edited { plain_study (marked bench.new)
-        ≡ with_stipulation (plain_study (marked bench.old)) stipulation.now }
+    ensures edited { plain_study (marked_study bench.new)
+        ≡ with_stipulation (plain_study (marked_study bench.old)) stipulation.now }
     ensures right { IsKeptRight bench.old → IsKeptRight bench.new }
     ensures reply { result ≡ reply.Stipulated stipulation.now }
 {

@@ -1,7 +1,7 @@
 //! Queries of a node or of the study, which do not change it: `moves`, `fen`, `solve`, `mark` and `pgn`.
 ghost use Rattle.std.specs.Prelude.{◌≡◌, true};
 ghost use Rattle.study_marks.specs.Study.{plain_study};
-ghost use Rattle.study_marks.specs.BenchState.{marked};
+ghost use Rattle.study_marks.specs.BenchState.{marked_study};
 ghost use Rattle.study_command.specs.Paths.{steps_of, is_path_word};
 ghost use Rattle.study_script.specs.State.{State, Environment, study, start as begun};
 ghost use Rattle.study_script.specs.Replies.{IsNodeReply, IsSolveReply, IsPgnReply, IsMarkReply};
@@ -123,7 +123,8 @@ fn node_start<'a, A: Allocator>(
 ) -> Result<Start, Refusal>
     requires { is_path_word path.now ≡ true }
     ensures { (o : Environment)
-        × (result ≡ start_found o (study (plain_study (marked bench.now))) (steps_of path.now)) }
+        × (result ≡ start_found o (study (plain_study (marked_study bench.now)))
+        (steps_of path.now)) }
 {
     match read_path(alloc, path) {
         Ok(path) => bench.start_at(&path).ok_or(Refusal::NoSuchNode),
@@ -134,7 +135,7 @@ fn node_start<'a, A: Allocator>(
 /// `mark`.
 pub fn mark_at<'a, A: Allocator>(bench: &Bench<'a, A>, path: Path<'a, A>) -> Answer<'a, A>
     ensures { (s : State) → HoldsBench bench.now s
-        → Executed (λ o. IsMarkReply s (plain_study (marked bench.now)) path.entry)
+        → Executed (λ o. IsMarkReply s (plain_study (marked_study bench.now)) path.entry)
         (HoldsBenchFrom s bench.now) result }
 {
     match bench.mark(&path) {
@@ -157,7 +158,7 @@ pub fn pgn<'a, A: Allocator>(alloc: &'a A, document: &Document<'a, A>) -> Answer
 
 fn document_pgn<'a, A: Allocator>(alloc: &'a A, bench: &Bench<'a, A>) -> Answer<'a, A>
     ensures { (s : State) → HoldsBench bench.now s
-        → Executed (λ o. IsPgnReply s o (study (plain_study (marked bench.now))))
+        → Executed (λ o. IsPgnReply s o (study (plain_study (marked_study bench.now))))
         (HoldsBenchFrom s bench.now) result }
 {
     let mut text = Vec::new(alloc);

@@ -3,7 +3,7 @@ ghost use Rattle.std.specs.Prelude.{◌≡◌, Err, None, true, MatchOption, IfE
 ghost use Rattle.study_material.specs.declared.class.Class.{Class as AClass};
 ghost use Rattle.study_values.specs.declared.fault.SourceFault.{SourceFault as ASourceFault};
 ghost use Rattle.study_marks.specs.Study.{plain_study};
-ghost use Rattle.study_marks.specs.BenchState.{marked, IsKeptRight};
+ghost use Rattle.study_marks.specs.BenchState.{marked_study, IsKeptRight};
 ghost use Rattle.study_moves.specs.Rules.{after};
 ghost use Rattle.study_tree.specs.Edits.{children_at};
 ghost use Rattle.study_marks.specs.Study.{position_at};
@@ -37,7 +37,8 @@ pub fn set_position<'a, P: PageSource, A: Allocator>(
     ensures no_damage { tables_honest P.honest tables.old → IfErr result IsUndamaged }
     ensures found { OnOk result (AllHeld (tables_held tables.old) (asked_at start.position)) }
     ensures edited { OnOk result
-        (plain_study (marked bench.new) ≡ with_position (plain_study (marked bench.old)) start) }
+        (plain_study (marked_study bench.new) ≡ with_position
+        (plain_study (marked_study bench.old)) start) }
     ensures right { tables_honest P.honest tables.old → OnOk result (IsKeptRight bench.new) }
     ensures same { OnErr result (bench.new ≡ bench.old) }
     ensures honest { tables_honest P.honest tables.old → tables_honest P.honest tables.new }
@@ -61,19 +62,20 @@ pub fn shift_position<'a, P: PageSource, A: Allocator>(
     // Many clauses: those of the study after the edit, and those of the values that it probes.
     ensures refusal { IfErr result
         (IsShiftRefusal (tables_held tables.old)
-        (positions_asked (with_start (plain_study (marked bench.old)) start))
-        (shift_refusal (plain_study (marked bench.old)) start)) }
+        (positions_asked (with_start (plain_study (marked_study bench.old)) start))
+        (shift_refusal (plain_study (marked_study bench.old)) start)) }
     ensures broken { OnOk result
-        (first_illegal_from 0 start.position (marked bench.old).tree.below ≡ None) }
+        (first_illegal_from 0 start.position (marked_study bench.old).tree.below ≡ None) }
     ensures device { IfErr result (HasNoDeviceFault (are_paged tables.old)) }
     ensures first { IfErr result (TellsFirstFault (tables_source P.honest P.gives) tables.old
-        (positions_asked (with_start (plain_study (marked bench.old)) start)) tables.new) }
+        (positions_asked (with_start (plain_study (marked_study bench.old)) start)) tables.new) }
     ensures no_damage { tables_honest P.honest tables.old → IfErr result IsUndamaged }
     ensures found { OnOk result
         (AllHeld (tables_held tables.old)
-        (positions_asked (with_start (plain_study (marked bench.old)) start))) }
+        (positions_asked (with_start (plain_study (marked_study bench.old)) start))) }
     ensures edited { OnOk result
-        (plain_study (marked bench.new) ≡ with_start (plain_study (marked bench.old)) start) }
+        (plain_study (marked_study bench.new) ≡ with_start (plain_study (marked_study bench.old))
+        start) }
     ensures right { tables_honest P.honest tables.old → OnOk result (IsKeptRight bench.new) }
     ensures same { OnErr result (bench.new ≡ bench.old) }
     ensures honest { tables_honest P.honest tables.old → tables_honest P.honest tables.new }
@@ -96,22 +98,23 @@ pub fn insert_move<'a, P: PageSource, A: Allocator>(
     tables: &mut Tables<'a, P, A>,
 ) -> Result<u16, Refusal<'a, A>>
     // Many clauses: those of the study after the edit, and those of the values that it probes.
-    ensures refusal { MatchOption (insert_refusal (plain_study (marked bench.old)) path.now m)
+    ensures refusal { MatchOption (insert_refusal (plain_study (marked_study bench.old)) path.now m)
         (IfErr result
         (IsOutside (tables_held tables.old)
-        (asked_at (after (position_at (marked bench.old) path.now) m))))
+        (asked_at (after (position_at (marked_study bench.old) path.now) m))))
         (λ fault. result ≡ Err fault) }
     ensures device { IfErr result (HasNoDeviceFault (are_paged tables.old)) }
     ensures first { IfErr result (TellsFirstFault (tables_source P.honest P.gives) tables.old
-        (asked_at (after (position_at (marked bench.old) path.now) m)) tables.new) }
+        (asked_at (after (position_at (marked_study bench.old) path.now) m)) tables.new) }
     ensures no_damage { tables_honest P.honest tables.old → IfErr result IsUndamaged }
     ensures found { OnOk result
         (AllHeld (tables_held tables.old)
-        (asked_at (after (position_at (marked bench.old) path.now) m))) }
+        (asked_at (after (position_at (marked_study bench.old) path.now) m))) }
     ensures edited { OnOk result
-        (plain_study (marked bench.new)
-        ≡ with_insertion (plain_study (marked bench.old)) path.now m) }
-    ensures place { IfOk result (λ k. k ≡ children_at (marked bench.old).tree.below path.now) }
+        (plain_study (marked_study bench.new)
+        ≡ with_insertion (plain_study (marked_study bench.old)) path.now m) }
+    ensures place { IfOk result
+        (λ k. k ≡ children_at (marked_study bench.old).tree.below path.now) }
     ensures right { tables_honest P.honest tables.old → IsKeptRight bench.old
         → OnOk result (IsKeptRight bench.new) }
     ensures same { OnErr result (bench.new ≡ bench.old) }
@@ -142,7 +145,7 @@ pub fn new_bench<'a, P: PageSource, A: Allocator>(
         (asked_at start.position) tables.new) }
     ensures no_damage { tables_honest P.honest tables.old → IfErr result IsUndamaged }
     ensures found { OnOk result (AllHeld (tables_held tables.old) (asked_at start.position)) }
-    ensures made { IfOk result (λ b. plain_study (marked b) ≡ new_study start stipulation) }
+    ensures made { IfOk result (λ b. plain_study (marked_study b) ≡ new_study start stipulation) }
     ensures right { tables_honest P.honest tables.old → IfOk result IsKeptRight }
     ensures honest { tables_honest P.honest tables.old → tables_honest P.honest tables.new }
     ensures tables { (c : AClass) → tables_held tables.new c ≡ tables_held tables.old c }

@@ -15,8 +15,8 @@ use Rattle.study_board.proofs.ImagesOfImages.{IsTurnable-from_valid}
 use Rattle.study_moves.specs.EnPassant.{has_legal_en_passant, without_idle_passed_square, without_passed}
 use Rattle.study_moves.specs.Laws.{AllAgreeWithBare}
 use Rattle.study_material.specs.Class.{IsOf, lists_of}
-use Rattle.study_material.specs.Lists.{Lists, lists, ordered, lists_exchanged, is_exchanged, is_swapped, comes_before}
-use Rattle.study_material.proofs.ClassOfImage.{compare_lists, black_first, white_first, equal, ordered-image, swapped-image}
+use Rattle.study_material.specs.Lists.{Lists, lists, ordered_lists, lists_exchanged, is_exchanged, is_swapped, comes_before}
+use Rattle.study_material.proofs.ClassOfImage.{compare_lists, black_first, white_first, equal, ordered_lists-image, swapped-image}
 use Rattle.study_values.specs.Index.{index_of}
 use Rattle.study_index.proofs.ClassLaws.{entry, numbered, alike_back, same_index}
 use Rattle.study_index.proofs.ComputedIndex.{IsIndex-index_of, index_of-only, numbered_of_decoded, decoded_of_numbered}
@@ -26,8 +26,8 @@ use Rattle.study_search.specs.Finding.{is_for}
 use Rattle.study_search.specs.Laws.{IsFoundOnce, EachIsFoundOnce, OneOfTwoImagesIsFound, colours_swapped, image_for}
 use Rattle.study_search.proofs.ThemeImages.{theme-image, theme-bare}
 
-ordered-same : (l : Lists) → l.white ≡ l.black → (ordered l).white ≡ (ordered l).black
-ordered-same l e = go (is_exchanged l)
+ordered_lists-same : (l : Lists) → l.white ≡ l.black → (ordered_lists l).white ≡ (ordered_lists l).black
+ordered_lists-same l e = go (is_exchanged l)
   where
     go : (b : Bool) → (if b then lists_exchanged l else l).white ≡ (if b then lists_exchanged l else l).black
     go false = e
@@ -65,7 +65,7 @@ module _ (law : AllAgreeWithBare) (s : Search) (p : Position) (valid : IsValid p
       let by = alike.alike.images.by in
       let is : q ≡ image by (without_idle_passed_square p) = sym e.is_bare ∙ alike.alike.images.is in
       let keeps : (lists (without_idle_passed_square p).men).white ≡ (lists (without_idle_passed_square p).men).black → by.colours ≡ false =
-      (λ same. alike.kept (ap (λ l. l.white) home ∙ ordered-same (lists p.men) (subst (λ xs. (lists xs).white ≡ (lists xs).black) (bare-men p) same)
+      (λ same. alike.kept (ap (λ l. l.white) home ∙ ordered_lists-same (lists p.men) (subst (λ xs. (lists xs).white ≡ (lists xs).black) (bare-men p) same)
       ∙ sym (ap (λ l. l.black) home))) in
       let colours : by.colours ≡ is_swapped (without_idle_passed_square p).men =
       same-flag by.colours (is_swapped (without_idle_passed_square p).men) (sym (swapped-image by (without_idle_passed_square p).men keeps)
@@ -94,7 +94,7 @@ each-found law s p valid home side h = found-once law s p valid home side h
 -- ---- classes whose sides have the same men
 
 -- if both sides have the same men the colours are not swapped to reach the class
-like-unswapped : (l : Lists) → (ordered l).white ≡ (ordered l).black → is_exchanged l ≡ false
+like-unswapped : (l : Lists) → (ordered_lists l).white ≡ (ordered_lists l).black → is_exchanged l ≡ false
 like-unswapped l e =
     elim (compare_lists l) [ black_first f g ↦ absurd (clash l.white l.black (sym (same (is_exchanged l) f e)) f g) | white_first f g ↦ f | equal f g s ↦ f ]
   where
@@ -125,7 +125,7 @@ module _ (law : AllAgreeWithBare) (s : Search) (like : (lists_of s.class).white 
   by-side White p e valid home h = white-found p valid home e h
   by-side Black p e valid home h =
       white-found (image colours_swapped p) (valid_image colours_swapped p valid (colours-admitted p))
-      (home ∙ sym (ordered-image colours_swapped p.men)) (ap (λ y. other_side y) e)
+      (home ∙ sym (ordered_lists-image colours_swapped p.men)) (ap (λ y. other_side y) e)
       (theme-image s.theme colours_swapped p (IsTurnable-from_valid colours_swapped p valid (colours-admitted p)) h)
 
 pub one-of-two : AllAgreeWithBare → OneOfTwoImagesIsFound

@@ -16,7 +16,7 @@ use Rattle.study_values.specs.declared.value.Value.{Value}
 use Rattle.study_values.specs.declared.value.Value.TheVariants.{Win, Loss, Draw}
 use Rattle.study_values.specs.Game.{IsValueOf}
 use Rattle.study_board.specs.Men.{same_side}
-use Rattle.study_search.specs.Longest.{longer, mate_by, MatesIn, MatesAt, IsLongest}
+use Rattle.study_search.specs.Longest.{option_max, mate_by, MatesIn, MatesAt, IsLongest}
 
 -- as IsLongest, of the numbers below n
 abbrev pub IsLongestBelow : (ℕ → ℕ → Type 0) → ℕ → Option ℕ → Type 0
@@ -40,7 +40,7 @@ module _ (W : ℕ → ℕ → Type 0) (n : ℕ) where
       go false e = let le : n ≤ i = ltb-false i n e in g (omega (arith, l, le))
 
   pub longest-more : (longest mate : Option ℕ) → IsLongestBelow W n longest → ((k : ℕ) → (mate ≡ Some k) ↔ W n k)
-      → IsLongestBelow W (n + 1) (longer longest mate)
+      → IsLongestBelow W (n + 1) (option_max longest mate)
   longest-more None None h t = λ i k l w. earlier i l (λ x. h i k x w) (λ e. none-is-some k ((t k).1 (subst (λ j. W j k) e w)))
   longest-more None (Some y) h t = (
     (n, (t y).0 refl),

@@ -18,7 +18,7 @@ use Rattle.study_board.specs.Position.{Position, IsValid}
 use Rattle.study_moves.specs.EnPassant.{has_legal_en_passant}
 use Rattle.study_material.specs.declared.class.Class.{Class}
 use Rattle.study_values.specs.Number.{place, number, king_places, side_number, append_squares, has_bit, without_bit, numbers_of, has_both_pawns}
-use Rattle.study_values.specs.Canonical.{turned_number, are_like, descends, least, least_by, canonical_number, canonical_symmetry}
+use Rattle.study_values.specs.Canonical.{turned_number, are_like, descends, option_min, least_by, canonical_number, canonical_symmetry}
 use Rattle.study_values.specs.Index.{index_of}
 use Rattle.study_values.specs.Size.{pages_of}
 use Rattle.study_material.specs.Class.{lists_of}
@@ -113,17 +113,17 @@ shifted n m d = elim (cases_lt n m) [
   | inr g ↦ le-ltb (n + d) (m + d) (omega (arith, g)) ∙ sym (le-ltb n m g)
 ]
 
-least-raised : (d : ℕ) (x y : Option ℕ) → least (raised d x) (raised d y) ≡ raised d (least x y)
-least-raised d None y = refl
-least-raised d (Some m) None = refl
-least-raised d (Some m) (Some n) = by_less (nat_lt n m) (nat_lt (n + d) (m + d)) (shifted n m d)
+option_min-raised : (d : ℕ) (x y : Option ℕ) → option_min (raised d x) (raised d y) ≡ raised d (option_min x y)
+option_min-raised d None y = refl
+option_min-raised d (Some m) None = refl
+option_min-raised d (Some m) (Some n) = by_less (nat_lt n m) (nat_lt (n + d) (m + d)) (shifted n m d)
   where
     by_less : (a b : Bool) → b ≡ a → cond b (Some (n + d)) (Some (m + d)) ≡ raised d (cond a (Some n) (Some m))
     by_less true b e = rw e refl
     by_less false b e = rw e refl
 
-least-both : (x y z w : Option ℕ) → x ≡ z → y ≡ w → least x y ≡ least z w
-least-both x y z w e f = rw (e, f) refl
+option_min-both : (x y z w : Option ℕ) → x ≡ z → y ≡ w → option_min x y ≡ option_min z w
+option_min-both x y z w e f = rw (e, f) refl
 
 of-raised : (pawns : Bool) (xs : List Man) → length xs ≤ 4
     → canonical_number pawns Black false xs ≡ raised (king_places pawns * 64 ^ (length xs - 1)) (canonical_number pawns White false xs)
@@ -131,9 +131,9 @@ unfolding canonical_number
 of-raised pawns [] few = refl
 of-raised true (k ∷ rest) few = by-raised true (canonical_symmetry true false false k.at) (k ∷ rest) few
 of-raised false (k ∷ rest) few =
-    least-both _ _ _ _ (by-raised false (canonical_symmetry false false false k.at) (k ∷ rest) few)
+    option_min-both _ _ _ _ (by-raised false (canonical_symmetry false false false k.at) (k ∷ rest) few)
     (by-raised false (canonical_symmetry false true false k.at) (k ∷ rest) few)
-    ∙ least-raised (king_places false * 64 ^ (length (k ∷ rest) - 1)) (least_by false White (canonical_symmetry false false false k.at) (k ∷ rest))
+    ∙ option_min-raised (king_places false * 64 ^ (length (k ∷ rest) - 1)) (least_by false White (canonical_symmetry false false false k.at) (k ∷ rest))
     (least_by false White (canonical_symmetry false true false k.at) (k ∷ rest))
 
 -- ---- the side to move of a number

@@ -30,7 +30,7 @@ use Rattle.study_search.specs.declared.themes.Theme.{Theme}
 use Rattle.study_search.specs.declared.themes.Theme.TheVariants as theme
 use Rattle.study_zugzwang.specs.Zugzwang.{IsZugzwang, Scores, handed_on}
 use Rattle.study_search.specs.OnlyMoves.{Has, Holds, IsOnlyMove, IsKey, HasOnlyMoves}
-use Rattle.study_search.specs.Themes.{Underpromotes, LeadsIntoZugzwang, spoiling, FailsIntoZugzwang, HasTheme}
+use Rattle.study_search.specs.Themes.{Underpromotes, LeadsIntoZugzwang, spoiling_outcome, FailsIntoZugzwang, HasTheme}
 
 module _ (s : Symmetry) (p : Position) (t : IsTurnable s p) where
   won-image : (k : ℕ) → IsWon p k → IsWon (image s p) k
@@ -163,7 +163,7 @@ module _ (s : Symmetry) (p : Position) (t : IsTurnable s p) where
   into-image o u = (image_move s u.0, key-image o s p t u.0 u.1, zugzwang-after s p t u.0 u.1.1.legal u.2)
 
   fails-image : (o : Outcome) → FailsIntoZugzwang o p → FailsIntoZugzwang o (image s p)
-  fails-image o u = (image_move s u.0, only-image (spoiling o) s p t u.0 u.1, zugzwang-after s p t u.0 u.1.legal u.2)
+  fails-image o u = (image_move s u.0, only-image (spoiling_outcome o) s p t u.0 u.1, zugzwang-after s p t u.0 u.1.legal u.2)
 
 pub theme-image : (x : Theme) (s : Symmetry) (p : Position) → IsTurnable s p → HasTheme x p → HasTheme x (image s p)
 theme-image theme.Zugzwang s p t h = zugzwang-image s p t h

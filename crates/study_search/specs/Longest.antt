@@ -9,10 +9,10 @@ use Rattle.study_values.specs.declared.value.Value.{Value}
 use Rattle.study_values.specs.declared.value.Value.TheVariants.{Win, Loss, Draw}
 use Rattle.study_index.specs.Computed.{position_numbered}
 
-abbrev pub longer : Option ℕ → Option ℕ → Option ℕ
-longer None b = b
-longer (Some x) None = Some x
-longer (Some x) (Some y) = if nat_lt x y then Some y else Some x
+abbrev pub option_max : Option ℕ → Option ℕ → Option ℕ
+option_max None b = b
+option_max (Some x) None = Some x
+option_max (Some x) (Some y) = if nat_lt x y then Some y else Some x
 
 -- the number of plies in which the side to move mates, by the value
 abbrev pub mate_by : Value → Option ℕ

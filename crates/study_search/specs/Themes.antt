@@ -33,13 +33,13 @@ abbrev pub LeadsIntoZugzwang : Outcome → Position → Type 0
 LeadsIntoZugzwang o p = (m : Move) × IsKey o p m × IsZugzwang (after p m)
 
 -- the opponent's result that spoils the hero's: a draw spoils a win, a win spoils a draw
-abbrev pub spoiling : Outcome → Outcome
-spoiling Win = Draw
-spoiling Draw = Win
+abbrev pub spoiling_outcome : Outcome → Outcome
+spoiling_outcome Win = Draw
+spoiling_outcome Draw = Win
 
 -- with the opponent to move, exactly one reply spoils the outcome, and it leads to a mutual zugzwang with the hero to move
 abbrev pub FailsIntoZugzwang : Outcome → Position → Type 0
-FailsIntoZugzwang o q = (r : Move) × IsOnlyMove (spoiling o) q r × IsZugzwang (after q r)
+FailsIntoZugzwang o q = (r : Move) × IsOnlyMove (spoiling_outcome o) q r × IsZugzwang (after q r)
 
 abbrev pub HasTheme : Theme → Position → Type 0
 HasTheme theme.Zugzwang p = IsZugzwang p

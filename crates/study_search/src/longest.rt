@@ -4,7 +4,7 @@
 ghost use Rattle.std.specs.Prelude.{◌≡◌, ◌↔◌, ℕ, Some, IfOk, IfErr};
 ghost use Rattle.study_moves.specs.Game.{IsWon};
 ghost use Rattle.study_search.specs.Faults.{CanReport, HasSameTables};
-ghost use Rattle.study_search.specs.Longest.{longer, mate_by, MatesIn, MatesAt, IsLongest};
+ghost use Rattle.study_search.specs.Longest.{option_max, mate_by, MatesIn, MatesAt, IsLongest};
 
 use crate::finding::{is_for, side_at};
 use crate::value::value_of;
@@ -15,8 +15,8 @@ use study_moves::values_are_unique;
 use study_values::{ProbeFault, Value, Values, cells};
 
 /// The longer of two mates; `None` if there is neither.
-fn longer(a: Option<u8>, b: Option<u8>) -> Option<u8>
-    ensures { result ≡ longer a b }
+fn option_max(a: Option<u8>, b: Option<u8>) -> Option<u8>
+    ensures { result ≡ option_max a b }
 {
     match (a, b) {
         (Some(x), Some(y)) => { if x < y { Some(y) } else { Some(x) } }
@@ -104,7 +104,7 @@ pub fn longest_mate<V: Values>(
     for number in 0..cells(class) {
         match mate_at(class, side, number, values) {
             Err(fault) => return Err(fault),
-            Ok(mate) => longest = longer(longest, mate),
+            Ok(mate) => longest = option_max(longest, mate),
         }
     }
     Ok(longest)

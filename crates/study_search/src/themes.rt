@@ -7,7 +7,7 @@ ghost use Rattle.study_moves.specs.Game.{IsWon};
 ghost use Rattle.study_moves.specs.Rules.{is_legal};
 ghost use Rattle.study_search.specs.Faults.{CanReport, HasSameTables};
 ghost use Rattle.study_search.specs.Listed.{SomeLeads};
-ghost use Rattle.study_search.specs.Themes.{is_underpromoted, Underpromotes, LeadsIntoZugzwang, spoiling, FailsIntoZugzwang, HasTheme};
+ghost use Rattle.study_search.specs.Themes.{is_underpromoted, Underpromotes, LeadsIntoZugzwang, spoiling_outcome, FailsIntoZugzwang, HasTheme};
 
 use crate::longest::mate_of;
 use crate::only_moves::{Outcome, has_only_moves, key_move, only_move};
@@ -122,8 +122,8 @@ fn leads_into_zugzwang<V: Values>(
 }
 
 /// The opponent's result that spoils the outcome.
-fn spoiling(outcome: Outcome) -> Outcome
-    ensures { result ≡ spoiling outcome }
+fn spoiling_outcome(outcome: Outcome) -> Outcome
+    ensures { result ≡ spoiling_outcome outcome }
 {
     match outcome {
         Outcome::Win => Outcome::Draw,
@@ -143,7 +143,7 @@ fn fails_into_zugzwang<V: Values>(
     ensures honest { V.source.is_honest values.old → V.source.is_honest values.new }
     ensures tables { HasSameTables V.source values.old values.new }
 {
-    match only_move(q, spoiling(outcome), values) {
+    match only_move(q, spoiling_outcome(outcome), values) {
         Err(fault) => Err(fault),
         Ok(None) => Ok(false),
         Ok(Some(r)) => {

@@ -10,7 +10,7 @@ use Rattle.study_script.specs.State.{State}
 use Rattle.study_report.specs.Lines.{no_remark}
 use Rattle.study_report.specs.Outcome.{Outcome, Shape}
 use Rattle.study_report.specs.Parts.{Fits}
-use Rattle.study_html.specs.Frame.{sheet_opening, closing}
+use Rattle.study_html.specs.Frame.{sheet_opening, page_closing}
 use Rattle.study_print.specs.Pages.{refusal_text, IsEnded, FileShape}
 use Rattle.study_print.proofs.FileWritten.{whole_shape, no_shape}
 use Rattle.study_page.specs.Sheet.{IsPlace}
@@ -18,13 +18,13 @@ use Rattle.study_sheet.specs.Sheet.{IsPlaceAs, IsSheet, SheetFits}
 
 module _ (left old begun ended new : Option (List ℕ)) (answer : Result Summary RunFault) where
   pub whole_sheet : (first : State) (given : Option (List ℕ)) (ran : Result Summary RunFault) → Appends old begun sheet_opening
-      → IfSome given (λ bytes. Outcome IsPlaceAs refusal_text no_remark first bytes left begun ended ran) → IsEnded closing ended new ran answer
+      → IfSome given (λ bytes. Outcome IsPlaceAs refusal_text no_remark first bytes left begun ended ran) → IsEnded page_closing ended new ran answer
       → IfSome given (λ bytes. IsSheet first bytes left old new answer)
   whole_sheet first None ran opened reported end = tt
   whole_sheet first (Some script) ran opened reported end = inr (begun, ended, ran, opened, reported, end)
 
   pub sheet_fits : (given : Option (List ℕ)) (ran : Result Summary RunFault) → Appends old begun sheet_opening
-      → IfSome given (λ bytes. Fits IsPlace refusal_text no_remark bytes left begun ended ran) → IsEnded closing ended new ran answer
+      → IfSome given (λ bytes. Fits IsPlace refusal_text no_remark bytes left begun ended ran) → IsEnded page_closing ended new ran answer
       → IfSome given (λ bytes. SheetFits bytes left old new answer)
   sheet_fits None ran opened fits end = tt
   sheet_fits (Some script) ran opened fits end = inr (begun, ended, ran, opened, fits, end)
@@ -41,8 +41,8 @@ no_fit None left old new h = tt
 no_fit (Some script) left old new h = inl (refl, h)
 
 pub sheet_shape : (left old new given : Option (List ℕ)) (ran answer : Result Summary RunFault) → IfSome given (λ bytes. Shape bytes left ran)
-    → IsEnded closing old new ran answer → IfSome given (λ bytes. FileShape bytes left answer)
-sheet_shape left old new given ran answer h end = whole_shape left old new given closing ran answer h end
+    → IsEnded page_closing old new ran answer → IfSome given (λ bytes. FileShape bytes left answer)
+sheet_shape left old new given ran answer h end = whole_shape left old new given page_closing ran answer h end
 
 pub no_sheet_shape : (given : Option (List ℕ)) → IfSome given (λ bytes. FileShape bytes given (Err WriteDevice))
 no_sheet_shape given = no_shape given

@@ -11,7 +11,7 @@ use Rattle.study_marks.specs.Edits.{PlainStudy}
 use Rattle.study_report.specs.Lines.{no_remark}
 use Rattle.study_report.specs.Outcome.{Outcome}
 use Rattle.study_report.specs.Parts.{Fits}
-use Rattle.study_html.specs.Frame.{sheet_opening, closing}
+use Rattle.study_html.specs.Frame.{sheet_opening, page_closing}
 use Rattle.study_page.specs.Sheet.{IsPlaceOf, IsPlace}
 use Rattle.study_print.specs.Pages.{refusal_text, IsEnded}
 
@@ -25,7 +25,7 @@ abbrev pub IsSheet : State → List ℕ → Option (List ℕ) → Option (List �
 IsSheet first script left old new answer =
     ((answer ≡ Err WriteDevice) × (left ≡ Some script) × TakesPrefix old new sheet_opening)
     ⊎ ((begun ended : Option (List ℕ)) × (ran : Result Summary RunFault) × Appends old begun sheet_opening
-    × Outcome IsPlaceAs refusal_text no_remark first script left begun ended ran × IsEnded closing ended new ran answer)
+    × Outcome IsPlaceAs refusal_text no_remark first script left begun ended ran × IsEnded page_closing ended new ran answer)
 
 -- What is written of a sheet, whatever the state: the opening, the places and the refusals of the lines, with as many refusals as are counted, and the
 -- closing.
@@ -33,4 +33,4 @@ abbrev pub SheetFits : List ℕ → Option (List ℕ) → Option (List ℕ) → 
 SheetFits script left old new answer =
     ((answer ≡ Err WriteDevice) × TakesPrefix old new sheet_opening)
     ⊎ ((begun ended : Option (List ℕ)) × (ran : Result Summary RunFault) × Appends old begun sheet_opening
-    × Fits IsPlace refusal_text no_remark script left begun ended ran × IsEnded closing ended new ran answer)
+    × Fits IsPlace refusal_text no_remark script left begun ended ran × IsEnded page_closing ended new ran answer)

@@ -7,7 +7,7 @@ use Rattle.study_board.specs.Position.{Position}
 use Rattle.study_moves.specs.Game.{IsMate}
 use Rattle.study_moves.specs.Alike.{AreAlike, Leads}
 use Rattle.study_material.specs.declared.class.Class.{Class}
-use Rattle.study_material.specs.Lists.{Lists, lists, ordered}
+use Rattle.study_material.specs.Lists.{Lists, lists, ordered_lists}
 use Rattle.study_material.specs.Class.{lists_of, same_lists, class_list, IsOf}
 use Rattle.study_material.specs.Needs.{LeadsOn, needs_of}
 use Rattle.study_material.proofs.Classes.{same_lists-self, same_lists-equal, lists_of-injective}
@@ -29,7 +29,7 @@ use Rattle.study_index.proofs.ComputedIndex.{IsIndex-index_of, index_of-only, de
 use Rattle.study_table.proofs.LevelLemmas.{distance-byte}
 
 -- positions that are alike have the same pair of lists
-pub same_ordered : (p q : Position) → AreAlike p q → ordered (lists p.men) ≡ ordered (lists q.men)
+pub same_ordered : (p q : Position) → AreAlike p q → ordered_lists (lists p.men) ≡ ordered_lists (lists q.men)
 same_ordered p q h = let d = class_exists p h.left in sym d.1 ∙ same_class p q d.0 h d.1
 
 class_in-is : (cs : List Class) (c : Class) (l : Lists) → Contains cs c → lists_of c ≡ l → class_in cs l ≡ c
@@ -50,7 +50,7 @@ class_in-is (d ∷ cs) c l h e = by_head (same_lists (lists_of d) l) refl (rest 
 
 pub class_found-is : (c : Class) (p : Position) → IsOf c p → class_found p ≡ c
 unfolding class_found
-class_found-is c p h = class_in-is class_list c (ordered (lists p.men)) (Contains-class c) h
+class_found-is c p h = class_in-is class_list c (ordered_lists (lists p.men)) (Contains-class c) h
 
 -- the value in a loaded table of a position of its class
 pub value_in-held : (held : List (Option Table)) (c : Class) (t : Table) (p : Position) → IsOf c p

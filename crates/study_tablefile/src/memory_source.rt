@@ -2,7 +2,7 @@
 ghost use Rattle.std.specs.Prelude.{◌≡◌, ℕ, ◌<◌, ◌↔◌, Some, Ok, Err, length, take};
 ghost use Rattle.std.specs.Prelude.{drop, ◌≤◌, IsErrOf, IfErr};
 ghost use Rattle.std.specs.Prelude.{OnOk, OnErr, ◌≢◌, ◌+◌, ◌-◌, ◌*◌};
-ghost use Rattle.study_text.specs.Counts.{counted};
+ghost use Rattle.study_text.specs.Counts.{next_count};
 ghost use Rattle.study_tablefile.specs.PageSource.{page_of, IsAnswerOf, of_header, of_page};
 ghost use Rattle.study_tablefile.specs.Format.{header_text, table_text};
 ghost use Rattle.study_values.specs.Size.{pages_of};
@@ -29,7 +29,7 @@ impl<'a> MemorySource<'a> {
         ensures len { length into.new ≡ length into.old }
         ensures text { self.new.text.now ≡ self.old.text.now }
         ensures plan { self.new.fails_at ≡ self.old.fails_at }
-        ensures asked { self.new.asked ≡ counted self.old.asked }
+        ensures asked { self.new.asked ≡ next_count self.old.asked }
         ensures ok { OnOk result (into.new
             ≡ take (length into.old) (drop start self.old.text.now)) }
         ensures within { OnOk result (start + length into.old ≤ length self.old.text.now) }
@@ -39,7 +39,7 @@ impl<'a> MemorySource<'a> {
             ↔ ((self.old.fails_at ≢ Some self.old.asked)
             × (length self.old.text.now < start + length into.old)) }
         ensures no_failure { OnOk result (self.new.failures ≡ self.old.failures) }
-        ensures failure { OnErr result (self.new.failures ≡ counted self.old.failures) }
+        ensures failure { OnErr result (self.new.failures ≡ next_count self.old.failures) }
     {
         let number = self.asked;
         self.asked = self.asked.saturating_add(1);
@@ -85,13 +85,13 @@ impl<'a> PageSource for MemorySource<'a> {
             IsAnswerOf self.old.text.now self.old.fails_at of_header (Err fault)) }
         ensures text { self.new.text.now ≡ self.old.text.now }
         ensures plan { self.new.fails_at ≡ self.old.fails_at }
-        ensures asked { self.new.asked ≡ counted self.old.asked }
+        ensures asked { self.new.asked ≡ next_count self.old.asked }
         ensures device { IsErrOf result SourceFault.Device
             ↔ (self.old.fails_at ≡ Some self.old.asked) }
         ensures short { IsErrOf result SourceFault.Short
             ↔ ((self.old.fails_at ≢ Some self.old.asked) × (length self.old.text.now < 64)) }
         ensures no_failure { OnOk result (self.new.failures ≡ self.old.failures) }
-        ensures failure { OnErr result (self.new.failures ≡ counted self.old.failures) }
+        ensures failure { OnErr result (self.new.failures ≡ next_count self.old.failures) }
     {
         self.bytes(0, into)
     }
@@ -106,14 +106,14 @@ impl<'a> PageSource for MemorySource<'a> {
             IsAnswerOf self.old.text.now self.old.fails_at (of_page n) (Err fault)) }
         ensures text { self.new.text.now ≡ self.old.text.now }
         ensures plan { self.new.fails_at ≡ self.old.fails_at }
-        ensures asked { self.new.asked ≡ counted self.old.asked }
+        ensures asked { self.new.asked ≡ next_count self.old.asked }
         ensures device { IsErrOf result SourceFault.Device
             ↔ (self.old.fails_at ≡ Some self.old.asked) }
         ensures short { IsErrOf result SourceFault.Short
             ↔ ((self.old.fails_at ≢ Some self.old.asked)
             × (length self.old.text.now < 4192 + 4128 * n)) }
         ensures no_failure { OnOk result (self.new.failures ≡ self.old.failures) }
-        ensures failure { OnErr result (self.new.failures ≡ counted self.old.failures) }
+        ensures failure { OnErr result (self.new.failures ≡ next_count self.old.failures) }
     {
         self.bytes(page_start(n), into)
     }

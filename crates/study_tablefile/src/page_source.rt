@@ -6,7 +6,7 @@ ghost use Rattle.study_tablefile.specs.Format.{IsVersionOf, fields_text, header_
 ghost use Rattle.study_values.specs.Size.{pages_of};
 ghost use Rattle.study_tablefile.specs.Reading.{version_of, class_read};
 ghost use Rattle.study_values.specs.declared.fault.SourceFault.{SourceFault as ASourceFault};
-ghost use Rattle.study_text.specs.Counts.{counted};
+ghost use Rattle.study_text.specs.Counts.{next_count};
 ghost use Rattle.study_tablefile.specs.PageSource.{is_whole_page, page_of, Question, of_header, of_page};
 
 use crate::format::{FIELDS_BYTES, fields};
@@ -83,12 +83,13 @@ pub trait PageSource: Drop {
             → gives self.new q a → gives self.old q a }
         ensures stays { (t : Seen) (v : ℕ) → honest self.old t v → honest self.new t v }
         ensures back { (t : Seen) (v : ℕ) → honest self.new t v → honest self.old t v }
-        ensures asked { asked self.new ≡ counted (asked self.old) }
+        ensures asked { asked self.new ≡ next_count (asked self.old) }
         ensures no_failure { OnOk result (failed self.new ≡ failed self.old) }
-        ensures failure { OnErr result (failed self.new ≡ counted (failed self.old)) };
+        ensures failure { OnErr result (failed self.new ≡ next_count (failed self.old)) };
 
     /// Reads a page of the file, counted from 0.
     fn page(&mut self, n: u32, into: &mut [u8; PAGE_BYTES]) -> Result<(), SourceFault>
+        // Many clauses: those of a header, for a page.
         ensures ok { (t : Seen) (v : ℕ) → honest self.old t v → n < pages_of t.class
             → OnOk result (into.new ≡ page_of t v n) }
         ensures given { OnOk result (gives self.old (of_page n) (Ok into.new)) }
@@ -99,9 +100,9 @@ pub trait PageSource: Drop {
             → gives self.new q a → gives self.old q a }
         ensures stays { (t : Seen) (v : ℕ) → honest self.old t v → honest self.new t v }
         ensures back { (t : Seen) (v : ℕ) → honest self.new t v → honest self.old t v }
-        ensures asked { asked self.new ≡ counted (asked self.old) }
+        ensures asked { asked self.new ≡ next_count (asked self.old) }
         ensures no_failure { OnOk result (failed self.new ≡ failed self.old) }
-        ensures failure { OnErr result (failed self.new ≡ counted (failed self.old)) };
+        ensures failure { OnErr result (failed self.new ≡ next_count (failed self.old)) };
 
     /// The number of failures. The count stays at the last value of its type.
     fn failures(&self) -> u64

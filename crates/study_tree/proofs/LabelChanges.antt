@@ -2,7 +2,7 @@
 use Rattle.std.proofs.Common.{◌≡◌, ℕ, ◌<◌, ◌≤◌, ◌+◌, List, [], ◌∷◌, ◌++◌, length, get_or, set, refl, sym, ap, ◌∙◌, arith, zero, suc, subst}
 use Rattle.std.specs.Prelude.{take, drop}
 use Rattle.study_tree.specs.Forest.{Forest, none, more, Twig, forest_of, nodes_in}
-use Rattle.study_tree.specs.Edits.{plain, IsWithin}
+use Rattle.study_tree.specs.Edits.{without_spares, IsWithin}
 use Rattle.study_tree.specs.Changes.{Pass, changed_along, rewritten}
 use Rattle.study_tree.proofs.ShownTrees.{nodes_in-plain}
 
@@ -32,14 +32,14 @@ module _ {L : Type 0} where
   -- along a path
   pub changed-set : (g : ℕ → L → L) (d : ℕ) (ts : List (Twig (L × ℕ))) (k : ℕ) (ks : List ℕ) (t u : Twig (L × ℕ))
       → k < length ts → t ≡ get_or ts k t → u.played ≡ t.played → u.label.0 ≡ g d t.label.0
-      → plain u.below ≡ changed_along g (d + 1) (plain t.below) ks
-      → plain (forest_of (set ts k u)) ≡ changed_along g d (plain (forest_of ts)) (k ∷ ks)
+      → without_spares u.below ≡ changed_along g (d + 1) (without_spares t.below) ks
+      → without_spares (forest_of (set ts k u)) ≡ changed_along g d (without_spares (forest_of ts)) (k ∷ ks)
   changed-set g d [] k ks t u p e same label below = absurd (omega arith)
   changed-set g d (v ∷ ts) zero ks t u p e same label below =
       rw (same, label, below)
-      (ap (λ (x : Twig (L × ℕ)). more x.played (g d x.label.0) (changed_along g (d + 1) (plain x.below) ks) (plain (forest_of ts))) e)
+      (ap (λ (x : Twig (L × ℕ)). more x.played (g d x.label.0) (changed_along g (d + 1) (without_spares x.below) ks) (without_spares (forest_of ts))) e)
   changed-set g d (v ∷ ts) (suc k) ks t u p e same label below =
-      ap (more v.played v.label.0 (plain v.below)) (changed-set g d ts k ks t u (omega arith) e same label below)
+      ap (more v.played v.label.0 (without_spares v.below)) (changed-set g d ts k ks t u (omega arith) e same label below)
 
   pub changed-here : (g : ℕ → L → L) (d : ℕ) (f : Forest L) (ks : List ℕ) → length ks ≡ 0 → changed_along g d f ks ≡ f
   changed-here g d f [] z = refl
@@ -59,13 +59,13 @@ module _ {L : Type 0} where
   IsWithin-changed g (suc n) d (more m l b r) (suc k ∷ ks) h = (h.0, IsWithin-changed g (suc n) d r (k ∷ ks) h.1)
 
   pub size-changed : (f h : Forest (L × ℕ)) (g : ℕ → L → L) (d : ℕ) (ks : List ℕ) (n : ℕ)
-      → plain h ≡ changed_along g d (plain f) ks → n ≡ 1 + nodes_in f → n ≡ 1 + nodes_in h
+      → without_spares h ≡ changed_along g d (without_spares f) ks → n ≡ 1 + nodes_in f → n ≡ 1 + nodes_in h
   size-changed f h g d ks n edited count =
-      omega (arith, nodes_in-plain f, nodes_in-plain h, ap nodes_in edited, nodes_in-changed g d (plain f) ks)
+      omega (arith, nodes_in-plain f, nodes_in-plain h, ap nodes_in edited, nodes_in-changed g d (without_spares f) ks)
 
   pub within-changed : (n : ℕ) (f h : Forest (L × ℕ)) (g : ℕ → L → L) (d : ℕ) (ks : List ℕ)
-      → plain h ≡ changed_along g d (plain f) ks → IsWithin n (plain f) → IsWithin n (plain h)
-  within-changed n f h g d ks edited w = subst (IsWithin n) (sym edited) (IsWithin-changed g n d (plain f) ks w)
+      → without_spares h ≡ changed_along g d (without_spares f) ks → IsWithin n (without_spares f) → IsWithin n (without_spares h)
+  within-changed n f h g d ks edited w = subst (IsWithin n) (sym edited) (IsWithin-changed g n d (without_spares f) ks w)
 
   -- all, in written order
   nodes_in-rewritten : (p : Pass L) (d k n : ℕ) (q : L) (f : Forest L) → nodes_in (rewritten p d k n q f).1 ≡ nodes_in f
@@ -87,13 +87,13 @@ module _ {L : Type 0} where
   )
 
   pub size-rewritten : (f h : Forest (L × ℕ)) (p : Pass L) (d k n : ℕ) (q : L) (size : ℕ)
-      → plain h ≡ (rewritten p d k n q (plain f)).1 → size ≡ 1 + nodes_in f → size ≡ 1 + nodes_in h
+      → without_spares h ≡ (rewritten p d k n q (without_spares f)).1 → size ≡ 1 + nodes_in f → size ≡ 1 + nodes_in h
   size-rewritten f h p d k n q size edited count =
-      omega (arith, nodes_in-plain f, nodes_in-plain h, ap nodes_in edited, nodes_in-rewritten p d k n q (plain f))
+      omega (arith, nodes_in-plain f, nodes_in-plain h, ap nodes_in edited, nodes_in-rewritten p d k n q (without_spares f))
 
   pub within-rewritten : (w : ℕ) (f h : Forest (L × ℕ)) (p : Pass L) (d k n : ℕ) (q : L)
-      → plain h ≡ (rewritten p d k n q (plain f)).1 → IsWithin w (plain f) → IsWithin w (plain h)
-  within-rewritten w f h p d k n q edited h2 = subst (IsWithin w) (sym edited) (IsWithin-rewritten p w d k n q (plain f) h2)
+      → without_spares h ≡ (rewritten p d k n q (without_spares f)).1 → IsWithin w (without_spares f) → IsWithin w (without_spares h)
+  within-rewritten w f h p d k n q edited h2 = subst (IsWithin w) (sym edited) (IsWithin-rewritten p w d k n q (without_spares f) h2)
 
   -- one list of nodes beside another
   abbrev pub beside : Forest L → Forest L → Forest L
@@ -105,20 +105,20 @@ module _ {L : Type 0} where
   beside-none (more m l b r) = ap (more m l b) (beside-none r)
 
   beside-last : (us : List (Twig (L × ℕ))) (u : Twig (L × ℕ)) (g : Forest L)
-      → beside (plain (forest_of (us ++ u ∷ []))) g ≡ beside (plain (forest_of us)) (more u.played u.label.0 (plain u.below) g)
+      → beside (without_spares (forest_of (us ++ u ∷ []))) g ≡ beside (without_spares (forest_of us)) (more u.played u.label.0 (without_spares u.below) g)
   beside-last [] u g = refl
-  beside-last (w ∷ us) u g = ap (more w.played w.label.0 (plain w.below)) (beside-last us u g)
+  beside-last (w ∷ us) u g = ap (more w.played w.label.0 (without_spares w.below)) (beside-last us u g)
 
   -- the rest, to be written once the first k nodes are, if the parent's label is q and the next number n, completes the whole
   pub record IsLeft (p : Pass L) (d : ℕ) (whole : L × Forest L) (first sum : ℕ) (now : List (Twig (L × ℕ))) (k n : ℕ) (q : L) : Type 0 where
-    pub label : whole.0 ≡ (rewritten p d k n q (plain (forest_of (drop k now)))).0
-    pub below : whole.1 ≡ beside (plain (forest_of (take k now))) (rewritten p d k n q (plain (forest_of (drop k now)))).1
+    pub label : whole.0 ≡ (rewritten p d k n q (without_spares (forest_of (drop k now)))).0
+    pub below : whole.1 ≡ beside (without_spares (forest_of (take k now))) (rewritten p d k n q (without_spares (forest_of (drop k now)))).1
     pub number : n + nodes_in (forest_of (drop k now)) ≡ sum
     pub within : k ≤ length now
     pub done : first + k ≤ n
 
   pub left-all : (p : Pass L) (d n : ℕ) (q : L) (now : List (Twig (L × ℕ)))
-      → IsLeft p d (rewritten p d 0 n q (plain (forest_of now))) n (n + nodes_in (forest_of now)) now 0 n q
+      → IsLeft p d (rewritten p d 0 n q (without_spares (forest_of now))) n (n + nodes_in (forest_of now)) now 0 n q
   left-all p d n q now = record { label = refl; below = refl; number = refl; within = omega arith; done = omega arith }
 
   pub left-few : {p : Pass L} {d : ℕ} {whole : L × Forest L} {first sum : ℕ} {now : List (Twig (L × ℕ))} {k n : ℕ} {q : L}
@@ -129,43 +129,43 @@ module _ {L : Type 0} where
   pub left-next : {p : Pass L} {d : ℕ} {whole : L × Forest L} {first sum : ℕ} {now : List (Twig (L × ℕ))} {k n : ℕ} {q : L}
       → IsLeft p d whole first sum now k n q → (v u : Twig (L × ℕ)) (x q2 : L) (n2 : ℕ) → k < length now → v ≡ get_or now k v
       → u.played ≡ v.played → x ≡ p.entered d n q v.label.0
-      → u.label.0 ≡ (rewritten p (d + 1) 0 (n + 1) x (plain v.below)).0
-      → plain u.below ≡ (rewritten p (d + 1) 0 (n + 1) x (plain v.below)).1
+      → u.label.0 ≡ (rewritten p (d + 1) 0 (n + 1) x (without_spares v.below)).0
+      → without_spares u.below ≡ (rewritten p (d + 1) 0 (n + 1) x (without_spares v.below)).1
       → q2 ≡ p.joined d k q u.label.0 → n2 ≡ n + 1 + nodes_in v.below
       → IsLeft p d whole first sum (set now k u) (suc k) n2 q2
   left-next {p} {d} {whole} {first} {sum} {now} {k} {n} {q} s v u x q2 n2 h e same entered label below joined number = record {
     label = s.label ∙ ap (λ (z : L × Forest L). z.0) whole_is;
-    below = s.below ∙ ap (λ (z : L × Forest L). beside (plain (forest_of (take k now))) z.1) whole_is
+    below = s.below ∙ ap (λ (z : L × Forest L). beside (without_spares (forest_of (take k now))) z.1) whole_is
         ∙ sym (beside-last (take k now) u (rewritten p d (suc k) n2 q2 later).1)
-        ∙ ap (λ xs. beside (plain (forest_of xs)) (rewritten p d (suc k) n2 q2 later).1) (sym (take-set now k u h));
+        ∙ ap (λ xs. beside (without_spares (forest_of xs)) (rewritten p d (suc k) n2 q2 later).1) (sym (take-set now k u h));
     number = omega (arith, number, left-few s v h e, ap (λ xs. nodes_in (forest_of xs)) (drop-past now k u h));
     within = omega (arith, length-set now k u h);
     done = omega (arith, number, s.done);
   }
     where
       later : Forest L
-      later = plain (forest_of (drop (suc k) (set now k u)))
+      later = without_spares (forest_of (drop (suc k) (set now k u)))
 
       length-set : {X : Type 0} (xs : List X) (i : ℕ) (y : X) → i < length xs → length (set xs i y) ≡ length xs
       length-set [] i y h = absurd (omega arith)
       length-set (z ∷ zs) zero y h = refl
       length-set (z ∷ zs) (suc i) y h = ap suc (length-set zs i y (omega arith))
 
-      shown : plain (forest_of (drop k now)) ≡ more v.played v.label.0 (plain v.below) later
-      shown = ap (λ xs. plain (forest_of xs)) (drop-next now k v h e)
-          ∙ ap (λ xs. more v.played v.label.0 (plain v.below) (plain (forest_of xs))) (sym (drop-past now k u h))
+      shown : without_spares (forest_of (drop k now)) ≡ more v.played v.label.0 (without_spares v.below) later
+      shown = ap (λ xs. without_spares (forest_of xs)) (drop-next now k v h e)
+          ∙ ap (λ xs. more v.played v.label.0 (without_spares v.below) (without_spares (forest_of xs))) (sym (drop-past now k u h))
 
-      whole_is : rewritten p d k n q (plain (forest_of (drop k now)))
-          ≡ ((rewritten p d (suc k) n2 q2 later).0, more u.played u.label.0 (plain u.below) (rewritten p d (suc k) n2 q2 later).1)
+      whole_is : rewritten p d k n q (without_spares (forest_of (drop k now)))
+          ≡ ((rewritten p d (suc k) n2 q2 later).0, more u.played u.label.0 (without_spares u.below) (rewritten p d (suc k) n2 q2 later).1)
       whole_is = ap (rewritten p d k n q) shown ∙ go x entered label below joined
         where
-          go : (x : L) → x ≡ p.entered d n q v.label.0 → u.label.0 ≡ (rewritten p (d + 1) 0 (n + 1) x (plain v.below)).0
-              → plain u.below ≡ (rewritten p (d + 1) 0 (n + 1) x (plain v.below)).1
+          go : (x : L) → x ≡ p.entered d n q v.label.0 → u.label.0 ≡ (rewritten p (d + 1) 0 (n + 1) x (without_spares v.below)).0
+              → without_spares u.below ≡ (rewritten p (d + 1) 0 (n + 1) x (without_spares v.below)).1
               → q2 ≡ p.joined d k q u.label.0
-              → rewritten p d k n q (more v.played v.label.0 (plain v.below) later)
-              ≡ ((rewritten p d (suc k) n2 q2 later).0, more u.played u.label.0 (plain u.below) (rewritten p d (suc k) n2 q2 later).1)
+              → rewritten p d k n q (more v.played v.label.0 (without_spares v.below) later)
+              ≡ ((rewritten p d (suc k) n2 q2 later).0, more u.played u.label.0 (without_spares u.below) (rewritten p d (suc k) n2 q2 later).1)
           go x ex el eb ej =
-              let size : n2 ≡ n + 1 + nodes_in (plain v.below) = omega (arith, number, nodes_in-plain v.below) in
+              let size : n2 ≡ n + 1 + nodes_in (without_spares v.below) = omega (arith, number, nodes_in-plain v.below) in
               rw (ej, el, eb, same, size, ex) refl
 
   pub left-more : {p : Pass L} {d : ℕ} {whole : L × Forest L} {first sum : ℕ} {now : List (Twig (L × ℕ))} {k n : ℕ} {q : L}
@@ -175,11 +175,11 @@ module _ {L : Type 0} where
 
   pub left-none : {p : Pass L} {d : ℕ} {whole : L × Forest L} {first sum : ℕ} {now : List (Twig (L × ℕ))} {k n : ℕ} {q : L}
       → IsLeft p d whole first sum now k n q → length now ≤ k
-      → (q ≡ whole.0) × (plain (forest_of now) ≡ whole.1) × (n ≡ sum)
+      → (q ≡ whole.0) × (without_spares (forest_of now) ≡ whole.1) × (n ≡ sum)
   left-none {p} {d} {whole} {first} {sum} {now} {k} {n} {q} s h =
       let e = drop-end now k h in (
-        sym (s.label ∙ ap (λ xs. (rewritten p d k n q (plain (forest_of xs))).0) e.0),
-        sym (s.below ∙ ap (λ xs. beside (plain (forest_of (take k now))) (rewritten p d k n q (plain (forest_of xs))).1) e.0
-            ∙ beside-none (plain (forest_of (take k now))) ∙ ap (λ xs. plain (forest_of xs)) e.1),
+        sym (s.label ∙ ap (λ xs. (rewritten p d k n q (without_spares (forest_of xs))).0) e.0),
+        sym (s.below ∙ ap (λ xs. beside (without_spares (forest_of (take k now))) (rewritten p d k n q (without_spares (forest_of xs))).1) e.0
+            ∙ beside-none (without_spares (forest_of (take k now))) ∙ ap (λ xs. without_spares (forest_of xs)) e.1),
         omega (arith, s.number, ap (λ xs. nodes_in (forest_of xs)) e.0),
       )

@@ -5,7 +5,7 @@ use Rattle.std.proofs.lemmas.Bool.{ne_eqb}
 use Rattle.study_moves.specs.declared.moves.Move.{Move}
 use Rattle.study_tree.specs.declared.fault.TreeFault.TheVariants.{AlreadyFirst}
 use Rattle.study_tree.specs.Forest.{Forest, none, more, Twig, forest_of, nodes_in, nodes_from}
-use Rattle.study_tree.specs.Edits.{node_in, children_at, width, plain, last_place}
+use Rattle.study_tree.specs.Edits.{node_in, children_at, width, without_spares, last_place}
 use Rattle.study_tree.specs.Tree.{Plain, Spot, spot_at, twig_spot, has_spot, move_up_refusal}
 use Rattle.study_tree.proofs.ShownTrees.{node_in-plain, width-plain, plain_twig, width-le, is_some-node_in}
 use Rattle.study_tree.proofs.PathSteps.{width-forest_of}
@@ -47,7 +47,7 @@ module _ {L : Type 0} where
   spot-root t [] z = refl
 
   pub spot-none : (us vs : List (Twig (L × ℕ))) (t : Plain L) (steps : List ℕ) (k : ℕ) (ks : List ℕ) → vs ≡ us
-      → plain (forest_of us) ≡ t.below → steps ≡ k ∷ ks → None ≡ node_in (forest_of vs) k ks → spot_at t steps ≡ None
+      → without_spares (forest_of us) ≡ t.below → steps ≡ k ∷ ks → None ≡ node_in (forest_of vs) k ks → spot_at t steps ≡ None
   spot-none us vs t steps k ks same shown path read =
       ap (spot_at t) path ∙ ap (λ f. twig_spot (node_in f k ks)) (sym shown)
       ∙ ap twig_spot (node_in-plain (forest_of us) k ks)
@@ -55,7 +55,7 @@ module _ {L : Type 0} where
       ∙ ap (λ o. twig_spot (plain_twig o)) (sym read)
 
   pub spot-some : (us vs : List (Twig (L × ℕ))) (t : Plain L) (steps : List ℕ) (k : ℕ) (ks : List ℕ)
-      (u : Twig (L × ℕ)) → vs ≡ us → plain (forest_of us) ≡ t.below → steps ≡ k ∷ ks
+      (u : Twig (L × ℕ)) → vs ≡ us → without_spares (forest_of us) ≡ t.below → steps ≡ k ∷ ks
       → Some u ≡ node_in (forest_of vs) k ks
       → spot_at t steps ≡ Some (record { played = Some u.played; label = u.label.0; children = width u.below })
   spot-some us vs t steps k ks u same shown path read =

@@ -4,7 +4,7 @@ use Rattle.std.proofs.Common.{refl, sym, ap, ◌∙◌, ◌≤◌, arith, zero, 
 use Rattle.std.specs.Prelude.{remove, swap}
 use Rattle.study_moves.specs.declared.moves.Move.{Move}
 use Rattle.study_tree.specs.Forest.{Forest, none, more, Twig, forest_of, nodes_in, nodes_from}
-use Rattle.study_tree.specs.Edits.{has_node, node_in, below_edited, with_last, width, children_at, plain}
+use Rattle.study_tree.specs.Edits.{has_node, node_in, below_edited, with_last, width, children_at, without_spares}
 use Rattle.study_tree.specs.Edits.{spare_at, place_edited, labelled_at, dropped_at, raised_at, last_place}
 
 module _ {L : Type 0} where
@@ -74,27 +74,28 @@ module _ {L : Type 0} where
   pub record ChangedBelow (t u : Twig (L × ℕ)) (edit : Forest L → Forest L) : Type 0 where
     pub played : u.played ≡ t.played
     pub label : u.label.0 ≡ t.label.0
-    pub below : plain u.below ≡ edit (plain t.below)
+    pub below : without_spares u.below ≡ edit (without_spares t.below)
 
   more-changed : (edit : Forest L → Forest L) (t u : Twig (L × ℕ)) (r : Forest L) → ChangedBelow t u edit
-      → more u.played u.label.0 (plain u.below) r ≡ more t.played t.label.0 (edit (plain t.below)) r
+      → more u.played u.label.0 (without_spares u.below) r ≡ more t.played t.label.0 (edit (without_spares t.below)) r
   more-changed edit t u r c = rw (c.played, c.label, c.below)
 
   pub below_edited-set : (edit : Forest L → Forest L) (ts : List (Twig (L × ℕ))) (k : ℕ) (ks : List ℕ) (t u : Twig (L × ℕ)) → k < length ts → t ≡ get_or ts k t
-      → ChangedBelow t u (λ f. below_edited edit f ks) → plain (forest_of (set ts k u)) ≡ below_edited edit (plain (forest_of ts)) (k ∷ ks)
+      → ChangedBelow t u (λ f. below_edited edit f ks) → without_spares (forest_of (set ts k u)) ≡ below_edited edit (without_spares (forest_of ts)) (k ∷ ks)
   below_edited-set edit [] k ks t u p e c = absurd (omega arith)
   below_edited-set edit (v ∷ ts) zero ks t u p e c =
-      more-changed (λ f. below_edited edit f ks) t u (plain (forest_of ts)) c
-      ∙ ap (λ (x : Twig (L × ℕ)). more x.played x.label.0 (below_edited edit (plain x.below) ks) (plain (forest_of ts))) e
-  below_edited-set edit (v ∷ ts) (suc k) ks t u p e c = ap (more v.played v.label.0 (plain v.below)) (below_edited-set edit ts k ks t u (omega arith) e c)
+      more-changed (λ f. below_edited edit f ks) t u (without_spares (forest_of ts)) c
+      ∙ ap (λ (x : Twig (L × ℕ)). more x.played x.label.0 (below_edited edit (without_spares x.below) ks) (without_spares (forest_of ts))) e
+  below_edited-set edit (v ∷ ts) (suc k) ks t u p e c = ap (more v.played v.label.0 (without_spares v.below))
+      (below_edited-set edit ts k ks t u (omega arith) e c)
 
   pub set-same_plain : (ts : List (Twig (L × ℕ))) (k : ℕ) (t u : Twig (L × ℕ)) → k < length ts → t ≡ get_or ts k t
-      → ChangedBelow t u (λ f. f) → plain (forest_of (set ts k u)) ≡ plain (forest_of ts)
+      → ChangedBelow t u (λ f. f) → without_spares (forest_of (set ts k u)) ≡ without_spares (forest_of ts)
   set-same_plain [] k t u p e c = absurd (omega arith)
   set-same_plain (v ∷ ts) zero t u p e c =
-      more-changed (λ f. f) t u (plain (forest_of ts)) c
-      ∙ ap (λ (x : Twig (L × ℕ)). more x.played x.label.0 (plain x.below) (plain (forest_of ts))) e
-  set-same_plain (v ∷ ts) (suc k) t u p e c = ap (more v.played v.label.0 (plain v.below)) (set-same_plain ts k t u (omega arith) e c)
+      more-changed (λ f. f) t u (without_spares (forest_of ts)) c
+      ∙ ap (λ (x : Twig (L × ℕ)). more x.played x.label.0 (without_spares x.below) (without_spares (forest_of ts))) e
+  set-same_plain (v ∷ ts) (suc k) t u p e c = ap (more v.played v.label.0 (without_spares v.below)) (set-same_plain ts k t u (omega arith) e c)
 
 module _ {L : Type 0} where
   -- the path continues from ts with place k, at which v stands, and then with rest
@@ -132,22 +133,22 @@ module _ {L : Type 0} {ts : List (Twig (L × ℕ))} {steps : List ℕ} {k : ℕ}
 
   -- the node at k changed only below it
   pub below_edited-step : Step ts steps k rest v → (edit : Forest L → Forest L) (u : Twig (L × ℕ))
-      → u.played ≡ v.played → u.label.0 ≡ v.label.0 → plain u.below ≡ below_edited edit (plain v.below) rest
-      → plain (forest_of (set ts k u)) ≡ below_edited edit (plain (forest_of ts)) steps
+      → u.played ≡ v.played → u.label.0 ≡ v.label.0 → without_spares u.below ≡ below_edited edit (without_spares v.below) rest
+      → without_spares (forest_of (set ts k u)) ≡ below_edited edit (without_spares (forest_of ts)) steps
   below_edited-step s edit u same_move same_label below =
       below_edited-set edit ts k rest v u s.within s.at
       (record { played = same_move; label = same_label; below = below })
-      ∙ ap (below_edited edit (plain (forest_of ts))) (sym s.path)
+      ∙ ap (below_edited edit (without_spares (forest_of ts))) (sym s.path)
 
   pub same_plain-step : Step ts steps k rest v → (u : Twig (L × ℕ)) → u.played ≡ v.played → u.label.0 ≡ v.label.0
-      → plain u.below ≡ plain v.below → plain (forest_of (set ts k u)) ≡ plain (forest_of ts)
+      → without_spares u.below ≡ without_spares v.below → without_spares (forest_of (set ts k u)) ≡ without_spares (forest_of ts)
   same_plain-step s u same_move same_label below = set-same_plain ts k v u s.within s.at (record { played = same_move; label = same_label; below = below })
 
 module _ {L : Type 0} where
   pub plain-push : (us : List (Twig (L × ℕ))) (u : Twig (L × ℕ)) (m : Move) (l : L) → u.played ≡ m → u.label.0 ≡ l
-      → plain u.below ≡ none → plain (forest_of (us ++ u ∷ [])) ≡ with_last m l (plain (forest_of us))
+      → without_spares u.below ≡ none → without_spares (forest_of (us ++ u ∷ [])) ≡ with_last m l (without_spares (forest_of us))
   plain-push [] u m l same_move same_label below = rw (same_move, same_label, below)
-  plain-push (w ∷ us) u m l same_move same_label below = ap (more w.played w.label.0 (plain w.below)) (plain-push us u m l same_move same_label below)
+  plain-push (w ∷ us) u m l same_move same_label below = ap (more w.played w.label.0 (without_spares w.below)) (plain-push us u m l same_move same_label below)
 
   pub below_edited-here : (edit : Forest L → Forest L) (f : Forest L) (ks : List ℕ) → length ks ≡ 0 → below_edited edit f ks ≡ edit f
   below_edited-here edit f (k ∷ ks) z = absurd (omega arith)
@@ -160,12 +161,13 @@ last_place-here k [] z = refl
 -- The same, for an edit of the node itself: k is the first place of the path.
 module _ {L : Type 0} where
   place_edited-set : (g : ℕ → Forest L → Forest L) (ts : List (Twig (L × ℕ))) (k j : ℕ) (js : List ℕ) (t u : Twig (L × ℕ)) → k < length ts → t ≡ get_or ts k t
-      → ChangedBelow t u (λ f. place_edited g f j js) → plain (forest_of (set ts k u)) ≡ place_edited g (plain (forest_of ts)) k (j ∷ js)
+      → ChangedBelow t u (λ f. place_edited g f j js) → without_spares (forest_of (set ts k u)) ≡ place_edited g (without_spares (forest_of ts)) k (j ∷ js)
   place_edited-set g [] k j js t u p e c = absurd (omega arith)
   place_edited-set g (v ∷ ts) zero j js t u p e c =
-      more-changed (λ f. place_edited g f j js) t u (plain (forest_of ts)) c
-      ∙ ap (λ (x : Twig (L × ℕ)). more x.played x.label.0 (place_edited g (plain x.below) j js) (plain (forest_of ts))) e
-  place_edited-set g (v ∷ ts) (suc k) j js t u p e c = ap (more v.played v.label.0 (plain v.below)) (place_edited-set g ts k j js t u (omega arith) e c)
+      more-changed (λ f. place_edited g f j js) t u (without_spares (forest_of ts)) c
+      ∙ ap (λ (x : Twig (L × ℕ)). more x.played x.label.0 (place_edited g (without_spares x.below) j js) (without_spares (forest_of ts))) e
+  place_edited-set g (v ∷ ts) (suc k) j js t u p e c = ap (more v.played v.label.0 (without_spares v.below))
+      (place_edited-set g ts k j js t u (omega arith) e c)
 
   place_edited-here : (g : ℕ → Forest L → Forest L) (f : Forest L) (k : ℕ) (ks : List ℕ) → length ks ≡ 0 → place_edited g f k ks ≡ g k f
   place_edited-here g f k (j ∷ js) z = absurd (omega arith)
@@ -173,37 +175,38 @@ module _ {L : Type 0} where
 
   labelled-set : (ts : List (Twig (L × ℕ))) (k : ℕ) (x : L) (t u : Twig (L × ℕ)) → k < length ts → t ≡ get_or ts k t
       → u.played ≡ t.played → u.label.0 ≡ x → u.below ≡ t.below
-      → plain (forest_of (set ts k u)) ≡ labelled_at x k (plain (forest_of ts))
+      → without_spares (forest_of (set ts k u)) ≡ labelled_at x k (without_spares (forest_of ts))
   labelled-set [] k x t u p e same_move label below = absurd (omega arith)
   labelled-set (v ∷ ts) zero x t u p e same_move label below =
-      rw (same_move, label, below) (ap (λ (y : Twig (L × ℕ)). more y.played x (plain y.below) (plain (forest_of ts))) e)
+      rw (same_move, label, below) (ap (λ (y : Twig (L × ℕ)). more y.played x (without_spares y.below) (without_spares (forest_of ts))) e)
   labelled-set (v ∷ ts) (suc k) x t u p e same_move label below =
-      ap (more v.played v.label.0 (plain v.below)) (labelled-set ts k x t u (omega arith) e same_move label below)
+      ap (more v.played v.label.0 (without_spares v.below)) (labelled-set ts k x t u (omega arith) e same_move label below)
 
-  dropped-remove : (ts : List (Twig (L × ℕ))) (k : ℕ) → plain (forest_of (remove ts k)) ≡ dropped_at k (plain (forest_of ts))
+  dropped-remove : (ts : List (Twig (L × ℕ))) (k : ℕ) → without_spares (forest_of (remove ts k)) ≡ dropped_at k (without_spares (forest_of ts))
   dropped-remove [] zero = refl
   dropped-remove [] (suc k) = refl
   dropped-remove (v ∷ ts) zero = refl
-  dropped-remove (v ∷ ts) (suc k) = ap (more v.played v.label.0 (plain v.below)) (dropped-remove ts k)
+  dropped-remove (v ∷ ts) (suc k) = ap (more v.played v.label.0 (without_spares v.below)) (dropped-remove ts k)
 
   raised-sets : (ts : List (Twig (L × ℕ))) (i : ℕ) (d : Twig (L × ℕ)) → suc i < length ts
-      → plain (forest_of (set (set ts i (get_or ts (suc i) d)) (suc i) (get_or ts i d))) ≡ raised_at (suc i) (plain (forest_of ts))
+      → without_spares (forest_of (set (set ts i (get_or ts (suc i) d)) (suc i) (get_or ts i d))) ≡ raised_at (suc i) (without_spares (forest_of ts))
   raised-sets [] i d p = absurd (omega arith)
   raised-sets (v ∷ []) i d p = absurd (omega arith)
   raised-sets (v ∷ w ∷ ts) zero d p = refl
-  raised-sets (v ∷ w ∷ ts) (suc i) d p = ap (more v.played v.label.0 (plain v.below)) (raised-sets (w ∷ ts) i d (omega arith))
+  raised-sets (v ∷ w ∷ ts) (suc i) d p = ap (more v.played v.label.0 (without_spares v.below)) (raised-sets (w ∷ ts) i d (omega arith))
 
-  raised-swap : (ts : List (Twig (L × ℕ))) (i k : ℕ) → k ≡ suc i → k < length ts → plain (forest_of (swap ts i k)) ≡ raised_at k (plain (forest_of ts))
+  raised-swap : (ts : List (Twig (L × ℕ))) (i k : ℕ) → k ≡ suc i → k < length ts → without_spares (forest_of (swap ts i k))
+      ≡ raised_at k (without_spares (forest_of ts))
   raised-swap [] i k e p = absurd (omega arith)
   raised-swap (v ∷ ts) i k e p = rw e (raised-sets (v ∷ ts) i v (omega arith))
 
   pub raised-here : (ts : List (Twig (L × ℕ))) (k : ℕ) (ks : List ℕ) → length ks ≡ 0 → 0 < k → k < length ts
-      → plain (forest_of (swap ts (k - 1) k)) ≡ place_edited raised_at (plain (forest_of ts)) k ks
-  raised-here ts k ks z up p = raised-swap ts (k - 1) k (omega arith) p ∙ sym (place_edited-here raised_at (plain (forest_of ts)) k ks z)
+      → without_spares (forest_of (swap ts (k - 1) k)) ≡ place_edited raised_at (without_spares (forest_of ts)) k ks
+  raised-here ts k ks z up p = raised-swap ts (k - 1) k (omega arith) p ∙ sym (place_edited-here raised_at (without_spares (forest_of ts)) k ks z)
 
   pub dropped-here : (ts : List (Twig (L × ℕ))) (k : ℕ) (ks : List ℕ) → length ks ≡ 0
-      → plain (forest_of (remove ts k)) ≡ place_edited dropped_at (plain (forest_of ts)) k ks
-  dropped-here ts k ks z = dropped-remove ts k ∙ sym (place_edited-here dropped_at (plain (forest_of ts)) k ks z)
+      → without_spares (forest_of (remove ts k)) ≡ place_edited dropped_at (without_spares (forest_of ts)) k ks
+  dropped-here ts k ks z = dropped-remove ts k ∙ sym (place_edited-here dropped_at (without_spares (forest_of ts)) k ks z)
 
   -- the remaining nodes and those of the removed one are all nodes there were
   pub nodes_in-remove : (ts : List (Twig L)) (k : ℕ) (t : Twig L) → k < length ts → t ≡ get_or ts k t
@@ -222,16 +225,17 @@ module _ {L : Type 0} {ts : List (Twig (L × ℕ))} {k : ℕ} {rest : List ℕ} 
   pub place_edited-step : Step ts (k ∷ rest) k rest v
       → (g : ℕ → Forest L → Forest L) (j : ℕ) (js : List ℕ) (u : Twig (L × ℕ)) → rest ≡ j ∷ js → u.played ≡ v.played
       → u.label.0 ≡ v.label.0
-      → plain u.below ≡ place_edited g (plain v.below) j js → plain (forest_of (set ts k u)) ≡ place_edited g (plain (forest_of ts)) k rest
+      → without_spares u.below ≡ place_edited g (without_spares v.below) j js → without_spares (forest_of (set ts k u))
+      ≡ place_edited g (without_spares (forest_of ts)) k rest
   place_edited-step s g j js u path same_move same_label below =
       place_edited-set g ts k j js v u s.within s.at
       (record { played = same_move; label = same_label; below = below })
-      ∙ ap (place_edited g (plain (forest_of ts)) k) (sym path)
+      ∙ ap (place_edited g (without_spares (forest_of ts)) k) (sym path)
 
   pub labelled-here : Step ts (k ∷ rest) k rest v → (x : L) (u : Twig (L × ℕ)) → length rest ≡ 0 → u.played ≡ v.played → u.label.0 ≡ x → u.below ≡ v.below
-      → plain (forest_of (set ts k u)) ≡ place_edited (labelled_at x) (plain (forest_of ts)) k rest
+      → without_spares (forest_of (set ts k u)) ≡ place_edited (labelled_at x) (without_spares (forest_of ts)) k rest
   labelled-here s x u z same_move label below = labelled-set ts k x v u s.within s.at same_move label below
-      ∙ sym (place_edited-here (labelled_at x) (plain (forest_of ts)) k rest z)
+      ∙ sym (place_edited-here (labelled_at x) (without_spares (forest_of ts)) k rest z)
 
 module _ {L : Type 0} where
   pub nodes_from-le : (ts : List (Twig L)) (k : ℕ) (d : Twig L) → k < length ts → nodes_from (get_or ts k d) ≤ nodes_in (forest_of ts)

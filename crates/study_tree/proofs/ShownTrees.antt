@@ -8,7 +8,7 @@ use Rattle.study_tree.specs.declared.fault.TreeFault.TheVariants.{TreeFull, NoSu
 use Rattle.study_tree.specs.Tree.{Plain, has_spot, size_of, child_refusal}
 use Rattle.study_moves.specs.declared.moves.Move.{Move}
 use Rattle.study_tree.specs.Forest.{Forest, none, more, Twig, forest_of, nodes_in, nodes_from}
-use Rattle.study_tree.specs.Edits.{has_node, node_in, with_last, add_last, width, children_at, plain, place_edited, labelled_at, second, raised_at}
+use Rattle.study_tree.specs.Edits.{has_node, node_in, with_last, add_last, width, children_at, without_spares, place_edited, labelled_at, second, raised_at}
 
 no-refusal : {F : Type 0} (found deep full : Bool) (a b d : F)
     → (if not found then Some a else (if deep then Some b else (if full then Some d else None))) ≡ None
@@ -19,32 +19,32 @@ no-refusal true false true a b d h = let no : ⊥ = cc in absurd no
 no-refusal true false false a b d h = (refl, refl, refl)
 
 module _ {L : Type 0} where
-  pub has_node-plain : (f : Forest (L × ℕ)) (ks : List ℕ) → has_node (plain f) ks ≡ has_node f ks
+  pub has_node-plain : (f : Forest (L × ℕ)) (ks : List ℕ) → has_node (without_spares f) ks ≡ has_node f ks
   has_node-plain f [] = refl
   has_node-plain none (k ∷ ks) = refl
   has_node-plain (more m p b r) (zero ∷ ks) = has_node-plain b ks
   has_node-plain (more m p b r) (suc k ∷ ks) = has_node-plain r (k ∷ ks)
 
-  pub width-plain : (f : Forest (L × ℕ)) → width (plain f) ≡ width f
+  pub width-plain : (f : Forest (L × ℕ)) → width (without_spares f) ≡ width f
   width-plain none = refl
   width-plain (more m p b r) = ap (λ n. 1 + n) (width-plain r)
 
-  pub children_at-plain : (f : Forest (L × ℕ)) (ks : List ℕ) → children_at (plain f) ks ≡ children_at f ks
+  pub children_at-plain : (f : Forest (L × ℕ)) (ks : List ℕ) → children_at (without_spares f) ks ≡ children_at f ks
   children_at-plain f [] = width-plain f
   children_at-plain none (k ∷ ks) = refl
   children_at-plain (more m p b r) (zero ∷ ks) = children_at-plain b ks
   children_at-plain (more m p b r) (suc k ∷ ks) = children_at-plain r (k ∷ ks)
 
-  pub nodes_in-plain : (f : Forest (L × ℕ)) → nodes_in (plain f) ≡ nodes_in f
+  pub nodes_in-plain : (f : Forest (L × ℕ)) → nodes_in (without_spares f) ≡ nodes_in f
   nodes_in-plain none = refl
   nodes_in-plain (more m p b r) = omega (arith, nodes_in-plain b, nodes_in-plain r)
 
   -- the node without the number of spare places
   abbrev pub plain_twig : Option (Twig (L × ℕ)) → Option (Twig L)
   plain_twig None = None
-  plain_twig (Some t) = Some (record { played = t.played; label = t.label.0; below = plain t.below })
+  plain_twig (Some t) = Some (record { played = t.played; label = t.label.0; below = without_spares t.below })
 
-  pub node_in-plain : (f : Forest (L × ℕ)) (k : ℕ) (ks : List ℕ) → node_in (plain f) k ks ≡ plain_twig (node_in f k ks)
+  pub node_in-plain : (f : Forest (L × ℕ)) (k : ℕ) (ks : List ℕ) → node_in (without_spares f) k ks ≡ plain_twig (node_in f k ks)
   node_in-plain none k ks = refl
   node_in-plain (more m p b r) zero [] = refl
   node_in-plain (more m p b r) zero (j ∷ js) = node_in-plain b j js
@@ -106,7 +106,8 @@ is_some-copied None = refl
 is_some-copied (Some x) = refl
 
 module _ {L : Type 0} where
-  pub found_in : (f : Forest (L × ℕ)) (b : Forest L) (steps ks : List ℕ) → plain f ≡ b → steps ≡ ks → IsTrue (has_node b steps) → IsTrue (has_node f ks)
+  pub found_in : (f : Forest (L × ℕ)) (b : Forest L) (steps ks : List ℕ) → without_spares f ≡ b → steps ≡ ks → IsTrue (has_node b steps)
+      → IsTrue (has_node f ks)
   found_in f b steps ks shown path found = sym (has_node-plain f ks) ∙ ap (λ x. has_node x ks) shown ∙ ap (has_node b) (sym path) ∙ found
 
   pub child_refusal-full : (t : Plain L) (steps : List ℕ) → has_spot t steps ≡ true → length steps < 256
@@ -116,34 +117,41 @@ module _ {L : Type 0} where
   pub child_refusal-none : (t : Plain L) (steps : List ℕ) → has_spot t steps ≡ true → length steps < 256 → size_of t < 4096 → child_refusal t steps ≡ None
   child_refusal-none t steps found short full = rw (found, lt-leb 256 (length steps) short, lt-leb 4096 (size_of t) full)
 
-  pub size_of-shown : (f : Forest (L × ℕ)) (t : Plain L) (n : ℕ) → plain f ≡ t.below → n ≡ 1 + nodes_in f → n ≡ size_of t
+  pub size_of-shown : (f : Forest (L × ℕ)) (t : Plain L) (n : ℕ) → without_spares f ≡ t.below → n ≡ 1 + nodes_in f → n ≡ size_of t
   size_of-shown f t n shown count = omega (arith, ap nodes_in shown, nodes_in-plain f)
 
   -- the node at a path of the kept tree, and of the plain one
   pub has-step : (us vs : List (Twig (L × ℕ))) (b : Forest L) (k : ℕ) (ks steps : List ℕ)
-      (o : Option (Twig (L × ℕ))) → vs ≡ us → plain (forest_of us) ≡ b → o ≡ node_in (forest_of vs) k ks
+      (o : Option (Twig (L × ℕ))) → vs ≡ us → without_spares (forest_of us) ≡ b → o ≡ node_in (forest_of vs) k ks
       → steps ≡ k ∷ ks
       → is_some o ≡ has_node b steps
   has-step us vs b k ks steps o same shown read path =
       rw (read, same, path, ← shown) (is_some-node_in (forest_of us) k ks ∙ sym (has_node-plain (forest_of us) (k ∷ ks)))
 
   pub size-added : (f h : Forest (L × ℕ)) (steps : List ℕ) (m : Move) (l : L) (n : ℕ) → IsTrue (has_node f steps)
-      → plain h ≡ add_last (plain f) steps m l → n ≡ 1 + nodes_in f → n + 1 ≡ 1 + nodes_in h
+      → without_spares h ≡ add_last (without_spares f) steps m l → n ≡ 1 + nodes_in f → n + 1 ≡ 1 + nodes_in h
   size-added f h steps m l n found added count =
-      omega (arith, nodes_in-plain f, nodes_in-plain h, ap nodes_in added, nodes_in-add_last (plain f) steps m l (has_node-plain f steps ∙ found))
+      omega (arith, nodes_in-plain f, nodes_in-plain h, ap nodes_in added, nodes_in-add_last (without_spares f) steps m l (has_node-plain f steps ∙ found))
 
-  pub size-same : (f h : Forest (L × ℕ)) (n : ℕ) → plain h ≡ plain f → n ≡ 1 + nodes_in f → n ≡ 1 + nodes_in h
+  pub size-same : (f h : Forest (L × ℕ)) (n : ℕ) → without_spares h ≡ without_spares f → n ≡ 1 + nodes_in f → n ≡ 1 + nodes_in h
   size-same f h n same count = omega (arith, nodes_in-plain f, nodes_in-plain h, ap nodes_in same)
 
   pub size-labelled : (f h : Forest (L × ℕ)) (k : ℕ) (ks : List ℕ) (x : L) (n : ℕ)
-      → plain h ≡ place_edited (labelled_at x) (plain f) k ks → n ≡ 1 + nodes_in f → n ≡ 1 + nodes_in h
+      → without_spares h ≡ place_edited (labelled_at x) (without_spares f) k ks → n ≡ 1 + nodes_in f → n ≡ 1 + nodes_in h
   size-labelled f h k ks x n edited count =
-      omega (arith, nodes_in-plain f, nodes_in-plain h, ap nodes_in edited, nodes_in-place_edited (labelled_at x) (nodes_in-labelled_at x) (plain f) k ks)
+      omega (
+        arith,
+        nodes_in-plain f,
+        nodes_in-plain h,
+        ap nodes_in edited,
+        nodes_in-place_edited (labelled_at x) (nodes_in-labelled_at x)
+            (without_spares f) k ks,
+      )
 
   pub size-raised : (f h : Forest (L × ℕ)) (k : ℕ) (ks : List ℕ) (n : ℕ)
-      → plain h ≡ place_edited raised_at (plain f) k ks → n ≡ 1 + nodes_in f → n ≡ 1 + nodes_in h
+      → without_spares h ≡ place_edited raised_at (without_spares f) k ks → n ≡ 1 + nodes_in f → n ≡ 1 + nodes_in h
   size-raised f h k ks n edited count =
-      omega (arith, nodes_in-plain f, nodes_in-plain h, ap nodes_in edited, nodes_in-place_edited raised_at nodes_in-raised_at (plain f) k ks)
+      omega (arith, nodes_in-plain f, nodes_in-plain h, ap nodes_in edited, nodes_in-place_edited raised_at nodes_in-raised_at (without_spares f) k ks)
 
   -- a node removed: the remaining nodes, itself and those below it are all nodes there were
   pub counted-below : (f h : Forest (L × ℕ)) (t : Twig (L × ℕ)) (us vs : List (Twig (L × ℕ))) → vs ≡ us
@@ -157,7 +165,7 @@ module _ {L : Type 0} where
       let open_to = no-refusal (has_spot t steps) (nat_le 256 (length steps)) (nat_le 4096 (size_of t)) NoSuchNode TooDeep TreeFull h in
       (open_to.0, leb-false 256 (length steps) open_to.1, leb-false 4096 (size_of t) open_to.2)
 
-  pub room_for_child : (f : Forest (L × ℕ)) (t : Plain L) (steps : List ℕ) (n : ℕ) → plain f ≡ t.below
+  pub room_for_child : (f : Forest (L × ℕ)) (t : Plain L) (steps : List ℕ) (n : ℕ) → without_spares f ≡ t.below
       → n ≡ 1 + nodes_in f → child_refusal t steps ≡ None → IsTrue (has_node f steps) × (n < 4096)
       × (length steps < 256)
   room_for_child f t steps n shown count h =

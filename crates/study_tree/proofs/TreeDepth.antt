@@ -2,7 +2,7 @@
 use Rattle.std.proofs.Common.{◌≡◌, ℕ, ◌<◌, ◌≤◌, List, [], ◌∷◌, length, IsTrue, sym, subst, arith, zero, suc}
 use Rattle.study_moves.specs.declared.moves.Move.{Move}
 use Rattle.study_tree.specs.Forest.{Forest, none, more}
-use Rattle.study_tree.specs.Edits.{IsWithin, has_node, with_last, add_last, place_edited, labelled_at, dropped_at, raised_at, plain}
+use Rattle.study_tree.specs.Edits.{IsWithin, has_node, with_last, add_last, place_edited, labelled_at, dropped_at, raised_at, without_spares}
 
 module _ {L : Type 0} where
   pub within-length : (n : ℕ) (f : Forest L) (ks : List ℕ) → IsWithin n f → IsTrue (has_node f ks) → length ks ≤ n
@@ -53,17 +53,21 @@ IsWithin-labelled_at x (suc n) (suc k) (more m l b r) h = (h.0, IsWithin-labelle
 
 -- The same for the result of an edit: the nodes were f before it, and are g after it.
 module _ {L : Type 0} (n : ℕ) (f g : Forest (L × ℕ)) where
-  pub within-same : plain g ≡ plain f → IsWithin n (plain f) → IsWithin n (plain g)
+  pub within-same : without_spares g ≡ without_spares f → IsWithin n (without_spares f) → IsWithin n (without_spares g)
   within-same same h = subst (IsWithin n) (sym same) h
 
-  pub within-added : (ks : List ℕ) (m : Move) (x : L) → plain g ≡ add_last (plain f) ks m x → length ks < n → IsWithin n (plain f) → IsWithin n (plain g)
-  within-added ks m x same near h = subst (IsWithin n) (sym same) (IsWithin-add_last n (plain f) ks m x h near)
+  pub within-added : (ks : List ℕ) (m : Move) (x : L) → without_spares g ≡ add_last (without_spares f) ks m x → length ks < n
+      → IsWithin n (without_spares f) → IsWithin n (without_spares g)
+  within-added ks m x same near h = subst (IsWithin n) (sym same) (IsWithin-add_last n (without_spares f) ks m x h near)
 
-  pub within-labelled : (k : ℕ) (ks : List ℕ) (x : L) → plain g ≡ place_edited (labelled_at x) (plain f) k ks → IsWithin n (plain f) → IsWithin n (plain g)
-  within-labelled k ks x same h = subst (IsWithin n) (sym same) (IsWithin-place (labelled_at x) (IsWithin-labelled_at x) n (plain f) k ks h)
+  pub within-labelled : (k : ℕ) (ks : List ℕ) (x : L) → without_spares g ≡ place_edited (labelled_at x) (without_spares f) k ks
+      → IsWithin n (without_spares f) → IsWithin n (without_spares g)
+  within-labelled k ks x same h = subst (IsWithin n) (sym same) (IsWithin-place (labelled_at x) (IsWithin-labelled_at x) n (without_spares f) k ks h)
 
-  pub within-dropped : (k : ℕ) (ks : List ℕ) → plain g ≡ place_edited dropped_at (plain f) k ks → IsWithin n (plain f) → IsWithin n (plain g)
-  within-dropped k ks same h = subst (IsWithin n) (sym same) (IsWithin-place dropped_at IsWithin-dropped_at n (plain f) k ks h)
+  pub within-dropped : (k : ℕ) (ks : List ℕ) → without_spares g ≡ place_edited dropped_at (without_spares f) k ks → IsWithin n (without_spares f)
+      → IsWithin n (without_spares g)
+  within-dropped k ks same h = subst (IsWithin n) (sym same) (IsWithin-place dropped_at IsWithin-dropped_at n (without_spares f) k ks h)
 
-  pub within-raised : (k : ℕ) (ks : List ℕ) → plain g ≡ place_edited raised_at (plain f) k ks → IsWithin n (plain f) → IsWithin n (plain g)
-  within-raised k ks same h = subst (IsWithin n) (sym same) (IsWithin-place raised_at IsWithin-raised_at n (plain f) k ks h)
+  pub within-raised : (k : ℕ) (ks : List ℕ) → without_spares g ≡ place_edited raised_at (without_spares f) k ks → IsWithin n (without_spares f)
+      → IsWithin n (without_spares g)
+  within-raised k ks same h = subst (IsWithin n) (sym same) (IsWithin-place raised_at IsWithin-raised_at n (without_spares f) k ks h)

@@ -90,9 +90,9 @@ module _ {L : Type 0} where
   raised_at (suc (suc k)) (more m l b r) = more m l b (raised_at (suc k) r)
 
 -- the tree without the numbers of spare places
-abbrev pub plain : {L : Type 0} → Forest (L × ℕ) → Forest L
-plain none = none
-plain (more m p b r) = more m p.0 (plain b) (plain r)
+abbrev pub without_spares : {L : Type 0} → Forest (L × ℕ) → Forest L
+without_spares none = none
+without_spares (more m p b r) = more m p.0 (without_spares b) (without_spares r)
 
 -- the number of further children that fit below the node at the path without memory; s is the number for the path's start
 abbrev pub spare_at : {L : Type 0} → ℕ → Forest (L × ℕ) → List ℕ → ℕ

@@ -4,7 +4,7 @@ use Rattle.study_moves.specs.declared.moves.Move.{Move}
 use Rattle.study_tree.specs.declared.fault.TreeFault.{TreeFault}
 use Rattle.study_tree.specs.declared.fault.TreeFault.TheVariants.{NoSuchNode, Root, AlreadyFirst, TooDeep, TreeFull}
 use Rattle.study_tree.specs.Forest.{Forest, Twig, nodes_in}
-use Rattle.study_tree.specs.Edits.{has_node, node_in, width, add_last, place_edited, labelled_at, dropped_at, raised_at, last_place, plain, spare_at}
+use Rattle.study_tree.specs.Edits.{has_node, node_in, width, add_last, place_edited, labelled_at, dropped_at, raised_at, last_place, without_spares, spare_at}
 
 -- a tree: the root's label, and the forest below the root
 pub record Plain (L : Type 0) : Type 0 where
@@ -26,7 +26,7 @@ pub record Held (L : Type 0) : Type 0 where
 
 module _ {L : Type 0} where
   abbrev pub plain_tree : Held L → Plain L
-  plain_tree h = record { label = h.label; below = plain h.below }
+  plain_tree h = record { label = h.label; below = without_spares h.below }
 
   -- the number of further children that the node at the path takes without memory
   abbrev pub spare_of : Held L → List ℕ → ℕ

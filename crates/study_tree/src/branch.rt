@@ -17,7 +17,7 @@ pub struct Subtree<'t, 'a, L, A: Allocator> {
 impl<'t, 'a, L, A: Allocator> Model for Subtree<'t, 'a, L, A> {
     ghost use Rattle.std.specs.Prelude.{◌<◌};
     ghost use Rattle.study_tree.specs.Forest.{forest_of, nodes_in};
-    ghost use Rattle.study_tree.specs.Edits.{plain};
+    ghost use Rattle.study_tree.specs.Edits.{without_spares};
     ghost use Rattle.study_tree.specs.Tree.{Plain};
     ghost use Rattle.study_tree.specs.Codes.{plain_code};
 
@@ -25,7 +25,7 @@ impl<'t, 'a, L, A: Allocator> Model for Subtree<'t, 'a, L, A> {
 
     ghost coded = { plain_code L.code };
 
-    ghost view = { λ b. record { label = b.label.now; below = plain (forest_of b.children.now) } };
+    ghost view = { λ b. record { label = b.label.now; below = without_spares (forest_of b.children.now) } };
 
     ghost invariant = { λ b. nodes_in (forest_of b.children.now) < 4096 };
 }

@@ -1,7 +1,7 @@
 //! Labels changed in place: along a path, or all in written order.
 ghost use Rattle.std.specs.Prelude.{◌≡◌, ◌+◌, ◌<◌, ◌^◌, IsTrue, ◌∷◌, ℕ, length};
 ghost use Rattle.study_tree.specs.Forest.{forest_of, nodes_in};
-ghost use Rattle.study_tree.specs.Edits.{has_node, plain};
+ghost use Rattle.study_tree.specs.Edits.{has_node, without_spares};
 ghost use Rattle.study_tree.specs.Changes.{Pass, changed_along, rewritten};
 
 use crate::node::Node;
@@ -46,9 +46,9 @@ pub fn update_below<'a, L, A: Allocator, C: LabelChange<L>>(
 )
     requires found { IsTrue (has_node (forest_of children.old.items) (first ∷ rest.now)) }
     requires short { depth + length rest.now < 2 ^ 64 }
-    ensures { plain (forest_of children.new.items)
+    ensures { without_spares (forest_of children.new.items)
         ≡ changed_along (C.changed change.now) depth
-        (plain (forest_of children.old.items)) (first ∷ rest.now) }
+        (without_spares (forest_of children.old.items)) (first ∷ rest.now) }
 {
     let child = &mut children[first as usize];
     change.change(depth, &mut child.label);
@@ -70,10 +70,10 @@ pub fn rewrite_below<'a, L, A: Allocator, W: Rewriting<L>>(
     requires numbers { number + nodes_in (forest_of children.old.items) < 2 ^ 16 }
     ensures label { parent.new
         ≡ (rewritten (W.pass by.now) depth 0 number parent.old
-        (plain (forest_of children.old.items))).0 }
-    ensures below { plain (forest_of children.new.items)
+        (without_spares (forest_of children.old.items))).0 }
+    ensures below { without_spares (forest_of children.new.items)
         ≡ (rewritten (W.pass by.now) depth 0 number parent.old
-        (plain (forest_of children.old.items))).1 }
+        (without_spares (forest_of children.old.items))).1 }
     ensures number { result ≡ number + nodes_in (forest_of children.old.items) }
 {
     let mut next = number;

@@ -3,7 +3,7 @@ ghost use Rattle.std.specs.Prelude.{◌≡◌, ◌+◌, ◌-◌, ◌<◌, ◌^�
 ghost use Rattle.std.specs.Prelude.{slice_index_or};
 ghost use Rattle.std.specs.Option.{option_copied};
 ghost use Rattle.study_tree.specs.Forest.{forest_of, nodes_in, nodes_from};
-ghost use Rattle.study_tree.specs.Edits.{has_node, node_in, add_last, children_at, plain, spare_at};
+ghost use Rattle.study_tree.specs.Edits.{has_node, node_in, add_last, children_at, without_spares, spare_at};
 ghost use Rattle.study_tree.specs.Edits.{place_edited, labelled_at, dropped_at, raised_at, last_place};
 
 use std::alloc::{AllocError, Allocator};
@@ -66,8 +66,9 @@ fn push_node<'a, L: Drop, A: Allocator>(
     requires few { vec_len siblings.old < 2 ^ 16 }
     requires given { IsSome label.old }
     ensures place { IfOk result (λ k. k ≡ vec_len siblings.old) }
-    ensures added { IfSome label.old (λ l. OnOk result (plain (forest_of siblings.new.items)
-        ≡ add_last (plain (forest_of siblings.old.items)) [] played l)) }
+    ensures added { IfSome label.old
+        (λ l. OnOk result (without_spares (forest_of siblings.new.items)
+        ≡ add_last (without_spares (forest_of siblings.old.items)) [] played l)) }
     ensures room { 0 < vec_capacity siblings.old - vec_len siblings.old → IsOk result }
     ensures err { OnErr result (siblings.new.items ≡ siblings.old.items) }
 {
@@ -96,12 +97,13 @@ pub fn add_below<'a, L: Drop, A: Allocator>(
     requires few { children_at (forest_of children.old.items) steps.now < 2 ^ 16 }
     requires given { IsSome label.old }
     ensures place { IfOk result (λ k. k ≡ children_at (forest_of children.old.items) steps.now) }
-    ensures added { IfSome label.old (λ l. OnOk result (plain (forest_of children.new.items)
-        ≡ add_last (plain (forest_of children.old.items)) steps.now played l)) }
+    ensures added { IfSome label.old
+        (λ l. OnOk result (without_spares (forest_of children.new.items)
+        ≡ add_last (without_spares (forest_of children.old.items)) steps.now played l)) }
     ensures room { 0 < spare_at (vec_capacity children.old - vec_len children.old)
         (forest_of children.old.items) steps.now → IsOk result }
-    ensures err { OnErr result (plain (forest_of children.new.items)
-        ≡ plain (forest_of children.old.items)) }
+    ensures err { OnErr result (without_spares (forest_of children.new.items)
+        ≡ without_spares (forest_of children.old.items)) }
 {
     match steps.split_first() {
         None => push_node(alloc, children, played, label),
@@ -118,7 +120,8 @@ pub fn reserve_below<'a, L, A: Allocator>(
     steps: &[u16],
 ) -> Result<(), AllocError>
     requires found { IsTrue (has_node (forest_of children.old.items) steps.now) }
-    ensures same { plain (forest_of children.new.items) ≡ plain (forest_of children.old.items) }
+    ensures same { without_spares (forest_of children.new.items)
+        ≡ without_spares (forest_of children.old.items) }
     ensures room { OnOk result
         (0 < spare_at (vec_capacity children.new - vec_len children.new)
         (forest_of children.new.items) steps.now) }
@@ -141,9 +144,9 @@ pub fn relabel_below<'a, L, A: Allocator>(
     label: &mut L,
 )
     requires found { IsTrue (has_node (forest_of children.old.items) (first ∷ rest.now)) }
-    ensures { plain (forest_of children.new.items)
+    ensures { without_spares (forest_of children.new.items)
         ≡ place_edited (labelled_at label.old)
-        (plain (forest_of children.old.items)) first rest.now }
+        (without_spares (forest_of children.old.items)) first rest.now }
 {
     let child = &mut children[first as usize];
     match rest.split_first() {
@@ -172,8 +175,8 @@ pub fn remove_below<'a, L, A: Allocator>(
     rest: &[u16],
 ) -> Node<'a, L, A>
     requires found { IsTrue (has_node (forest_of children.old.items) (first ∷ rest.now)) }
-    ensures removed { plain (forest_of children.new.items)
-        ≡ place_edited dropped_at (plain (forest_of children.old.items)) first rest.now }
+    ensures removed { without_spares (forest_of children.new.items)
+        ≡ place_edited dropped_at (without_spares (forest_of children.old.items)) first rest.now }
     ensures counted { nodes_in (forest_of children.new.items) + nodes_from result
         ≡ nodes_in (forest_of children.old.items) }
 {
@@ -194,8 +197,8 @@ pub fn move_up_below<'a, L, A: Allocator>(
 )
     requires found { IsTrue (has_node (forest_of children.old.items) (first ∷ rest.now)) }
     requires not_first { 0 < last_place first rest.now }
-    ensures { plain (forest_of children.new.items)
-        ≡ place_edited raised_at (plain (forest_of children.old.items)) first rest.now }
+    ensures { without_spares (forest_of children.new.items)
+        ≡ place_edited raised_at (without_spares (forest_of children.old.items)) first rest.now }
 {
     match rest.split_first() {
         None => children.swap(first as usize - 1, first as usize),

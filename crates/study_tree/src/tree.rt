@@ -1,8 +1,8 @@
 //! The tree.
 ghost use Rattle.std.specs.Prelude.{◌≡◌, ◌+◌, ◌<◌, ◌≤◌, length, IsOk, IfOk, IfErr, OnErr, OnOk, MatchOption, IsOkUnless, Some, None, ◌≢◌};
 ghost use Rattle.study_tree.specs.Forest.{none};
-ghost use Rattle.study_tree.specs.Edits.{IsWithin, children_at, plain};
-ghost use Rattle.study_text.specs.Counts.{counted};
+ghost use Rattle.study_tree.specs.Edits.{IsWithin, children_at, without_spares};
+ghost use Rattle.study_text.specs.Counts.{next_count};
 ghost use Rattle.study_tree.specs.Tree.{plain_tree, spare_of, size_of, has_spot, spot_at};
 ghost use Rattle.study_tree.specs.Tree.{with_child, with_label, without, moved_up, child_refusal};
 ghost use Rattle.study_tree.specs.Changes.{counted_by, with_changes, rewritten_tree};
@@ -45,7 +45,7 @@ pub struct Tree<'a, L, A: Allocator> {
 impl<'a, L, A: Allocator> Model for Tree<'a, L, A> {
     ghost use Rattle.std.specs.Prelude.{◌≡◌, ◌+◌, ◌-◌, ◌≤◌, vec_len, vec_capacity};
     ghost use Rattle.study_tree.specs.Forest.{forest_of, nodes_in};
-    ghost use Rattle.study_tree.specs.Edits.{IsWithin, plain};
+    ghost use Rattle.study_tree.specs.Edits.{IsWithin, without_spares};
     ghost use Rattle.study_tree.specs.Tree.{Held};
     ghost use Rattle.study_tree.specs.Codes.{held_code};
 
@@ -61,7 +61,7 @@ impl<'a, L, A: Allocator> Model for Tree<'a, L, A> {
     } };
 
     ghost invariant = { λ t. (t.size ≡ 1 + nodes_in (forest_of t.children.items))
-        × (t.size ≤ 4096) × IsWithin 256 (plain (forest_of t.children.items)) };
+        × (t.size ≤ 4096) × IsWithin 256 (without_spares (forest_of t.children.items)) };
 }
 
 impl<'a, L, A: Allocator> Tree<'a, L, A> {
@@ -178,8 +178,9 @@ impl<'a, L: Drop, A: Allocator> Tree<'a, L, A> {
             (IsOkUnless result TreeFault.OutOfMemory) (λ fault. result ≡ Err fault) }
         ensures added { OnOk result
             (plain_tree self.new ≡ with_child (plain_tree self.old) steps.now played label) }
-        ensures place { IfOk result (λ k. k ≡ children_at (plain self.old.below) steps.now) }
-        ensures count { OnOk result (self.new.relabelled ≡ counted self.old.relabelled) }
+        ensures place { IfOk result
+            (λ k. k ≡ children_at (without_spares self.old.below) steps.now) }
+        ensures count { OnOk result (self.new.relabelled ≡ next_count self.old.relabelled) }
         ensures room { 0 < spare_of self.old steps.now → result ≢ Err TreeFault.OutOfMemory }
         ensures same { OnErr result (plain_tree self.new ≡ plain_tree self.old) }
         ensures same_count { OnErr result (self.new.relabelled ≡ self.old.relabelled) }
@@ -206,7 +207,7 @@ impl<'a, L: Drop, A: Allocator> Tree<'a, L, A> {
             (λ fault. result ≡ Err fault) }
         ensures written { OnOk result
             (plain_tree self.new ≡ with_label (plain_tree self.old) steps.now label) }
-        ensures count { OnOk result (self.new.relabelled ≡ counted self.old.relabelled) }
+        ensures count { OnOk result (self.new.relabelled ≡ next_count self.old.relabelled) }
         ensures same { OnErr result (self.new ≡ self.old) }
     {
         if !self.has(steps) {

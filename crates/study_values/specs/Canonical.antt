@@ -28,10 +28,10 @@ are_like c (a ∷ b ∷ x ∷ y ∷ []) = man_slot_number c x == man_slot_number
 are_like c xs = false
 
 -- the lesser of two optional numbers, or the only one
-abbrev pub least : Option ℕ → Option ℕ → Option ℕ
-least None b = b
-least (Some x) None = Some x
-least (Some x) (Some y) = if nat_lt y x then Some y else Some x
+abbrev pub option_min : Option ℕ → Option ℕ → Option ℕ
+option_min None b = b
+option_min (Some x) None = Some x
+option_min (Some x) (Some y) = if nat_lt y x then Some y else Some x
 
 -- the number of men that are turned
 unfoldable pub turned_number : Bool → Side → Symmetry → List Man → Option ℕ
@@ -53,5 +53,5 @@ unfoldable pub canonical_number : Bool → Side → Bool → List Man → Option
 canonical_number pawns to_move colours [] = None
 canonical_number pawns to_move colours (k ∷ rest) =
     if pawns then least_by pawns to_move (canonical_symmetry pawns false colours k.at) (k ∷ rest)
-    else least (least_by pawns to_move (canonical_symmetry pawns false colours k.at) (k ∷ rest))
+    else option_min (least_by pawns to_move (canonical_symmetry pawns false colours k.at) (k ∷ rest))
     (least_by pawns to_move (canonical_symmetry pawns true colours k.at) (k ∷ rest))

@@ -10,18 +10,19 @@ use Rattle.study_values.specs.Number.{has_pawn, with_bit}
 use Rattle.study_values.specs.Canonical.{canonical_number}
 
 -- a man inserted after those of no later slot
-unfoldable pub put : Bool → Man → List Man → List Man
-put c m [] = m ∷ []
-put c m (x ∷ xs) = if nat_le (man_slot_number c x) (man_slot_number c m) then x ∷ put c m xs else m ∷ x ∷ xs
+unfoldable pub insert_by_slot : Bool → Man → List Man → List Man
+insert_by_slot c m [] = m ∷ []
+insert_by_slot c m (x ∷ xs) = if nat_le (man_slot_number c x) (man_slot_number c m) then x ∷ insert_by_slot c m xs else m ∷ x ∷ xs
 
 -- the men in the order of their slots
-abbrev pub sorted : Bool → List Man → List Man
-sorted c [] = []
-sorted c (m ∷ ms) = put c m (sorted c ms)
+abbrev pub sort_by_slot : Bool → List Man → List Man
+sort_by_slot c [] = []
+sort_by_slot c (m ∷ ms) = insert_by_slot c m (sort_by_slot c ms)
 
 -- the least number of a valid position
 unfoldable pub least_number : Position → ℕ
-least_number p = unwrap_or (canonical_number (has_pawn p.men) (turned_side (is_swapped p.men) p.to_move) (is_swapped p.men) (sorted (is_swapped p.men) p.men)) 0
+least_number p = unwrap_or (canonical_number (has_pawn p.men) (turned_side (is_swapped p.men) p.to_move) (is_swapped p.men)
+    (sort_by_slot (is_swapped p.men) p.men)) 0
 
 -- the index of a valid position
 unfoldable pub index_of : Position → ℕ

@@ -5,7 +5,7 @@ use Rattle.study_material.specs.declared.class.Class.{Class}
 use Rattle.study_values.specs.Index.{index_of}
 use Rattle.study_values.specs.declared.fault.SourceFault.{SourceFault}
 use Rattle.study_values.specs.declared.value.Value.{Value}
-use Rattle.study_text.specs.Counts.{counted}
+use Rattle.study_text.specs.Counts.{next_count}
 use Rattle.study_values.specs.declared.values.ProbeFault.{ProbeFault}
 use Rattle.study_values.specs.declared.values.ProbeFault.TheVariants.{NoTable, TableRead, PageDamaged}
 
@@ -25,7 +25,7 @@ is_device_fault (Err (PageDamaged c n)) = true
 
 -- the number of device faults after an answer
 abbrev pub faults_after : ℕ → ProbeAnswer → ℕ
-faults_after count answer = if is_device_fault answer then counted count else count
+faults_after count answer = if is_device_fault answer then next_count count else count
 
 -- the fault is no damage to the files: a device may fail, but a table that is opened is the expected one
 abbrev pub IsNotDamage : ProbeFault → Type 0

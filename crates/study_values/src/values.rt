@@ -3,7 +3,7 @@ ghost use Rattle.std.specs.Prelude.{◌≡◌, ◌↔◌, ℕ, false, IfOk, IfEr
 ghost use Rattle.study_material.specs.declared.class.Class.{Class as AClass};
 ghost use Rattle.study_material.specs.Class.{IsOf};
 ghost use Rattle.study_values.specs.Game.{IsValueOf};
-ghost use Rattle.study_text.specs.Counts.{counted};
+ghost use Rattle.study_text.specs.Counts.{next_count};
 ghost use Rattle.study_values.specs.declared.fault.SourceFault.{SourceFault as ASourceFault};
 ghost use Rattle.study_values.specs.Values.{IsNotDamage, ValueSource, faults_after, page_number};
 
@@ -67,7 +67,7 @@ pub trait Values: Drop {
         ensures damaged { (c : AClass) (n : ℕ) → IsErrOf result (ProbeFault.PageDamaged c n)
             → IsOf c p.now × (n ≡ page_number p.now) }
         ensures same_tables { (c : AClass) → source.held self.new c ≡ source.held self.old c }
-        ensures asked { source.asked_of self.new ≡ counted (source.asked_of self.old) }
+        ensures asked { source.asked_of self.new ≡ next_count (source.asked_of self.old) }
         ensures failures { source.failed_of self.new
             ≡ faults_after (source.failed_of self.old) result };
 

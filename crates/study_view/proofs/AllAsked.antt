@@ -15,7 +15,7 @@ use Rattle.study_marks.specs.Answers.{Answers, WereEvaluated, IsFirstFault}
 use Rattle.study_marks.proofs.FaultsReported.{evaluated-append}
 use Rattle.study_marks.specs.Evaluated.{IsProbeFaultOf, failures_of}
 use Rattle.study_facts.specs.Continuations.{moves_except}
-use Rattle.study_text.specs.Counts.{counted}
+use Rattle.study_text.specs.Counts.{next_count}
 use Rattle.study_material.specs.Class.{IsOf}
 use Rattle.study_facts.proofs.Asking.{of-evaluated, of-fault, all-then, stops-then}
 use Rattle.study_facts.proofs.AskedSteps.{asked-one}
@@ -197,7 +197,8 @@ module _ {V : Type 0} (source : ValueSource V) where
   some-then old mid new (Err f) h j = stops-then source old mid new f h j
 
   -- one position was probed
-  pub value-evaluated : (old new : V) (p : Position) (r : ProbeAnswer) → IsValid p → source.gives old p r → source.asked_of new ≡ counted (source.asked_of old)
+  pub value-evaluated : (old new : V) (p : Position) (r : ProbeAnswer) → IsValid p → source.gives old p r → source.asked_of new
+      ≡ next_count (source.asked_of old)
       → ((c : Class) (f : SourceFault) → IsOf c p → IsErrOf r (probe.TableRead f) → source.may_fail old c f)
       → ((c : Class) (f : SourceFault) → source.may_fail new c f → source.may_fail old c f)
       → ((c : Class) → IsErrOf r (probe.NoTable c) → source.held old c ≡ false) → (source.is_honest old → IfErr r IsNotDamage)

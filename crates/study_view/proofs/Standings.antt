@@ -10,7 +10,7 @@ use Rattle.study_board.specs.declared.men.Side.{Side}
 use Rattle.study_board.specs.declared.men.Side.TheVariants.{White, Black}
 use Rattle.study_board.specs.Men.{moved_if}
 use Rattle.study_board.proofs.MenInOrder.{IsPermutation-in_order}
-use Rattle.study_material.specs.Lists.{lists, kinds_of, ordered, of, Lists}
+use Rattle.study_material.specs.Lists.{lists, kinds_of, ordered_lists, of, Lists}
 use Rattle.study_material.proofs.KindCounts.{lists-IsPermutation}
 use Rattle.study_facts.proofs.Within.{LeadsTo, needs-own}
 use Rattle.study_marks.specs.declared.stipulation.Stipulation.{Stipulation}
@@ -100,5 +100,5 @@ stood-lists p from to =
 pub leads-stood : (p : Position) (from to : ℕ) (q : Position) → IsValid q → q ≡ with_man_moved p from to → LeadsTo p q
 leads-stood p from to q valid e = record {
   valid = λ v. valid;
-  reached = λ v c is. needs-own p c (is ∙ ap (λ (l : Lists). ordered l) (ap (λ (r : Position). lists r.men) e ∙ stood-lists p from to));
+  reached = λ v c is. needs-own p c (is ∙ ap (λ (l : Lists). ordered_lists l) (ap (λ (r : Position). lists r.men) e ∙ stood-lists p from to));
 }

@@ -1,7 +1,7 @@
 //! The lines of all nodes, in written order.
 ghost use Rattle.std.specs.Prelude.{◌≡◌, ◌++◌, ◌∷◌, [], Option, None, IsTrue, OnOk};
 ghost use Rattle.study_tree.specs.Tree.{has_spot};
-ghost use Rattle.study_marks.specs.BenchState.{marked};
+ghost use Rattle.study_marks.specs.BenchState.{marked_study};
 ghost use Rattle.study_marks.specs.FaultSums.{below_at};
 ghost use Rattle.study_facts.specs.Made.{Grew};
 ghost use Rattle.study_facts.specs.Asked.{within};
@@ -25,9 +25,9 @@ use study_values::Values;
 
 /// The start at a node, from that of the node before it.
 fn start_from<'b, B: Allocator>(bench: &Bench<'b, B>, steps: &[u16], before: &Start) -> Start
-    requires found { IsTrue (has_spot (marked bench.now).tree steps.now) }
-    requires before { before.now ≡ start_to (marked bench.now) (parent_path steps.now) }
-    ensures { result ≡ start_to (marked bench.now) steps.now }
+    requires found { IsTrue (has_spot (marked_study bench.now).tree steps.now) }
+    requires before { before.now ≡ start_to (marked_study bench.now) (parent_path steps.now) }
+    ensures { result ≡ start_to (marked_study bench.now) steps.now }
 {
     let first = bench.start();
     match steps.split_last() {
@@ -47,12 +47,12 @@ fn add_node_at<'b, A: Allocator, B: Allocator>(
     before: &Start,
     here: &Start,
 ) -> Result<(), AllocError>
-    requires before { before.now ≡ start_to (marked bench.now) (parent_path steps.now) }
-    requires here { here.now ≡ start_to (marked bench.now) steps.now }
-    ensures { OnOk result (text.new ≡ text.old ++ node_line (marked bench.now) steps.now) }
+    requires before { before.now ≡ start_to (marked_study bench.now) (parent_path steps.now) }
+    requires here { here.now ≡ start_to (marked_study bench.now) steps.now }
+    ensures { OnOk result (text.new ≡ text.old ++ node_line (marked_study bench.now) steps.now) }
 {
     let first = bench.start();
-    match bench.shown(steps) {
+    match bench.node_view(steps) {
         None => Ok(()),
         Some(node) => add_node(text, steps, &before.position, &node, here),
     }
@@ -105,15 +105,15 @@ fn add_own<'b, A: Allocator, B: Allocator, V: Values>(
     here: &Start,
     values: &mut V,
 ) -> Result<(), ViewFault>
-    requires before { before.now ≡ start_to (marked bench.now) (parent_path steps.now) }
-    requires here { here.now ≡ start_to (marked bench.now) steps.now }
+    requires before { before.now ≡ start_to (marked_study bench.now) (parent_path steps.now) }
+    requires here { here.now ≡ start_to (marked_study bench.now) steps.now }
     ensures nodes { OnOk result
-        (lines.new.nodes ≡ lines.old.nodes ++ node_line (marked bench.now) steps.now) }
+        (lines.new.nodes ≡ lines.old.nodes ++ node_line (marked_study bench.now) steps.now) }
     ensures zugzwangs { V.source.is_honest values.old
         → OnOk result
-        (Grew (ZugzwangLines (marked bench.now) steps.now)
+        (Grew (ZugzwangLines (marked_study bench.now) steps.now)
         lines.old.zugzwangs lines.new.zugzwangs) }
-    ensures asked { HasWalked (within (marked bench.now).start.position V.source)
+    ensures asked { HasWalked (within (marked_study bench.now).start.position V.source)
         values.old result values.new }
 {
     let first = bench.start();
@@ -130,20 +130,20 @@ pub fn add_nodes<'b, A: Allocator, B: Allocator, V: Values>(
     here: &Start,
     values: &mut V,
 ) -> Result<(), ViewFault>
-    requires found { IsTrue (has_spot (marked bench.now).tree steps.old.items) }
-    requires before { before.now ≡ start_to (marked bench.now) (parent_path steps.old.items) }
-    requires here { here.now ≡ start_to (marked bench.now) steps.old.items }
-    ensures nodes { OnOk result (Grew (LinesOfEach (IsNodeLine (marked bench.now))
+    requires found { IsTrue (has_spot (marked_study bench.now).tree steps.old.items) }
+    requires before { before.now ≡ start_to (marked_study bench.now) (parent_path steps.old.items) }
+    requires here { here.now ≡ start_to (marked_study bench.now) steps.old.items }
+    ensures nodes { OnOk result (Grew (LinesOfEach (IsNodeLine (marked_study bench.now))
         (steps.old.items
-        ∷ paths_from steps.old.items 0 (below_at (marked bench.now).tree.below steps.old.items)))
+        ∷ paths_from steps.old.items 0 (below_at (marked_study bench.now).tree.below steps.old.items)))
         lines.old.nodes lines.new.nodes) }
     ensures zugzwangs { V.source.is_honest values.old
-        → OnOk result (Grew (LinesOfEach (ZugzwangLines (marked bench.now))
+        → OnOk result (Grew (LinesOfEach (ZugzwangLines (marked_study bench.now))
         (steps.old.items
-        ∷ paths_from steps.old.items 0 (below_at (marked bench.now).tree.below steps.old.items)))
+        ∷ paths_from steps.old.items 0 (below_at (marked_study bench.now).tree.below steps.old.items)))
         lines.old.zugzwangs lines.new.zugzwangs) }
     ensures path { OnOk result (steps.new.items ≡ steps.old.items) }
-    ensures asked { HasWalked (within (marked bench.now).start.position V.source)
+    ensures asked { HasWalked (within (marked_study bench.now).start.position V.source)
         values.old result values.new }
 {
     add_own(lines, bench, steps.as_slice(), before, here, values)?;

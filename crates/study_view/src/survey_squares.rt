@@ -67,7 +67,7 @@ fn moved_men(from: Square, to: Square, men: &[Man]) -> ArrayVec<Man, 4>
 {
     let mut list = ArrayVec::new();
     for man in men {
-        list.push(man.moved(from, to));
+        list.push(man.moved_if(from, to));
     }
     list
 }

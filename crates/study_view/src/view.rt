@@ -6,7 +6,7 @@ ghost use Rattle.study_moves.specs.Rules.{is_legal};
 ghost use Rattle.study_text.specs.Taken.{TakesPrefix};
 ghost use Rattle.study_tree.specs.Tree.{has_spot, spot_at};
 ghost use Rattle.study_marks.specs.Goals.{aim_of};
-ghost use Rattle.study_marks.specs.BenchState.{marked, IsKeptRight};
+ghost use Rattle.study_marks.specs.BenchState.{marked_study, IsKeptRight};
 ghost use Rattle.study_marks.specs.Study.{plain_study};
 ghost use Rattle.study_values.specs.declared.values.ProbeFault.{ProbeFault as AProbeFault};
 ghost use Rattle.study_facts.specs.Asked.{within};
@@ -41,7 +41,7 @@ fn add_head<'b, A: Allocator, B: Allocator>(
     text: &mut Text<'_, A>,
     bench: &Bench<'b, B>,
 ) -> Result<(), AllocError>
-    ensures { OnOk result (text.new ≡ text.old ++ head_lines (marked bench.now)) }
+    ensures { OnOk result (text.new ≡ text.old ++ head_lines (marked_study bench.now)) }
 {
     add_start(text, bench.start())?;
     add_stipulation_line(text, bench, root_mark(bench))?;
@@ -55,11 +55,12 @@ fn tree_lines<'a, 'b, A: Allocator, B: Allocator, V: Values>(
     values: &mut V,
 ) -> Result<Lines<'a, A>, ViewFault>
     ensures nodes { IfOk result (λ lines.
-        lines.nodes ≡ flat_map (node_line (marked bench.now)) (written_order (marked bench.now))) }
+        lines.nodes ≡ flat_map (node_line (marked_study bench.now))
+        (written_order (marked_study bench.now))) }
     ensures zugzwangs { V.source.is_honest values.old → IfOk result (λ lines.
-        LinesOfEach (ZugzwangLines (marked bench.now))
-        (written_order (marked bench.now)) lines.zugzwangs) }
-    ensures asked { HasWalked (within (marked bench.now).start.position V.source)
+        LinesOfEach (ZugzwangLines (marked_study bench.now))
+        (written_order (marked_study bench.now)) lines.zugzwangs) }
+    ensures asked { HasWalked (within (marked_study bench.now).start.position V.source)
         values.old result values.new }
 {
     let mut lines = Lines {
@@ -85,7 +86,7 @@ fn text_of<'a, 'b, A: Allocator, B: Allocator>(
     requires depth { here.now.depth ≡ length steps.now }
     requires few { length list.now ≤ MAX_MOVES }
     requires legal { All (λ x. is_legal here.now.start.now.position x.played ≡ true) list.now }
-    ensures { IfOk result (λ text. text ≡ head_lines (marked bench.now)
+    ensures { IfOk result (λ text. text ≡ head_lines (marked_study bench.now)
         ++ (lines.now.nodes ++ (at_line steps.now here.now.start.now.position
         ++ (flat_map (line_of_move here.now.aim.now here.now.depth here.now.start.now here.now.value
         (holding_count here.now.aim.now here.now.depth list.now)) list.now
@@ -109,15 +110,15 @@ fn view_from<'a, 'b, A: Allocator, B: Allocator, V: Values>(
     values: &mut V,
 ) -> Result<Text<'a, A>, ViewFault>
     requires short { length steps.now ≤ 256 }
-    requires found { IsTrue (has_spot (marked bench.now).tree steps.now) }
-    requires start { start.now ≡ start_to (marked bench.now) steps.now }
+    requires found { IsTrue (has_spot (marked_study bench.now).tree steps.now) }
+    requires start { start.now ≡ start_to (marked_study bench.now) steps.now }
     ensures text { V.source.is_honest values.old
-        → IfOk result (IsView (marked bench.now) steps.now) }
+        → IfOk result (IsView (marked_study bench.now) steps.now) }
     ensures found { ¬ (result ≡ Err ViewFault.NoSuchNode) }
     ensures device { ¬ (result ≡ Err ViewFault.Device) }
     ensures asked { HasViewed V.source
-        (marked bench.now).start.position
-        (asked_at (marked bench.now) steps.now) values.old result values.new }
+        (marked_study bench.now).start.position
+        (asked_at (marked_study bench.now) steps.now) values.old result values.new }
 {
     let stipulation = bench.stipulation();
     let aim = aim_of(&stipulation, bench.start().position.to_move());
@@ -146,13 +147,13 @@ fn view_at<'a, 'b, A: Allocator, B: Allocator, V: Values>(
     values: &mut V,
 ) -> Result<Text<'a, A>, ViewFault>
     ensures text { V.source.is_honest values.old
-        → IfOk result (IsView (marked bench.now) path.now) }
+        → IfOk result (IsView (marked_study bench.now) path.now) }
     ensures no_node { (result ≡ Err ViewFault.NoSuchNode)
-        ↔ (spot_at (marked bench.now).tree path.now ≡ None) }
+        ↔ (spot_at (marked_study bench.now).tree path.now ≡ None) }
     ensures device { ¬ (result ≡ Err ViewFault.Device) }
     ensures asked { HasViewed V.source
-        (marked bench.now).start.position
-        (asked_at (marked bench.now) path.now) values.old result values.new }
+        (marked_study bench.now).start.position
+        (asked_at (marked_study bench.now) path.now) values.old result values.new }
 {
     let _first = bench.start();
     match bench.start_at(path) {
@@ -174,24 +175,24 @@ pub fn write_view<'a, 'b, A: Allocator, B: Allocator, V: Values, W: Write>(
     out: &mut W,
 ) -> Result<(), ViewFault>
     ensures ok { V.source.is_honest values.old
-        → OnOk result ((text : List ℕ) × IsView (marked bench.now) path.now text
+        → OnOk result ((text : List ℕ) × IsView (marked_study bench.now) path.now text
         × Appends (W.contents out.old) (W.contents out.new) text) }
     ensures plain { V.source.is_honest values.old → IsKeptRight bench.now
         → OnOk result ((text : List ℕ)
-        × IsViewOf (plain_study (marked bench.now)) path.now text
+        × IsViewOf (plain_study (marked_study bench.now)) path.now text
         × Appends (W.contents out.old) (W.contents out.new) text) }
     ensures no_node { (result ≡ Err ViewFault.NoSuchNode)
-        ↔ (spot_at (marked bench.now).tree path.now ≡ None) }
+        ↔ (spot_at (marked_study bench.now).tree path.now ≡ None) }
     ensures device { V.source.is_honest values.old → result ≡ Err ViewFault.Device → (text : List ℕ)
-        × IsView (marked bench.now) path.now text
+        × IsView (marked_study bench.now) path.now text
         × TakesPrefix (W.contents out.old) (W.contents out.new) text }
     ensures gone { result ≡ Err ViewFault.NoSuchNode → out.new ≡ out.old }
     ensures memory { result ≡ Err ViewFault.OutOfMemory → out.new ≡ out.old }
     ensures no_value { (fault : AProbeFault)
         → result ≡ Err (ViewFault.Values fault) → out.new ≡ out.old }
     ensures asked { HasViewed V.source
-        (marked bench.now).start.position
-        (asked_at (marked bench.now) path.now) values.old result values.new }
+        (marked_study bench.now).start.position
+        (asked_at (marked_study bench.now) path.now) values.old result values.new }
 {
     let text = view_at(alloc, bench, path, values)?;
     match write_text(out, text.as_slice()) {

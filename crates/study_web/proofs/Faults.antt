@@ -10,8 +10,8 @@ use Rattle.study_table.specs.Table.{Table}
 use Rattle.study_table.specs.Sound.{NeedsAreRight}
 use Rattle.study_prober.specs.WholeTables.{TablesAreRight}
 use Rattle.study_web.specs.declared.file_spans.FileSpan.{FileSpan}
-use Rattle.study_web.specs.declared.make.MakeFault.{MakeFault}
-use Rattle.study_web.specs.declared.make.MakeFault.TheVariants.{MissingTable, File, OtherClass, DistanceTooLarge, OutOfMemory}
+use Rattle.study_web.specs.declared.answers.make.MakeFault.{MakeFault}
+use Rattle.study_web.specs.declared.answers.make.MakeFault.TheVariants.{MissingTable, File, OtherClass, DistanceTooLarge, OutOfMemory}
 use Rattle.study_web.specs.Spans.{file_in}
 use Rattle.study_web.specs.Making.{IsFaultIn, IsFirstFault, IsMakeFault, IsSoundIn}
 

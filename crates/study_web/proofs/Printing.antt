@@ -10,7 +10,7 @@ use Rattle.study_web.specs.declared.file_spans.FileSpan.{FileSpan}
 use Rattle.study_web.specs.Answers.{IsOwnEnd, IsPrinted, IsPrintedTo, IsFileOver}
 use Rattle.study_web.specs.Opened.{AreAllRight, IsOfFiles}
 use Rattle.study_web.specs.Spans.{header_given}
-use Rattle.study_web.specs.Store.{known, faults_known}
+use Rattle.study_web.specs.Store.{known_file, faults_known}
 use Rattle.study_web.specs.Reported.{denial_text, ending_of, IsDenied}
 use Rattle.study_web.specs.Views.{OverStore}
 use Rattle.study_web.proofs.Shelves.{over_made, right_made}
@@ -38,7 +38,7 @@ module _ (spans : List FileSpan) (bytes script : List ℕ) where
 pub print_made : {spans at : List FileSpan} {bytes bs : List ℕ} {written : List Bool} → at ≡ spans → bs ≡ bytes → written ≡ replicate 36 false
     → (script text : List ℕ) (summary : Result Summary RunFault)
     → ((summary ≡ Err OutOfMemory) × (text ≡ [])) ⊎ (AreAllRight at bs
-    → OverStore (known header_given at bs written) (faults_known at bs written) (IsFileOver script text summary))
+    → OverStore (known_file header_given at bs written) (faults_known at bs written) (IsFileOver script text summary))
     → ((summary ≡ Err OutOfMemory) × (text ≡ [])) ⊎ IsPrintedTo spans bytes script text summary
 print_made e f w script text summary (inl none) = inl none
 print_made e f w script text summary (inr is) = inr (λ right. over_made e f w (IsFileOver script text summary) (is (right_made e f right)))

@@ -13,7 +13,7 @@ use Rattle.study_web.specs.declared.file_spans.FileSpan.{FileSpan}
 use Rattle.study_web.specs.Answers.{IsOwnEnd, IsReviewed, IsReviewedTo, IsReviewOver}
 use Rattle.study_web.specs.Opened.{IsOfFiles}
 use Rattle.study_web.specs.Spans.{file_in, file_faults, header_given}
-use Rattle.study_web.specs.Store.{known, faults_known}
+use Rattle.study_web.specs.Store.{known_file, faults_known}
 use Rattle.study_web.specs.Views.{OverStore}
 use Rattle.study_web.specs.Reported.{denial_text, ending_of, IsDenied}
 use Rattle.study_web.proofs.Opening.{among_chosen}
@@ -50,6 +50,6 @@ module _ (spans : List FileSpan) (bytes script : List ℕ) where
 
 pub review_made : {spans at : List FileSpan} {bytes bs : List ℕ} {written : List Bool} → at ≡ spans → bs ≡ bytes → written ≡ replicate 36 false
     → (script text : List ℕ) (summary : Result Summary RunFault)
-    → OverStore (known header_given at bs written) (faults_known at bs written) (IsReviewOver script text summary)
+    → OverStore (known_file header_given at bs written) (faults_known at bs written) (IsReviewOver script text summary)
     → IsReviewedTo spans bytes script text summary
 review_made e f w script text summary is = λ right. over_made e f w (IsReviewOver script text summary) is

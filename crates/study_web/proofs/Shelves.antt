@@ -20,13 +20,13 @@ use Rattle.study_web.specs.declared.request_fault.RequestFault.TheVariants as de
 use Rattle.study_web.specs.Opened.{IsHeldAs, AreHandedIn, AreAllRight, IsBadFile, IsOfTables, IsValueFault, IsOfValues, IsOfFiles, IsOfFileValues}
 use Rattle.study_web.specs.Opened.{IsSearchFault, IsOfSearch, IsOfFileSearch}
 use Rattle.study_web.specs.Views.{OverStore, OverFiles}
-use Rattle.study_web.specs.Store.{is_written, known, faults_known, IsShelf, AreRightFiles}
+use Rattle.study_web.specs.Store.{is_written, known_file, faults_known, IsShelf, AreRightFiles}
 
 -- all properties of a store
 abbrev pub shelf_in : List FileSpan → List ℕ → List Bool → StoreKnowledge
 shelf_in spans bytes written = record {
-  files = known bytes_given spans bytes written;
-  headers = known header_given spans bytes written;
+  files = known_file bytes_given spans bytes written;
+  headers = known_file header_given spans bytes written;
   faults = faults_known spans bytes written;
 }
 
@@ -35,7 +35,7 @@ none_written c = get_or-replicate 36 (class_number c) false false (place_below c
 
 module _ (spans : List FileSpan) (bytes : List ℕ) where
   known_at_first : {T : Type 0} (reported : Option (List ℕ) → T) (c : Class)
-      → known reported spans bytes (replicate 36 false) c ≡ Some (reported (file_in spans bytes c))
+      → known_file reported spans bytes (replicate 36 false) c ≡ Some (reported (file_in spans bytes c))
   known_at_first reported c = rw (none_written c) refl
 
   faults_at_first : (c : Class) (f : SourceFault) → faults_known spans bytes (replicate 36 false) c f ≡ file_faults (file_in spans bytes c) c f
@@ -64,13 +64,13 @@ handed None held h = h
 handed (Some text) held h = h
 
 pub handed_in : {spans at : List FileSpan} {bytes bs : List ℕ} {written : List Bool} (classes : List Class) → at ≡ spans → bs ≡ bytes
-    → written ≡ replicate 36 false → ((c : Class) → IsHeldAs (known header_given at bs written c) (is_among classes c))
+    → written ≡ replicate 36 false → ((c : Class) → IsHeldAs (known_file header_given at bs written c) (is_among classes c))
     → AreHandedIn spans bytes classes
 handed_in {spans} {at} {bytes} {bs} {written} classes e f w held = λ c.
     handed (file_in spans bytes c) (is_among classes c)
     (subst (λ (k : Option (Result (List ℕ) StoreFault)). IsHeldAs k (is_among classes c)) (known_at_first spans bytes header_given c) (known_as c))
   where
-    known_as : (c : Class) → IsHeldAs (known header_given spans bytes (replicate 36 false) c) (is_among classes c)
+    known_as : (c : Class) → IsHeldAs (known_file header_given spans bytes (replicate 36 false) c) (is_among classes c)
     known_as c = rw (sym e, sym f, sym w) (held c)
 
 -- ---- why tables are not opened
@@ -116,35 +116,35 @@ module _ (h k : Class → Option (Result (List ℕ) StoreFault)) (m n : Class �
 
 -- the same for a store with these spans and bytes
 module _ {spans at : List FileSpan} {bytes bs : List ℕ} {written : List Bool} (e : at ≡ spans) (f : bs ≡ bytes) (w : written ≡ replicate 36 false) where
-  headers_made : (c : Class) → known header_given at bs written c ≡ Some (header_given (file_in spans bytes c))
+  headers_made : (c : Class) → known_file header_given at bs written c ≡ Some (header_given (file_in spans bytes c))
   headers_made c = rw (e, f, w) (known_at_first spans bytes header_given c)
 
   faults_made : (c : Class) (fault : SourceFault) → faults_known at bs written c fault ≡ file_faults (file_in spans bytes c) c fault
   faults_made c fault = rw (e, f, w) (faults_at_first spans bytes c fault)
 
-  pub tables_made : (d : RequestFault) → IsOfTables (known header_given at bs written) (faults_known at bs written) d → IsOfFiles spans bytes d
-  tables_made d is = tables_alike (known header_given at bs written) (λ c. Some (header_given (file_in spans bytes c)))
+  pub tables_made : (d : RequestFault) → IsOfTables (known_file header_given at bs written) (faults_known at bs written) d → IsOfFiles spans bytes d
+  tables_made d is = tables_alike (known_file header_given at bs written) (λ c. Some (header_given (file_in spans bytes c)))
       (faults_known at bs written) (λ c. file_faults (file_in spans bytes c) c) headers_made faults_made d is
 
-  pub values_made : (p : Position) (d : RequestFault) → IsOfValues (known header_given at bs written) (faults_known at bs written) (AreAllRight at bs) p d
+  pub values_made : (p : Position) (d : RequestFault) → IsOfValues (known_file header_given at bs written) (faults_known at bs written) (AreAllRight at bs) p d
       → IsOfFileValues spans bytes p d
-  values_made p d is = values_alike (known header_given at bs written) (λ c. Some (header_given (file_in spans bytes c)))
+  values_made p d is = values_alike (known_file header_given at bs written) (λ c. Some (header_given (file_in spans bytes c)))
       (faults_known at bs written) (λ c. file_faults (file_in spans bytes c) c) headers_made faults_made (AreAllRight at bs)
       (AreAllRight spans bytes) (right_made e f) p d is
 
-  pub search_made : (d : RequestFault) → IsOfSearch (known header_given at bs written) (faults_known at bs written) (AreAllRight at bs) d
+  pub search_made : (d : RequestFault) → IsOfSearch (known_file header_given at bs written) (faults_known at bs written) (AreAllRight at bs) d
       → IsOfFileSearch spans bytes d
-  search_made d is = search_alike (known header_given at bs written) (λ c. Some (header_given (file_in spans bytes c)))
+  search_made d is = search_alike (known_file header_given at bs written) (λ c. Some (header_given (file_in spans bytes c)))
       (faults_known at bs written) (λ c. file_faults (file_in spans bytes c) c) headers_made faults_made (AreAllRight at bs)
       (AreAllRight spans bytes) (right_made e f) d is
 
   -- what is true over the store is true over the files
-  pub over_made : (IsSo : List Class → StoreKnowledge → Type 0) → OverStore (known header_given at bs written) (faults_known at bs written) IsSo
+  pub over_made : (IsSo : List Class → StoreKnowledge → Type 0) → OverStore (known_file header_given at bs written) (faults_known at bs written) IsSo
       → OverFiles spans bytes IsSo
   over_made IsSo (classes, held, shelf, knows, is) = (classes, handed_in classes e f w held, shelf, (λ c x. knows c x ∙ faults_made c x), is)
 
   pub views_made : {V E : Type 0} (made : Result V E) (IsSo : V → List Class → StoreKnowledge → Type 0)
-      → IfOk made (λ v. OverStore (known header_given at bs written) (faults_known at bs written) (IsSo v))
+      → IfOk made (λ v. OverStore (known_file header_given at bs written) (faults_known at bs written) (IsSo v))
       → IfOk made (λ v. OverFiles spans bytes (IsSo v))
   views_made (Ok v) IsSo h = over_made (IsSo v) h
   views_made (Err x) IsSo h = tt

@@ -28,8 +28,8 @@ use Rattle.study_listing.specs.Pieces.{AreLookedAt, IsPiece}
 use Rattle.study_import.specs.Imported.{script_of, all_games}
 use Rattle.study_web.specs.declared.request_fault.RequestFault.{RequestFault}
 use Rattle.study_web.specs.declared.request_fault.RequestFault.TheVariants as denial
-use Rattle.study_web.specs.declared.make.MakeFault.{MakeFault}
-use Rattle.study_web.specs.declared.make.MakeFault.TheVariants as make_fault
+use Rattle.study_web.specs.declared.answers.make.MakeFault.{MakeFault}
+use Rattle.study_web.specs.declared.answers.make.MakeFault.TheVariants as make_fault
 use Rattle.study_web.specs.declared.reply.AnswerFault.{AnswerFault}
 use Rattle.study_web.specs.declared.reply.AnswerFault.TheVariants as no_text
 use Rattle.study_web.specs.declared.reply.Ending.{Ending}

@@ -11,8 +11,8 @@ use Rattle.study_table.specs.Sound.{IsRight, HasFarPosition}
 use Rattle.study_values.specs.declared.fault.FileFault.TheVariants as file
 use Rattle.study_tablefile.specs.Format.{table_text, written_version}
 use Rattle.study_tablefile.specs.Reading.{table_read, HasHeader}
-use Rattle.study_web.specs.declared.make.MakeFault.{MakeFault}
-use Rattle.study_web.specs.declared.make.MakeFault.TheVariants.{MissingTable, File, OtherClass, DistanceTooLarge, OutOfMemory}
+use Rattle.study_web.specs.declared.answers.make.MakeFault.{MakeFault}
+use Rattle.study_web.specs.declared.answers.make.MakeFault.TheVariants.{MissingTable, File, OtherClass, DistanceTooLarge, OutOfMemory}
 use Rattle.study_web.specs.declared.file_spans.FileSpan.{FileSpan}
 use Rattle.study_web.specs.Spans.{file_in, IsHonestIn}
 

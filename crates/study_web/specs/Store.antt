@@ -13,8 +13,8 @@ use Rattle.study_web.specs.Spans.{file_in, bytes_given, header_given, file_fault
 abbrev pub is_written : List Bool → Class → Bool
 is_written written c = slice_index_or written (class_number c) false
 
-abbrev pub known : {T : Type 0} → (Option (List ℕ) → T) → List FileSpan → List ℕ → List Bool → Class → Option T
-known reported spans bytes written c = if is_written written c then None else Some (reported (file_in spans bytes c))
+abbrev pub known_file : {T : Type 0} → (Option (List ℕ) → T) → List FileSpan → List ℕ → List Bool → Class → Option T
+known_file reported spans bytes written c = if is_written written c then None else Some (reported (file_in spans bytes c))
 
 abbrev pub faults_known : List FileSpan → List ℕ → List Bool → Class → SourceFault → Bool
 faults_known spans bytes written c f = if is_written written c then true else file_faults (file_in spans bytes c) c f

@@ -13,7 +13,7 @@ use Rattle.study_facts.specs.Asked.{Stopped, within}
 use Rattle.study_script.specs.declared.store.StoreFault.{StoreFault}
 use Rattle.study_script.specs.State.{Document, empty, start, study, StoreKnowledge, State, is_among}
 use Rattle.study_report.specs.Lines.{refusal_line, no_remark}
-use Rattle.study_report.specs.Outcome.{AreAdded, begun, point_after, report_text}
+use Rattle.study_report.specs.Outcome.{AreAdded, start_point, point_after, report_text}
 use Rattle.study_report.specs.Reported.{Added, IsValueFaultIn}
 use Rattle.study_view.specs.View.{IsViewOf}
 use Rattle.study_view.specs.Words.{start_lines}
@@ -42,8 +42,8 @@ over_files classes shelf = record { document = empty; classes = classes; paged =
 -- the state that a script leaves over these tables, and the text of the lines that were refused
 abbrev pub IsLeft : List Class → StoreKnowledge → List ℕ → State → List ℕ → Type 0
 IsLeft classes shelf script state refused =
-    (added : List Added) × AreAdded tells_nothing refused_line no_remark (begun (over_files classes shelf)) (script_lines script) added
-    × (state ≡ (point_after (begun (over_files classes shelf)) added).state) × (refused ≡ report_text added)
+    (added : List Added) × AreAdded tells_nothing refused_line no_remark (start_point (over_files classes shelf)) (script_lines script) added
+    × (state ≡ (point_after (start_point (over_files classes shelf)) added).state) × (refused ≡ report_text added)
 
 -- the view at a path of the document that is left, followed by the refused lines
 abbrev pub IsViewOver : List ℕ → List ℕ → List ℕ → List Class → StoreKnowledge → Type 0

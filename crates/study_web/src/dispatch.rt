@@ -7,22 +7,22 @@ ghost use Rattle.study_web.specs.Answers.{IsFoundTo, IsImported, AreNeeded, IsOu
 ghost use Rattle.study_web.specs.Answers.{MayEnd, OverNeeded};
 ghost use Rattle.study_web.specs.Request.{request_of};
 
-use crate::chosen::spans_for;
+use crate::answers::find::found_of;
+use crate::answers::imported_script::imported_of;
+use crate::answers::make::{MakeFault, make_file};
+use crate::answers::replies::replies_over;
+use crate::answers::report_pages::printed_of;
+use crate::answers::row::row_of;
+use crate::answers::script::{review_of, view_of};
+use crate::answers::setup::{passed_of, positions_in, tables_of};
+use crate::answers::survey::survey_of;
+use crate::class_files::spans_for;
 use crate::file_spans::{FileSpan, TableFiles};
-use crate::find::found_of;
-use crate::imported::imported_of;
-use crate::make::{MakeFault, make_file};
-use crate::replies::replies_over;
-use crate::reply::{Answer, AnswerFault, fault_answer, ran, reported};
-use crate::report_pages::printed_of;
+use crate::reply::{Answer, AnswerFault, answer_of, fault_answer, ran};
 use crate::request::{Request, Rowed, SurveyRequest, read_request};
 use crate::request_fault::RequestFault;
-use crate::row::row_of;
 use crate::saved::Saved;
-use crate::script::{review_of, view_of};
-use crate::setup::{passed_of, positions_in, tables_of};
 use crate::store::SpanStore;
-use crate::survey::survey_of;
 use std::alloc::Allocator;
 use study_listing::{Piece, classes_for};
 use study_marks::Stipulation;
@@ -120,7 +120,7 @@ fn answer_make<'a, A: Allocator>(
 ) -> Answer<'a, A>
     ensures { IsMakeAnswer spans.now bytes.now class result.text.items result.ended }
 {
-    reported(alloc, file_of(alloc, class, spans, bytes))
+    answer_of(alloc, file_of(alloc, class, spans, bytes))
 }
 
 fn view_over<'f, 'a, A: Allocator>(
@@ -135,7 +135,7 @@ fn view_over<'f, 'a, A: Allocator>(
         (steps_of path.now) result.text.items result.ended }
 {
     let mut store = SpanStore::new(alloc, files.spans, files.bytes, &[]);
-    reported(alloc, view_of(alloc, path, script, &mut store, files.pages))
+    answer_of(alloc, view_of(alloc, path, script, &mut store, files.pages))
 }
 
 fn review_over<'f, 'a, A: Allocator>(
@@ -204,7 +204,7 @@ fn answer_view<'a, A: Allocator>(
         result.text.items result.ended }
 {
     match files_for(alloc, script, files.spans) {
-        Err(why) => reported(alloc, Err(why)),
+        Err(why) => answer_of(alloc, Err(why)),
         Ok(those) => {
             let needed = TableFiles {
                 spans: those.as_slice(),
@@ -226,7 +226,7 @@ fn answer_review<'a, A: Allocator>(
         IsReviewed those files.now.bytes.now script.now) result.text.items result.ended }
 {
     match files_for(alloc, script, files.spans) {
-        Err(why) => reported(alloc, Err(why)),
+        Err(why) => answer_of(alloc, Err(why)),
         Ok(those) => {
             let needed = TableFiles {
                 spans: those.as_slice(),
@@ -248,7 +248,7 @@ fn answer_report<'a, A: Allocator>(
         IsPrinted those files.now.bytes.now script.now) result.text.items result.ended }
 {
     match files_for(alloc, script, files.spans) {
-        Err(why) => reported(alloc, Err(why)),
+        Err(why) => answer_of(alloc, Err(why)),
         Ok(those) => {
             let needed = TableFiles {
                 spans: those.as_slice(),
@@ -275,7 +275,7 @@ fn answer_survey<'a, A: Allocator>(
         Err(_) => fault_answer(alloc, RequestFault::Refused(Refusal::OutOfMemory)),
         Ok(those) => {
             let mut store = SpanStore::new(alloc, those.as_slice(), files.bytes, &[]);
-            reported(alloc, survey_of(alloc, asked, &mut store, files.pages))
+            answer_of(alloc, survey_of(alloc, asked, &mut store, files.pages))
         }
     }
 }
@@ -291,7 +291,7 @@ fn of_row<'a, A: Allocator>(alloc: &'a A, row: &Rowed, files: &TableFiles<'_>) -
         Err(_) => fault_answer(alloc, RequestFault::Refused(Refusal::OutOfMemory)),
         Ok(those) => {
             let mut store = SpanStore::new(alloc, those.as_slice(), files.bytes, &[]);
-            reported(alloc, row_of(alloc, row, &mut store, files.pages))
+            answer_of(alloc, row_of(alloc, row, &mut store, files.pages))
         }
     }
 }
@@ -299,13 +299,13 @@ fn of_row<'a, A: Allocator>(alloc: &'a A, row: &Rowed, files: &TableFiles<'_>) -
 fn answer_tables<'a, A: Allocator>(alloc: &'a A, script: &[u8]) -> Answer<'a, A>
     ensures { IsTableList script.now result.text.items result.ended }
 {
-    reported(alloc, tables_of(alloc, script))
+    answer_of(alloc, tables_of(alloc, script))
 }
 
 fn answer_passed<'a, A: Allocator>(alloc: &'a A, start: &Start) -> Answer<'a, A>
     ensures { IsPassedList start.now result.text.items result.ended }
 {
-    reported(alloc, passed_of(alloc, start))
+    answer_of(alloc, passed_of(alloc, start))
 }
 
 /// Opens only the files that are needed.
@@ -319,7 +319,7 @@ fn of_find<'a, A: Allocator>(alloc: &'a A, piece: &Piece, files: &TableFiles<'_>
         Err(_) => fault_answer(alloc, RequestFault::Refused(Refusal::OutOfMemory)),
         Ok(those) => {
             let mut store = SpanStore::new(alloc, those.as_slice(), files.bytes, &[]);
-            reported(alloc, found_of(alloc, piece, &mut store, files.pages))
+            answer_of(alloc, found_of(alloc, piece, &mut store, files.pages))
         }
     }
 }
@@ -331,5 +331,5 @@ fn of_import<'a, A: Allocator>(
 ) -> Answer<'a, A>
     ensures { IsImported pgn.now given result.text.items result.ended }
 {
-    reported(alloc, imported_of(alloc, pgn, given))
+    answer_of(alloc, imported_of(alloc, pgn, given))
 }

@@ -6,41 +6,32 @@
 //! those that it needs and returns its file. Nothing is kept between two calls.
 #![tactic(auto)]
 
-mod chosen;
+mod answers;
+mod class_files;
 mod dispatch;
-mod ended;
 mod export;
 mod file_spans;
-mod find;
 mod find_words;
-mod imported;
 mod laws;
-mod make;
-mod refusals;
-mod replies;
 mod reply;
-mod report_pages;
 mod request;
 mod request_fault;
-mod row;
+mod run_output;
 mod saved;
-mod script;
-mod setup;
 mod store;
-mod survey;
 mod tables;
 mod wire_text;
 mod words;
 
+pub use answers::make::{MakeFault, make_file};
+pub use answers::replies::replies_over;
 pub use dispatch::answer;
-pub use ended::RunOutput;
 pub use export::{HandedIn, answer_into};
 pub use file_spans::{FileSpan, TableFiles, file_in};
 pub use laws::made_files_are_read_again;
-pub use make::{MakeFault, make_file};
-pub use replies::replies_over;
 pub use reply::{Answer, Ending};
 pub use request_fault::RequestFault;
+pub use run_output::RunOutput;
 pub use saved::{Saved, SavedFile, none_saved};
 pub use store::SpanStore;
 pub use study_script::{RunFault, Summary};

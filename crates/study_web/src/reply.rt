@@ -44,12 +44,12 @@ pub fn fault_answer<'a, A: Allocator>(alloc: &'a A, denial: RequestFault) -> Ans
             text,
             ended: Ending::Refused(denial),
         },
-        Err(_) => stopped(alloc, RunFault::OutOfMemory),
+        Err(_) => stop_answer(alloc, RunFault::OutOfMemory),
     }
 }
 
 /// An empty text, and this fault.
-fn stopped<'a, A: Allocator>(alloc: &'a A, fault: RunFault) -> Answer<'a, A>
+fn stop_answer<'a, A: Allocator>(alloc: &'a A, fault: RunFault) -> Answer<'a, A>
     ensures ended { result.ended ≡ Ending.Stopped fault }
     ensures text { result.text.items ≡ [] }
 {
@@ -60,7 +60,7 @@ fn stopped<'a, A: Allocator>(alloc: &'a A, fault: RunFault) -> Answer<'a, A>
 }
 
 /// A text, or why there is none.
-pub fn reported<'a, A: Allocator>(
+pub fn answer_of<'a, A: Allocator>(
     alloc: &'a A,
     made: Result<Vec<u8, &'a A>, AnswerFault>,
 ) -> Answer<'a, A>
@@ -74,7 +74,7 @@ pub fn reported<'a, A: Allocator>(
             ended: Ending::Answered,
         },
         Err(AnswerFault::Denied(denial)) => fault_answer(alloc, denial),
-        Err(AnswerFault::Stopped(fault)) => stopped(alloc, fault),
+        Err(AnswerFault::Stopped(fault)) => stop_answer(alloc, fault),
     }
 }
 

@@ -1,7 +1,7 @@
 //! A store of tables over the files of a request.
 ghost use Rattle.std.specs.Prelude.{◌≡◌, false, replicate, length, IfOk, IfErr};
 ghost use Rattle.study_web.specs.Spans.{bytes_given, header_given, file_in, IsHonestIn};
-ghost use Rattle.study_web.specs.Store.{known, faults_known, IsFileGiven, IsWithheld};
+ghost use Rattle.study_web.specs.Store.{known_file, faults_known, IsFileGiven, IsWithheld};
 
 use crate::file_spans::{FileSpan, file_in};
 use crate::saved::{Saved, SavedFile};
@@ -70,9 +70,9 @@ impl<'f, 'w, 'a, A: Allocator> TableStore for SpanStore<'f, 'w, 'a, A> {
 
     ghost honest = { λ s by_pages c. IsHonestIn by_pages (file_in s.spans.now s.bytes.now c) };
 
-    ghost files = { λ s c. known bytes_given s.spans.now s.bytes.now s.written c };
+    ghost files = { λ s c. known_file bytes_given s.spans.now s.bytes.now s.written c };
 
-    ghost headers = { λ s c. known header_given s.spans.now s.bytes.now s.written c };
+    ghost headers = { λ s c. known_file header_given s.spans.now s.bytes.now s.written c };
 
     ghost faults = { λ s c f. faults_known s.spans.now s.bytes.now s.written c f };
 

@@ -33,7 +33,7 @@ pub fn studymine(rt: &HostRuntime) -> ExitCode {
     match read_words(rt.alloc(), words.as_slice()) {
         Ok(Ok(options)) => ExitCode::from(list_to_streams(rt, &options)),
         Ok(Err(fault)) => ExitCode::from(not_known(rt, fault)),
-        Err(error) => ExitCode::from(answered(rt, &error)),
+        Err(error) => ExitCode::from(print_usage(rt, &error)),
     }
 }
 
@@ -69,7 +69,7 @@ fn not_known(rt: &HostRuntime, fault: WordFault) -> u8
 }
 
 /// Prints help, the version, or why the words are refused.
-fn answered(rt: &HostRuntime, error: &Error) -> u8
+fn print_usage(rt: &HostRuntime, error: &Error) -> u8
     ensures { (printed : Bool) × (result ≡ status_unread (kind_of error.now) printed) }
 {
     if error.kind() == clap::error::ErrorKind::OutOfMemory {

@@ -12,7 +12,7 @@ pub struct Progress<'e, E: Write> {
 }
 
 impl<'e, E: Write> Watch for Progress<'e, E> {
-    fn passed(&mut self, numbers: u32, all: u32, found: u32) {
+    fn report(&mut self, numbers: u32, all: u32, found: u32) {
         if self.wanted {
             // A failure of standard error cannot be reported.
             let _ = put_progress(self.errors, numbers, all, found);

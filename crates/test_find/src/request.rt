@@ -23,7 +23,7 @@ fn positions(class: Class, theme: Theme, side: Option<Side>) -> Selection {
     }
 }
 
-fn placed(side: Side, kind: Kind, from: u8, to: u8) -> Option<Placed> {
+fn place(side: Side, kind: Kind, from: u8, to: u8) -> Option<Placed> {
     match (Square::new(from), Square::new(to)) {
         (Some(from), Some(to)) => Some(Placed {
             side,
@@ -67,8 +67,8 @@ fn filters_are_read(rt: HostRuntime) {
         Theme::OnlyMoves(Outcome::Win, 5),
         Some(Side::Black),
     );
-    want.filters.men[0] = placed(Side::White, Kind::King, 53, 53);
-    want.filters.men[1] = placed(Side::Black, Kind::Pawn, 8, 31);
+    want.filters.men[0] = place(Side::White, Kind::King, 53, 53);
+    want.filters.men[1] = place(Side::Black, Kind::Pawn, 8, 31);
     want.filters.no_check = true;
     let line = "win 5 Kf7 no-check pa2-h4 black";
     assert!(rt; read(&rt, alloc, Class::KPKP, line) == Ok(Request::Positions(want)));

@@ -84,7 +84,7 @@ fn a_file_may_come_in_byte_by_byte(rt: HostRuntime) -> Result<(), Fail> {
     for byte in TWO {
         importer.take(*byte, &mut script)?;
     }
-    assert!(rt; importer.met() == 1);
+    assert!(rt; importer.game_count() == 1);
     let imported = importer.finish(&mut script)?;
     assert!(rt; script.as_slice() == TWO_REPORTED);
     assert!(rt; imported.met == 2 && imported.reported == 2 && imported.studies == 1);

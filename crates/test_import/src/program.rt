@@ -35,7 +35,7 @@ const FAULT: &[u8] = b"# game 2, line 9, column 4: NoSuchMove at Kb6
 
 ";
 
-fn chosen(from: u32, to: u32) -> Options {
+fn options_of(from: u32, to: u32) -> Options {
     Options {
         choice: Choice {
             given: None,
@@ -71,7 +71,7 @@ fn check_ends(
 }
 
 /// Two texts, one after the other, and a last line.
-fn joined(rt: &HostRuntime, parts: &[&[u8]]) -> Result<Vec<u8>, Fail> {
+fn join(rt: &HostRuntime, parts: &[&[u8]]) -> Result<Vec<u8>, Fail> {
     let mut text = Vec::new(rt.alloc());
     for part in parts {
         text.extend_from_slice(part)?;
@@ -82,26 +82,26 @@ fn joined(rt: &HostRuntime, parts: &[&[u8]]) -> Result<Vec<u8>, Fail> {
 /// The exit status shows whether each game that was used has its block.
 #[test]
 fn games_are_chosen_and_counted(rt: HostRuntime) -> Result<(), Fail> {
-    let both = joined(&rt, &[BLOCK, FAULT, b"# games 2, studies 1\n"])?;
-    let first = joined(&rt, &[BLOCK, b"# games 1, studies 1\n"])?;
-    let second = joined(&rt, &[FAULT, b"# games 1, studies 0\n"])?;
+    let both = join(&rt, &[BLOCK, FAULT, b"# games 2, studies 1\n"])?;
+    let first = join(&rt, &[BLOCK, b"# games 1, studies 1\n"])?;
+    let second = join(&rt, &[FAULT, b"# games 1, studies 0\n"])?;
     let mut games = MemoryReader::new(GAMES);
     check_ends(
         &rt,
-        chosen(1, u32::MAX),
+        options_of(1, u32::MAX),
         &mut games,
         both.as_slice(),
         1,
         b"",
     )?;
     let mut games = MemoryReader::new(GAMES);
-    check_ends(&rt, chosen(1, 1), &mut games, first.as_slice(), 0, b"")?;
+    check_ends(&rt, options_of(1, 1), &mut games, first.as_slice(), 0, b"")?;
     let mut games = MemoryReader::new(GAMES);
-    check_ends(&rt, chosen(2, 7), &mut games, second.as_slice(), 1, b"")?;
+    check_ends(&rt, options_of(2, 7), &mut games, second.as_slice(), 1, b"")?;
     let mut games = MemoryReader::new(GAMES);
     check_ends(
         &rt,
-        chosen(3, 7),
+        options_of(3, 7),
         &mut games,
         b"# games 0, studies 0\n",
         0,
@@ -130,14 +130,14 @@ fn each_read_may_fail(rt: HostRuntime) -> Result<(), Fail> {
 #[test]
 fn each_write_may_fail(rt: HostRuntime) -> Result<(), Fail> {
     let alloc = rt.alloc();
-    let whole = joined(&rt, &[BLOCK, FAULT, b"# games 2, studies 1\n"])?;
+    let whole = join(&rt, &[BLOCK, FAULT, b"# games 2, studies 1\n"])?;
     for room in 0..whole.len() {
         let mut games = MemoryReader::new(GAMES);
         let mut out = MemoryWriter::with_room(&alloc, room, WhenFull::Fail);
         let mut errors = MemoryWriter::new(&alloc);
         let ended = import_stream(
             &alloc,
-            &chosen(1, u32::MAX),
+            &options_of(1, u32::MAX),
             &mut games,
             &mut out,
             &mut errors,
@@ -153,7 +153,7 @@ fn each_write_may_fail(rt: HostRuntime) -> Result<(), Fail> {
 #[test]
 fn each_growth_of_a_run_may_be_refused(rt: HostRuntime) -> Result<(), Fail> {
     let alloc = rt.alloc();
-    let whole = joined(&rt, &[BLOCK, FAULT, b"# games 2, studies 1\n"])?;
+    let whole = join(&rt, &[BLOCK, FAULT, b"# games 2, studies 1\n"])?;
     let mut refused = 0usize;
     let mut done = false;
     for step in 0..2000usize {
@@ -163,7 +163,7 @@ fn each_growth_of_a_run_may_be_refused(rt: HostRuntime) -> Result<(), Fail> {
         let mut errors = MemoryWriter::new(&alloc);
         let ended = import_stream(
             &heap,
-            &chosen(1, u32::MAX),
+            &options_of(1, u32::MAX),
             &mut games,
             &mut out,
             &mut errors,
@@ -187,7 +187,7 @@ fn check_stops(rt: &HostRuntime, after: usize, wanted: &[u8]) -> Result<(), Fail
     let reported = b"studyimport: ReadDevice\n";
     check_ends(
         rt,
-        chosen(1, u32::MAX),
+        options_of(1, u32::MAX),
         &mut games,
         wanted,
         3,

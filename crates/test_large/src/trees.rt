@@ -21,8 +21,8 @@ fn put_insert<A: Allocator>(
     depth: usize,
     san: &str,
 ) {
-    put(rt, text, "insert ");
-    put(
+    append(rt, text, "insert ");
+    append(
         rt,
         text,
         if from.is_empty() && depth == 0 {
@@ -32,7 +32,7 @@ fn put_insert<A: Allocator>(
         },
     );
     for step in 0..depth {
-        put(
+        append(
             rt,
             text,
             if from.is_empty() && step == 0 {
@@ -42,12 +42,12 @@ fn put_insert<A: Allocator>(
             },
         );
     }
-    put(rt, text, " ");
-    put(rt, text, san);
-    put(rt, text, "\n");
+    append(rt, text, " ");
+    append(rt, text, san);
+    append(rt, text, "\n");
 }
 
-fn put<A: Allocator>(rt: &impl Abort, text: &mut Vec<u8, &A>, more: &str) {
+fn append<A: Allocator>(rt: &impl Abort, text: &mut Vec<u8, &A>, more: &str) {
     assert!(rt; text.extend_from_slice(more.as_bytes()).is_ok());
 }
 
@@ -93,12 +93,12 @@ fn no_files<'f, 'a, A: Allocator>(_alloc: &'a A) -> MemoryStore<'f, 'a, 'a, A> {
 fn a_tree_has_at_most_4096_nodes(rt: HostRuntime) -> Result<(), Fail> {
     let alloc = rt.alloc();
     let mut script = Vec::new(&alloc);
-    put(&rt, &mut script, KINGS);
+    append(&rt, &mut script, KINGS);
     assert_eq!(rt; put_comb(&rt, &mut script, "", 256, 2_048), 2_048);
-    put(&rt, &mut script, DETOURS);
+    append(&rt, &mut script, DETOURS);
     assert_eq!(rt; put_comb(&rt, &mut script, "1.0.0.0", 252, 2_016), 2_016);
     assert_eq!(rt; put_comb(&rt, &mut script, "2.0.0.0", 252, 25), 25);
-    put(&rt, &mut script, FULL);
+    append(&rt, &mut script, FULL);
     let mut writer = MemoryWriter::new(&alloc);
     let settings = Settings {
         pages: None,

@@ -145,7 +145,7 @@ fn has_cells(name: &str, text: &str) -> bool {
 }
 
 /// The numbers of the class that are decoded as positions, and how many of these have another index.
-fn counted(class: Class) -> (u32, u32) {
+fn count_numbers(class: Class) -> (u32, u32) {
     let (mut found, mut others) = (0u32, 0u32);
     for n in 0..cells(class) {
         if let Some(q) = decode(class, n) {
@@ -168,6 +168,6 @@ fn small_classes_have_as_many_positions_as_outside(rt: HostRuntime) {
         (Class::KNK, 53_806),
         (Class::KPK, 165_676),
     ] {
-        assert_eq!(rt; counted(class), (want, 0), "{}", class.name());
+        assert_eq!(rt; count_numbers(class), (want, 0), "{}", class.name());
     }
 }

@@ -4,7 +4,7 @@ use crate::rows::field;
 use std::process::Abort;
 use study_board::Position;
 use study_moves::{
-    Move, earlier, in_check, is_legal, is_mate, is_stalemate, solve, unmoved, unmoves,
+    Move, earlier, in_check, is_legal, is_mate, is_stalemate, position_before, solve, unmoves,
 };
 
 #[test]
@@ -45,7 +45,7 @@ fn expect_unmoves(rt: &impl Abort, row: &str) {
     let list = unmoves(&q);
     let mut words = field(row, 3).split_ascii_whitespace();
     for m in list.as_slice() {
-        let p = unmoved(&q, *m);
+        let p = position_before(&q, *m);
         assert!(rt; is_between(m, words.next()), "{row}");
         assert!(rt; is_before(&p, *m, before.as_slice()), "{row}");
     }

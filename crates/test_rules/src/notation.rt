@@ -242,7 +242,7 @@ const PLAYED: &str = "\
 k7/8/1K6/8/8/8/8/7R w - - 9999 9999,Ra1,k7/8/1K6/8/8/8/8/R7 b - - 10000 9999";
 
 /// The start after the move of this text.
-fn played(rt: &impl Abort, start: &Start, san: &str) -> Start {
+fn play(rt: &impl Abort, start: &Start, san: &str) -> Start {
     match read_san(&start.position, san) {
         Ok(m) => start.played(m),
         Err(fault) => panic!(rt; "{san}: {fault}"),
@@ -252,7 +252,7 @@ fn played(rt: &impl Abort, start: &Start, san: &str) -> Start {
 #[test]
 fn clocks_count_as_moves_are_played(rt: HostRuntime) {
     for row in PLAYED.lines() {
-        let next = played(&rt, &start(&rt, field(row, 0)), field(row, 1));
+        let next = play(&rt, &start(&rt, field(row, 0)), field(row, 1));
         assert!(rt; is_fen(&next, field(row, 2)), "{row}");
     }
     let most = Start {
@@ -260,7 +260,7 @@ fn clocks_count_as_moves_are_played(rt: HostRuntime) {
         clock: 65535,
         number: 65535,
     };
-    let next = played(&rt, &most, "Kb8");
+    let next = play(&rt, &most, "Kb8");
     assert!(rt; next.clock == 65535);
     assert!(rt; next.number == 65535);
     assert!(rt; is_fen(&next.copied(), "1k6/8/8/8/8/8/8/K7 w - - 65535 65535"));

@@ -40,7 +40,7 @@ const KINGS_NOT_HELD: &str =
 const KINGS_LOADED: &str = "loaded KK cells 1280\n";
 
 /// The parts, one after the other.
-fn joined(alloc: Global, parts: &[&str]) -> Result<String, Fail> {
+fn join(alloc: Global, parts: &[&str]) -> Result<String, Fail> {
     let mut text = String::new(alloc);
     for part in parts {
         text.push_str(part)?;
@@ -59,8 +59,8 @@ fn check(
     requires { IfSome pages (λ n. (1 ≤ n) × (n ≤ 4096)) }
 {
     let alloc = rt.alloc();
-    let lines = joined(alloc, script)?;
-    let wanted = joined(alloc, replies)?;
+    let lines = join(alloc, script)?;
+    let wanted = join(alloc, replies)?;
     let mut store = FolderStore::new(rt, &alloc, folder)?;
     let (taken, _answer) = replies_of(&alloc, &mut store, pages, lines.as_bytes());
     if taken.as_slice() == wanted.as_bytes() {

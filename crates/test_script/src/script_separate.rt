@@ -5,7 +5,7 @@ use std::process::Abort;
 use std::test::Fail;
 use study_material::Class;
 use study_prober::WholeTables;
-use study_report::{Lines, follow_script};
+use study_report::{Lines, write_report};
 use study_retro::{BuildRoom, build};
 use study_script::{RunFault, Settings, Summary, Tables, run};
 use study_table::TableSet;
@@ -147,7 +147,7 @@ fn entries_of(rt: &impl Abort, alloc: Global, text: &[u8]) -> Vec<u8> {
 }
 
 /// The text and the result of a report over the table of two kings.
-fn reported<'a>(
+fn report<'a>(
     rt: &impl Abort,
     alloc: &'a Global,
 ) -> (Vec<u8, &'a Global>, Result<Summary, RunFault>) {
@@ -158,7 +158,7 @@ fn reported<'a>(
     assert!(rt; set.add(table).is_ok());
     let tables: Tables<'_, MemorySource<'_>, Global> = Tables::Whole(WholeTables::new(set));
     let mut writer = MemoryWriter::new(alloc);
-    let answer = follow_script(
+    let answer = write_report(
         alloc,
         &mut MemoryReader::new(REPORTED),
         &mut writer,
@@ -171,7 +171,7 @@ fn reported<'a>(
 #[test]
 fn a_report_has_no_study_under_another_name(rt: HostRuntime) -> Result<(), Fail> {
     let alloc = rt.alloc();
-    let (text, answer) = reported(&rt, &alloc);
+    let (text, answer) = report(&rt, &alloc);
     let entries = entries_of(&rt, alloc, text.as_slice());
     assert!(rt; entries.as_slice() == ENTRIES.as_bytes());
     let wanted = Summary {

@@ -3,7 +3,7 @@ use crate::kings::two_kings;
 use std::alloc::Global;
 use std::process::Abort;
 use std::test::Fail;
-use study_list::follow_list;
+use study_list::write_list;
 use study_script::{RunFault, Summary};
 use study_text::{MemoryReader, MemoryWriter, WhenFull};
 
@@ -70,7 +70,7 @@ fn list_to<'a>(
     script: &str,
     mut writer: MemoryWriter<'a, Global>,
 ) -> (Vec<u8, &'a Global>, Result<Summary, RunFault>) {
-    let answer = follow_list(
+    let answer = write_list(
         alloc,
         &mut MemoryReader::new(script.as_bytes()),
         &mut writer,

@@ -3,7 +3,7 @@ use crate::kings::two_kings;
 use std::alloc::Global;
 use std::process::Abort;
 use std::test::Fail;
-use study_print::{Unwatched, follow_pages};
+use study_print::{Unwatched, write_pages};
 use study_script::{RunFault, Summary};
 use study_text::{MemoryReader, MemoryWriter, WhenFull};
 
@@ -49,7 +49,7 @@ pub fn pages_to<'a>(
     script: &[u8],
     mut writer: MemoryWriter<'a, Global>,
 ) -> (Vec<u8, &'a Global>, Result<Summary, RunFault>) {
-    let answer = follow_pages(
+    let answer = write_pages(
         alloc,
         &mut MemoryReader::new(script),
         &mut writer,

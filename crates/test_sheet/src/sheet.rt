@@ -4,7 +4,7 @@ use std::alloc::Global;
 use std::process::Abort;
 use std::test::Fail;
 use study_script::{RunFault, Summary};
-use study_sheet::follow_sheet;
+use study_sheet::write_sheet;
 use study_text::{MemoryReader, MemoryWriter, WhenFull};
 
 /// Two studies, of which the second begins with a move of Black and has no author, one without a move, a refused line, and remarks of studyimport,
@@ -51,7 +51,7 @@ fn sheet_to<'a>(
     alloc: &'a Global,
     mut writer: MemoryWriter<'a, Global>,
 ) -> (Vec<u8, &'a Global>, Result<Summary, RunFault>) {
-    let answer = follow_sheet(
+    let answer = write_sheet(
         alloc,
         &mut MemoryReader::new(SCRIPT.as_bytes()),
         &mut writer,

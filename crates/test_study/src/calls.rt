@@ -86,8 +86,8 @@ pub(crate) fn relabelled<A: Allocator>(bench: &Bench<'_, A>) -> u64 {
     bench.relabelled()
 }
 
-pub(crate) fn shown<A: Allocator>(bench: &Bench<'_, A>, steps: &[u16]) -> Option<NodeView> {
-    bench.shown(steps)
+pub(crate) fn node_view<A: Allocator>(bench: &Bench<'_, A>, steps: &[u16]) -> Option<NodeView> {
+    bench.node_view(steps)
 }
 
 pub(crate) fn root<'t, 'a, A: Allocator>(bench: &'t Bench<'a, A>) -> MarkedNode<'t, 'a, A> {

@@ -131,7 +131,7 @@ fn expect_stalemate<'a, A: Allocator>(rt: &impl Abort, alloc: &'a A, bench: &Ben
     let stalemate = move_of(rt, bench, &Path::root(alloc), "Qh2");
     assert!(rt; calls::children(bench, &second) == Some(0));
     assert!(rt; calls::move_at(bench, &second) == Some(stalemate));
-    let shown = calls::shown(bench, &[1]).expect(rt, "a node");
+    let shown = calls::node_view(bench, &[1]).expect(rt, "a node");
     assert!(rt; shown.played == Some(stalemate) && shown.mark == MISTAKE && shown.children == 0);
     let start = calls::start_at(bench, &second).expect(rt, "a node");
     expect_fen(rt, &start, "k7/8/1K6/8/8/8/7Q/8 b - - 1 1");
@@ -157,7 +157,7 @@ fn readers_tell_what_was_put_in(rt: HostRuntime) {
     assert!(rt; calls::size(&bench) == 1 && calls::relabelled(&bench) == 1);
 }
 
-fn moved(origin: u8, target: u8) -> Move {
+fn move_between(origin: u8, target: u8) -> Move {
     Move {
         origin: Square::at(origin % 64),
         target: Square::at(target % 64),
@@ -212,7 +212,7 @@ fn lent_nodes_show_moves_and_marks(rt: HostRuntime) {
     assert_eq!(rt; node.mark(), LINE_ROOT);
     for (origin, target, mark) in LINE_MOVES {
         let child = calls::child(&node, 0).expect(&rt, "a child");
-        assert!(rt; child.played == moved(origin, target));
+        assert!(rt; child.played == move_between(origin, target));
         assert_eq!(rt; child.node.mark(), mark);
         node = child.node;
     }
@@ -223,7 +223,7 @@ fn lent_nodes_show_moves_and_marks(rt: HostRuntime) {
 fn inserts_of<'a>(rt: &impl Abort, alloc: &'a Global, targets: [u8; 3]) -> Vec<Edit<'a, Global>> {
     let mut inserts = Vec::new(*alloc);
     for target in targets {
-        let insert = Edit::Insert(Path::root(alloc), moved(6, target));
+        let insert = Edit::Insert(Path::root(alloc), move_between(6, target));
         assert!(rt; inserts.push(insert).is_ok());
     }
     inserts
@@ -339,7 +339,7 @@ fn trial<'a, V: Values>(
     values: &mut V,
 ) -> Result<Mark, Refusal<'a, Global>> {
     let at = path_of(rt, alloc, steps);
-    calls::mark_of(bench, &at, moved(origin, target), values)
+    calls::mark_of(bench, &at, move_between(origin, target), values)
 }
 
 /// The move to this square has this mark.
@@ -378,7 +378,7 @@ fn a_move_not_in_the_tree_has_the_mark_it_would_get(rt: HostRuntime) {
     let mut values = tables_of(&rt, &alloc, &[Class::KK, Class::KQK]);
     let mut bench = QUEEN.root(&rt, &alloc, &mut values);
     let root = Path::root(&alloc);
-    assert!(rt; calls::insert(&mut bench, &root, moved(6, 54), &mut values).ok() == Some(0));
+    assert!(rt; calls::insert(&mut bench, &root, move_between(6, 54), &mut values).ok() == Some(0));
     let asked = values.asked();
     expect_trials(&rt, &alloc, &bench, TRIALS, &mut values);
     assert_eq!(rt; calls::size(&bench), 2);

@@ -175,7 +175,7 @@ impl Subject {
 
     /// Makes edits over values or memory that may fail. If they stop, the study is the one after as many of the same edits over sound values and
     /// ample memory.
-    pub(crate) fn edited<'a, 'g, A: Allocator, V: Values, W: Values>(
+    pub(crate) fn apply_edits<'a, 'g, A: Allocator, V: Values, W: Values>(
         &self,
         rt: &impl Abort,
         (room, edits): (&'a A, &[Edit<'a, A>]),
@@ -292,7 +292,7 @@ fn stop_of<'g, V: Values, W: Values>(
     let heap = LocalHeap::new(*alloc, size)?;
     let edits = Subject::Corners.edits(rt, *alloc, &heap, sound);
     let list = (&heap, edits.as_slice());
-    match Subject::Corners.edited(rt, list, (alloc, same), values, sound) {
+    match Subject::Corners.apply_edits(rt, list, (alloc, same), values, sound) {
         Ok(()) => Ok(None),
         Err(stopped) => {
             assert!(rt; matches!(stopped.refusal, Refusal::OutOfMemory));

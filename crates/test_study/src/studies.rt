@@ -144,10 +144,10 @@ pub(crate) fn game_of<A: Allocator>(
 ) -> Vec<u8> {
     let mut writer = calls::writer(&alloc);
     assert!(rt; calls::write(&alloc, bench, &mut writer).is_ok());
-    copied(rt, alloc, writer.taken.as_slice())
+    copy(rt, alloc, writer.taken.as_slice())
 }
 
-fn copied(rt: &impl Abort, alloc: Global, bytes: &[u8]) -> Vec<u8> {
+fn copy(rt: &impl Abort, alloc: Global, bytes: &[u8]) -> Vec<u8> {
     bytes.to_vec(alloc).ok().expect(rt, "memory")
 }
 

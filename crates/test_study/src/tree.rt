@@ -71,7 +71,10 @@ fn relabelled<A: Allocator>(tree: &Tree<'_, u32, A>) -> u64 {
 type Row = (&'static [u16], Option<usize>, u32, u16);
 
 /// The node at the path: its move, its label and the number of its children.
-fn shown<A: Allocator>(tree: &Tree<'_, u32, A>, steps: &[u16]) -> Option<(Option<Move>, u32, u16)> {
+fn node_at<A: Allocator>(
+    tree: &Tree<'_, u32, A>,
+    steps: &[u16],
+) -> Option<(Option<Move>, u32, u16)> {
     match tree.node(steps) {
         Some(node) => Some((node.played, *node.label, node.children)),
         None => None,
@@ -86,7 +89,7 @@ fn expect_rows<A: Allocator>(rt: &impl Abort, tree: &Tree<'_, u32, A>, rows: &[R
             Some(turn) => Some(king_move(*turn)),
         };
         let wanted = Some((played, *label, *children));
-        assert!(rt; shown(tree, steps) == wanted, "{steps:?}");
+        assert!(rt; node_at(tree, steps) == wanted, "{steps:?}");
     }
     assert!(rt; size(tree) == rows.len());
 }

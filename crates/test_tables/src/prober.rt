@@ -15,7 +15,7 @@ use study_text::MemoryWriter;
 use study_values::{FileFault, ProbeFault, SourceFault, Values, cells};
 
 /// A table whose cells differ at the same place of two pages, and for two seeds.
-fn patterned<'a, A: Allocator>(
+fn pattern_table<'a, A: Allocator>(
     rt: &impl Abort,
     alloc: &'a A,
     class: Class,
@@ -134,7 +134,7 @@ fn position_on(rt: &impl Abort, class: Class, page: u32) -> Position {
 }
 
 /// A loaded table whose file is in memory.
-fn paged<'a, A: Allocator>(
+fn open_paged<'a, A: Allocator>(
     rt: &impl Abort,
     alloc: &'a A,
     pages: u16,
@@ -143,12 +143,12 @@ fn paged<'a, A: Allocator>(
 ) -> PagedTables<'a, File, A> {
     assert!(rt; 1 <= pages && pages <= 4096);
     let mut tables = PagedTables::new(alloc, pages).ok().expect(rt, "a cache");
-    assert!(rt; added(&mut tables, class, file).is_ok());
+    assert!(rt; add_source(&mut tables, class, file).is_ok());
     tables
 }
 
 /// The result for one more source.
-fn added<A: Allocator>(
+fn add_source<A: Allocator>(
     tables: &mut PagedTables<'_, File, A>,
     class: Class,
     file: File,
@@ -182,7 +182,7 @@ fn values_by_one_page_are_those_of_the_whole_table(rt: HostRuntime) {
     let alloc = rt.alloc();
     let set = set_of(&rt, &alloc, &[Class::KK, Class::KRK]);
     let file = file_of(&rt, alloc, set.table(Class::KRK).expect(&rt, "held"));
-    let mut tables = paged(&rt, &alloc, 1, Class::KRK, file);
+    let mut tables = open_paged(&rt, &alloc, 1, Class::KRK, file);
     let mut whole = WholeTables::new(set);
     expect_alike(&rt, &mut tables, &mut whole);
 }
@@ -210,11 +210,11 @@ fn pages_with_positions(class: Class) -> u32 {
 
 /// The number of probes that fail if a position of each page is probed twice, and the source fails once, after it delivered each page.
 fn failures_at_the_second_turn(rt: &impl Abort, alloc: Global, class: Class, room: u16) -> u64 {
-    let table = patterned(rt, &alloc, class, 0);
+    let table = pattern_table(rt, &alloc, class, 0);
     let asked = u64::from(pages_with_positions(class));
     let mut file = file_of(rt, alloc, &table);
     file.fails_at = Some(1 + asked);
-    let mut tables = paged(rt, &alloc, room, class, file);
+    let mut tables = open_paged(rt, &alloc, room, class, file);
     let mut refused = 0u64;
     for _ in 0..2u8 {
         for page in 0..cells(class).div_ceil(4096) {
@@ -261,9 +261,9 @@ fn has_only_kings<V: Values>(values: &mut V, p: &Position) -> bool {
 #[test]
 fn a_class_that_is_not_held_has_no_table(rt: HostRuntime) {
     let alloc = rt.alloc();
-    let table = patterned(&rt, &alloc, Class::KK, 0);
+    let table = pattern_table(&rt, &alloc, Class::KK, 0);
     let file = file_of(&rt, alloc, &table);
-    let mut tables = paged(&rt, &alloc, 3, Class::KK, file);
+    let mut tables = open_paged(&rt, &alloc, 3, Class::KK, file);
     let mut whole = whole_of(&rt, &alloc, table);
     assert!(rt; whole.tables().has(Class::KK));
     let p = position_on(&rt, Class::KQK, 0);
@@ -287,12 +287,12 @@ fn are_apart<V: Values, A: Allocator>(
 #[test]
 fn pages_of_two_classes_are_kept_apart(rt: HostRuntime) {
     let alloc = rt.alloc();
-    let rook = patterned(&rt, &alloc, Class::KRK, 0);
-    let queen = patterned(&rt, &alloc, Class::KQK, 100);
+    let rook = pattern_table(&rt, &alloc, Class::KRK, 0);
+    let queen = pattern_table(&rt, &alloc, Class::KQK, 100);
     for room in [1, 2, 40] {
-        let mut tables = paged(&rt, &alloc, room, Class::KRK, file_of(&rt, alloc, &rook));
+        let mut tables = open_paged(&rt, &alloc, room, Class::KRK, file_of(&rt, alloc, &rook));
         let file = file_of(&rt, alloc, &queen);
-        assert!(rt; added(&mut tables, Class::KQK, file).is_ok());
+        assert!(rt; add_source(&mut tables, Class::KQK, file).is_ok());
         for page in [0, 7, 19, 7, 0] {
             assert!(rt; are_apart(&rt, &mut tables, &rook, &queen, page), "{page}");
         }
@@ -341,7 +341,7 @@ fn takes<A: Allocator, H: Allocator>(
     file: File,
     step: usize,
 ) -> bool {
-    match added(tables, Class::KRK, file) {
+    match add_source(tables, Class::KRK, file) {
         Err(fault) => {
             assert!(rt; fault == PagedFault::OutOfMemory, "{step}: {fault}");
             assert!(rt; !tables.holds(Class::KRK), "{step}");
@@ -358,7 +358,7 @@ fn takes<A: Allocator, H: Allocator>(
 #[test]
 fn each_growth_is_refused_and_values_stay_right(rt: HostRuntime) {
     let alloc = rt.alloc();
-    let table = patterned(&rt, &alloc, Class::KRK, 0);
+    let table = pattern_table(&rt, &alloc, Class::KRK, 0);
     let (mut made, mut held) = (0u32, 0u32);
     for step in 0..120usize {
         let heap = LocalHeap::new(alloc, 64 + step * 256)
@@ -400,11 +400,11 @@ fn fails_once<V: Values, A: Allocator>(
 #[test]
 fn a_page_that_is_not_read_is_reported_once(rt: HostRuntime) {
     let alloc = rt.alloc();
-    let table = patterned(&rt, &alloc, Class::KRK, 0);
+    let table = pattern_table(&rt, &alloc, Class::KRK, 0);
     for bad in 0..20u32 {
         let mut file = file_of(&rt, alloc, &table);
         file.fails_at = Some(1 + u64::from(bad));
-        let mut tables = paged(&rt, &alloc, 1, Class::KRK, file);
+        let mut tables = open_paged(&rt, &alloc, 1, Class::KRK, file);
         fails_once(&rt, &mut tables, &table, bad);
     }
 }
@@ -428,11 +428,11 @@ fn is_reported<V: Values, A: Allocator>(
 #[test]
 fn a_damaged_page_is_reported_each_time(rt: HostRuntime) {
     let alloc = rt.alloc();
-    let table = patterned(&rt, &alloc, Class::KRK, 0);
+    let table = pattern_table(&rt, &alloc, Class::KRK, 0);
     let mut file = file_of(&rt, alloc, &table);
     file.turn(64 + 4128 * 5 + 7);
     assert!(rt; file.text.pop().is_some());
-    let mut tables = paged(&rt, &alloc, 8, Class::KRK, file);
+    let mut tables = open_paged(&rt, &alloc, 8, Class::KRK, file);
     for _ in 0..2u8 {
         for page in 0..20u32 {
             assert!(rt; is_reported(&rt, &mut tables, &table, page), "{page}");
@@ -458,11 +458,11 @@ fn expect_read_again<V: Values, A: Allocator>(
 #[test]
 fn a_damaged_page_is_read_again(rt: HostRuntime) {
     let alloc = rt.alloc();
-    let table = patterned(&rt, &alloc, Class::KK, 0);
+    let table = pattern_table(&rt, &alloc, Class::KK, 0);
     let mut file = file_of(&rt, alloc, &table);
     file.turn(73);
     file.turns = Some(73);
-    let mut tables = paged(&rt, &alloc, 2, Class::KK, file);
+    let mut tables = open_paged(&rt, &alloc, 2, Class::KK, file);
     expect_read_again(&rt, &mut tables, &table);
 }
 
@@ -479,7 +479,7 @@ fn expect_refused<A: Allocator>(
     file: File,
     fault: PagedFault,
 ) {
-    assert!(rt; added(tables, class, file) == Err(fault), "{fault}");
+    assert!(rt; add_source(tables, class, file) == Err(fault), "{fault}");
     assert!(rt; has_only_rook(tables), "{fault}");
 }
 
@@ -487,8 +487,8 @@ fn expect_refused<A: Allocator>(
 #[test]
 fn the_first_fault_of_a_source_is_reported(rt: HostRuntime) {
     let alloc = rt.alloc();
-    let table = patterned(&rt, &alloc, Class::KRK, 0);
-    let mut tables = paged(&rt, &alloc, 1, Class::KRK, file_of(&rt, alloc, &table));
+    let table = pattern_table(&rt, &alloc, Class::KRK, 0);
+    let mut tables = open_paged(&rt, &alloc, 1, Class::KRK, file_of(&rt, alloc, &table));
     let device = PagedFault::TableRead(SourceFault::Device);
     let not_a_table = PagedFault::Header(FileFault::NotATable);
     let rows = [
@@ -521,8 +521,8 @@ fn the_first_fault_of_a_source_is_reported(rt: HostRuntime) {
 #[test]
 fn the_first_fault_of_a_header_is_reported(rt: HostRuntime) {
     let alloc = rt.alloc();
-    let table = patterned(&rt, &alloc, Class::KRK, 0);
-    let mut tables = paged(&rt, &alloc, 1, Class::KRK, file_of(&rt, alloc, &table));
+    let table = pattern_table(&rt, &alloc, Class::KRK, 0);
+    let mut tables = open_paged(&rt, &alloc, 1, Class::KRK, file_of(&rt, alloc, &table));
     let rows = [
         (8usize, 8usize, FileFault::Version(3)),
         (8, 16, FileFault::Version(3)),
@@ -561,8 +561,8 @@ fn expect_answered_next<V: Values, A: Allocator>(
 #[test]
 fn a_question_that_failed_is_answered_next(rt: HostRuntime) {
     let alloc = rt.alloc();
-    let table = patterned(&rt, &alloc, Class::KK, 0);
-    let tables = paged(&rt, &alloc, 1, Class::KK, file_of(&rt, alloc, &table));
+    let table = pattern_table(&rt, &alloc, Class::KK, 0);
+    let tables = open_paged(&rt, &alloc, 1, Class::KK, file_of(&rt, alloc, &table));
     let mut values = FailingValues::new(tables, 1);
     expect_answered_next(&rt, &mut values, &table);
 }

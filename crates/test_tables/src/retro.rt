@@ -1,6 +1,6 @@
 //! The tables of up to three men, against those of an independent builder.
 use crate::rows::{byte, class, field, number};
-use crate::tables::{built, changed, is_verified, set_of, table_of};
+use crate::tables::{build_table, change_cell, is_verified, set_of, table_of};
 use sha2::{Digest, Sha256};
 use std::alloc::Allocator;
 use std::process::Abort;
@@ -63,7 +63,7 @@ fn tables_of_up_to_three_men_are_those_of_another_builder(rt: HostRuntime) {
     for row in ROWS.lines() {
         let class = class(&rt, field(row, 0));
         assert!(rt; !tables.ready(Class::KPK) || class == Class::KPK, "{row}");
-        let report = built(&rt, &alloc, &mut tables, class);
+        let report = build_table(&rt, &alloc, &mut tables, class);
         assert!(rt; is_report(&rt, &report, row), "{row}");
         assert!(rt;
             report.examined == u64::from(number(&rt, field(row, 4))),
@@ -150,7 +150,7 @@ fn liar<'a, A: Allocator>(
     let is = cell_of(rt, tables, class, number);
     assert!(rt; byte(field(row, 2)) == Some(is), "{row}");
     let lie = byte(field(row, 3)).expect(rt, "a cell");
-    changed(rt, alloc, tables, class, number, lie)
+    change_cell(rt, alloc, tables, class, number, lie)
 }
 
 /// A built table is verified; one with a slower mate, a false draw, a stalemate as a mate, or a byte for a number without a position, is not.

@@ -1,7 +1,7 @@
 //! The text of a table, read back and damaged.
 use crate::texts::{
-    KK, are_equal, digest, exchanged, fault, has_fault, one_page, read, text_of, text_of_kk,
-    written, zero_table,
+    KK, are_equal, digest, exchange_pages, fault, has_fault, one_page, read, text_of, text_of_kk,
+    text_of_table, zero_table,
 };
 use std::alloc::Allocator;
 use std::io::ErrorKind;
@@ -97,7 +97,7 @@ fn version_1_is_read_and_version_2_written(rt: HostRuntime) {
     let alloc = rt.alloc();
     let page = [0u8; 4096];
     let text = one_page(&rt, &alloc, KK_BEFORE, KK_BEFORE, page.as_slice());
-    let again = written(&rt, &alloc, &read(&rt, &alloc, text.as_slice()));
+    let again = text_of_table(&rt, &alloc, &read(&rt, &alloc, text.as_slice()));
     assert!(rt; again.as_slice() == text_of_kk(&rt, &alloc).as_slice());
     let mixed = one_page(&rt, &alloc, KK, KK_BEFORE, page.as_slice());
     assert!(rt; has_fault(&alloc, mixed.as_slice(), FileFault::PageDamaged(0)));
@@ -316,7 +316,7 @@ fn faults_have_texts(rt: HostRuntime) -> Result<(), Fail> {
 fn exchanged_pages_are_reported(rt: HostRuntime) {
     let alloc = rt.alloc();
     let text = text_of(&rt, &alloc, Class::KRK);
-    let wrong = exchanged(&rt, &alloc, text.as_slice());
+    let wrong = exchange_pages(&rt, &alloc, text.as_slice());
     let mut reader = MemoryReader::new(wrong.as_slice());
     let answer = read_table(&alloc, &mut reader).err();
     assert!(rt; answer == Some(FileFault::PageDamaged(3)));

@@ -1,6 +1,6 @@
 //! A built table, written to a file, read back and damaged.
-use crate::tables::{changed, is_verified, set_of};
-use crate::texts::{are_same, exchanged, has_fault, read, written};
+use crate::tables::{change_cell, is_verified, set_of};
+use crate::texts::{are_same, exchange_pages, has_fault, read, text_of_table};
 use std::alloc::Allocator;
 use std::process::Abort;
 use std::test::Fail;
@@ -9,7 +9,7 @@ use study_values::FileFault;
 
 /// Texts derived from this one, which is whole, have their faults.
 fn expect_faults<A: Allocator>(rt: &impl Abort, alloc: &A, text: &[u8]) {
-    let wrong = exchanged(rt, alloc, text);
+    let wrong = exchange_pages(rt, alloc, text);
     assert!(rt; has_fault(alloc, wrong.as_slice(), FileFault::PageDamaged(3)));
     let (_, prefix) = text.split_last().expect(rt, "a byte");
     assert!(rt; has_fault(alloc, prefix, FileFault::Cut));
@@ -21,7 +21,7 @@ fn the_table_of_krk_is_read_as_it_was_written(rt: HostRuntime) -> Result<(), Fai
     let alloc = rt.alloc();
     let tables = set_of(&rt, &alloc, &[Class::KK, Class::KRK]);
     let table = tables.table(Class::KRK).expect(&rt, "held");
-    let mut text = written(&rt, &alloc, table);
+    let mut text = text_of_table(&rt, &alloc, table);
     assert!(rt; text.len() == 82_624);
     assert!(rt; text.get(8) == Some(&2));
     assert!(rt; text.get(9) == Some(&0));
@@ -44,8 +44,8 @@ fn a_lying_table_is_read_and_not_verified(rt: HostRuntime) {
     let alloc = rt.alloc();
     let tables = set_of(&rt, &alloc, &[Class::KK, Class::KRK]);
     for (cell, right) in [(2, true), (4, false)] {
-        let table = changed(&rt, &alloc, &tables, Class::KRK, 20_543, cell);
-        let text = written(&rt, &alloc, &table);
+        let table = change_cell(&rt, &alloc, &tables, Class::KRK, 20_543, cell);
+        let text = text_of_table(&rt, &alloc, &table);
         let read = read(&rt, &alloc, text.as_slice());
         assert!(rt; is_verified(&rt, &read, &tables) == right, "{cell}");
     }

@@ -18,7 +18,7 @@ pub fn table_of<'a, A: Allocator>(
 }
 
 /// Builds a table and adds it to the set; returns the report.
-pub fn built<'a, A: Allocator>(
+pub fn build_table<'a, A: Allocator>(
     rt: &impl Abort,
     alloc: &'a A,
     tables: &mut TableSet<'a, A>,
@@ -37,13 +37,13 @@ pub fn set_of<'a, A: Allocator>(
 ) -> TableSet<'a, A> {
     let mut tables = TableSet::new(alloc).ok().expect(rt, "a set");
     for class in classes {
-        let _report = built(rt, alloc, &mut tables, *class);
+        let _report = build_table(rt, alloc, &mut tables, *class);
     }
     tables
 }
 
 /// A copy of the loaded table with one cell changed.
-pub fn changed<'a, A: Allocator>(
+pub fn change_cell<'a, A: Allocator>(
     rt: &impl Abort,
     alloc: &'a A,
     tables: &TableSet<'a, A>,

@@ -38,7 +38,7 @@ pub fn zero_table<'a, A: Allocator>(rt: &impl Abort, alloc: &'a A, class: Class)
 }
 
 /// The text of a table.
-pub fn written<'a, A: Allocator>(
+pub fn text_of_table<'a, A: Allocator>(
     rt: &impl Abort,
     alloc: &'a A,
     table: &Table<'_, A>,
@@ -97,7 +97,7 @@ pub fn one_page<'a, A: Allocator>(
 
 /// The text of a table with zero cells.
 pub fn text_of<'a, A: Allocator>(rt: &impl Abort, alloc: &'a A, class: Class) -> Vec<u8, &'a A> {
-    written(rt, alloc, &zero_table(rt, alloc, class))
+    text_of_table(rt, alloc, &zero_table(rt, alloc, class))
 }
 
 /// The text of the table of KK with zero cells, by the description of the format.
@@ -109,7 +109,11 @@ pub fn text_of_kk<'a, A: Allocator>(rt: &impl Abort, alloc: &'a A) -> Vec<u8, &'
 }
 
 /// A text of 20 pages with pages 3 and 4 exchanged.
-pub fn exchanged<'a, A: Allocator>(rt: &impl Abort, alloc: &'a A, text: &[u8]) -> Vec<u8, &'a A> {
+pub fn exchange_pages<'a, A: Allocator>(
+    rt: &impl Abort,
+    alloc: &'a A,
+    text: &[u8],
+) -> Vec<u8, &'a A> {
     assert!(rt; text.len() == 82_624);
     let (head, pages) = text.split_at(64 + 3 * 4128);
     let (third, others) = pages.split_at(4128);

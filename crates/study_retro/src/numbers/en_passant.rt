@@ -16,7 +16,7 @@ use arrayvec::ArrayVec;
 use study_board::{Man, Position, Square, SquareSet};
 use study_index::{decode, index, index_after_move};
 use study_material::Class;
-use study_moves::{Move, played, unmoved, unmoves};
+use study_moves::{Move, played, position_before, unmoves};
 use study_values::{EN_PASSANT_BIT, cells};
 
 /// The numbers of the positions from which a quiet move leads to the position of this number.
@@ -83,7 +83,7 @@ fn leads_to_number(class: Class, at: &Position, number: u32, by: &Move) -> bool
     if !has_both_pawns(class) {
         return true;
     }
-    leads_to(at, &unmoved(at, *by), *by, number)
+    leads_to(at, &position_before(at, *by), *by, number)
 }
 
 /// Whether the quiet move of the man from the square leads to the position of the number, if no capture in passing is legal in that position.

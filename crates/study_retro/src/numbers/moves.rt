@@ -38,7 +38,7 @@ pub fn reaches_last_rank(man: &Man, target: Square) -> bool
 
 /// The squares with a man.
 #[inline]
-pub fn occupied(men: &[Man]) -> SquareSet
+pub fn occupied_squares(men: &[Man]) -> SquareSet
     ensures { (x : ℕ) → x < 64 → has result x ≡ is_occupied men.now x }
 {
     let mut set = SquareSet::empty();
@@ -166,7 +166,7 @@ pub fn quiet_moves_of<A: Allocator>(
         };
     }
     let men = setup.men.as_slice();
-    let free = safe_targets(men, setup.to_move, man).without(occupied(men));
+    let free = safe_targets(men, setup.to_move, man).without(occupied_squares(men));
     let departure = IndexAfterMove::new(game.class, number, man.at, slot);
     for target in free {
         if !loses_after(game, cells, &departure, mover, target, level) {

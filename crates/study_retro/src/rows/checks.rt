@@ -9,7 +9,7 @@ ghost use Rattle.study_board.specs.Position.{in_check};
 ghost use Rattle.study_board.specs.Sets.{has, is_slider};
 ghost use Rattle.study_retro.specs.RowMoves.{AreAttackers, AreChecks, AreOnDistinctSquares, AreRest, IsOnlyKing, attacked_with_last};
 ghost use Rattle.study_retro.specs.RowMoves.{keeps_attack_past, keeps_attack_with, gone_to, king_attacked_with, does_not_block};
-ghost use Rattle.study_retro.specs.Still.{facing, on_square};
+ghost use Rattle.study_retro.specs.Still.{opposing_man, on_square};
 
 use arrayvec::ArrayVec;
 use study_board::{Kind, Man, Side, Square, SquareSet, attacks, between};
@@ -80,7 +80,7 @@ fn squares_attacking(others: &[Man], by: Side, x: Square) -> SquareSet
 fn squares_of_last(others: &[Man], last: &Man, by: Side, x: Square) -> SquareSet
     ensures { (y : ℕ) → y < 64
         → has result y
-        ≡ (same_side last.now.side by && attacks_square others.now (facing last.now x) y) }
+        ≡ (same_side last.now.side by && attacks_square others.now (opposing_man last.now x) y) }
 {
     if last.side != by {
         return SquareSet::empty();
@@ -385,9 +385,9 @@ fn squares_of_last_past(
     x: Square,
 ) -> SquareSet
     requires { (y : ℕ) → y < 64 → has checks y ≡ true
-        → attacks_square [] (facing last.now x) y ≡ true }
+        → attacks_square [] (opposing_man last.now x) y ≡ true }
     ensures { (y : ℕ) → y < 64
-        → has result y ≡ (has checks y && does_not_block (facing last.now x) y to) }
+        → has result y ≡ (has checks y && does_not_block (opposing_man last.now x) y to) }
 {
     if !last.kind.is_slider() {
         return checks;
@@ -436,7 +436,7 @@ fn with_man_on(others: &[Man], from: Square, to: Square) -> ArrayVec<Man, 4>
 {
     let mut list = ArrayVec::new();
     for man in others {
-        list.push(man.moved(from, to));
+        list.push(man.moved_if(from, to));
     }
     list
 }

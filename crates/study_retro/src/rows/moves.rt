@@ -10,7 +10,7 @@ ghost use Rattle.study_moves.specs.Unmoves.{is_unmove_origin, comes};
 ghost use Rattle.study_retro.specs.RowMoves.{AreOnDistinctSquares, goes_quietly, does_not_interfere};
 ghost use Rattle.study_retro.specs.Still.{on_square};
 
-use crate::numbers::moves::occupied;
+use crate::numbers::moves::occupied_squares;
 use crate::rows::checks::{CheckInfo, squares_of_check_after};
 use study_board::{Kind, Man, Side, Square, SquareSet, attacks, between};
 use study_moves::{origins_of_kind, pawn_step_targets};
@@ -62,7 +62,7 @@ pub fn targets_among(others: &[Man], man: &Man) -> SquareSet
     if man.kind == Kind::Pawn {
         pawn_step_targets(others, man.side, man.at)
     } else {
-        attacks(others, man).without(occupied(others))
+        attacks(others, man).without(occupied_squares(others))
     }
 }
 

@@ -7,10 +7,10 @@ ghost use Rattle.study_board.specs.Men.{attacks_square, other_side};
 ghost use Rattle.study_board.specs.Position.{Position as Seen, in_check, is_occupied};
 ghost use Rattle.study_board.specs.Sets.{has};
 ghost use Rattle.study_index.specs.Computed.{position_numbered};
-ghost use Rattle.study_retro.specs.Still.{AreQuietPositions, AreStillOrNone, IsQuietPosition, facing, is_capturable_or_promotes, has_forcing_move};
+ghost use Rattle.study_retro.specs.Still.{AreQuietPositions, AreStillOrNone, IsQuietPosition, opposing_man, is_capturable_or_promotes, has_forcing_move};
 ghost use Rattle.study_retro.specs.Still.{is_relevant_target, on_square, rank_before_last};
 
-use crate::numbers::moves::occupied;
+use crate::numbers::moves::occupied_squares;
 use crate::numbers::quiet::{
     attacked_squares, has_king_in, has_man_in, may_promote, rank_before_last,
 };
@@ -33,7 +33,7 @@ fn squares_against(last: &Man, to_move: Side, m: &Man) -> SquareSet
     ensures { (y : ℕ) → y < 64
         → has result y
         ≡ (is_relevant_target last.now to_move m.now
-        && attacks_square [] (facing last.now m.now.at) y) }
+        && attacks_square [] (opposing_man last.now m.now.at) y) }
 {
     if !is_relevant_target(last, to_move, m) {
         return SquareSet::empty();
@@ -52,7 +52,7 @@ fn squares_bearing(others: &[Man], last: &Man, to_move: Side) -> SquareSet
     ensures { (y : ℕ) → y < 64
         → has result y ≡ list_any (λ m.
         is_relevant_target last.now to_move m
-        && attacks_square [] (facing last.now m.at) y) others.now }
+        && attacks_square [] (opposing_man last.now m.at) y) others.now }
 {
     let mut set = SquareSet::empty();
     for m in others {
@@ -144,7 +144,7 @@ fn undecided_squares(others: &[Man], last: &Man, to_move: Side) -> SquareSet
 {
     still_squares(others, last, to_move)
         .union(squares_without_position(others, last, to_move))
-        .union(occupied(others))
+        .union(occupied_squares(others))
 }
 
 /// Squares of the man of the last slot in a row of numbers with which nothing is known before the levels.

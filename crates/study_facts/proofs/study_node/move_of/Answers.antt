@@ -1,12 +1,12 @@
 use Rattle.std.proofs.Common.{◌≡◌, ◌+◌, ◌-◌, ◌&&◌, length, ap, ◌∙◌, arith}
 use Rattle.study_tree.proofs.TreeDepth.{within-length}
-use Rattle.study_marks.specs.BenchState.{marked}
+use Rattle.study_marks.specs.BenchState.{marked_study}
 use Rattle.study_facts.proofs.Stands.{arrival-played, arrival-there, arrival-value, arrival-mark, legal-before, node-before, solution-move}
 use Rattle.study_facts.proofs.study_node.move_of.Goals as goal
 
 pub returns-clause-made : goal.returns-clause-made
 returns-clause-made g c =
-    let s = marked c.args.bench.now in
+    let s = marked_study c.args.bench.now in
     let step = c.args.step.now in
     let steps = step.steps.now in
     let one : length steps - 1 + 1 ≡ length steps = omega (arith, c.requires.some) in

@@ -1,12 +1,12 @@
 use Rattle.std.proofs.Common.{◌≡◌, ◌+◌, ◌-◌, ◌&&◌, ◌||◌, length, refl, ap, ◌∙◌, arith}
-use Rattle.study_marks.specs.BenchState.{marked}
+use Rattle.study_marks.specs.BenchState.{marked_study}
 use Rattle.study_facts.specs.Nodes.{is_mistake, is_idle}
 use Rattle.study_facts.proofs.Stands.{arrival-there, arrival-value, arrival-children, arrival-mark, tried-move}
 use Rattle.study_facts.proofs.study_node.node_after.Goals as goal
 
 pub returns-clause-node : goal.returns-clause-node
 returns-clause-node g c =
-    let s = marked c.args.bench.now in
+    let s = marked_study c.args.bench.now in
     let step = c.args.step.now in
     let steps = step.steps.now in
     let mark = step.by.mark.on_move in

@@ -1,6 +1,6 @@
 use Rattle.std.proofs.Common.{◌≡◌, ◌<◌, ℕ, List, [], ◌∷◌, ◌++◌, length, sym, ap, subst, ◌∙◌, arith, length-append}
 use Rattle.study_tree.specs.Tree.{spot_at}
-use Rattle.study_marks.specs.BenchState.{marked}
+use Rattle.study_marks.specs.BenchState.{marked_study}
 use Rattle.study_facts.specs.Line.{line_to}
 use Rattle.study_facts.specs.Nodes.{parent_path}
 use Rattle.study_facts.specs.WalkState.{arrival_of, IsStateAt}
@@ -10,12 +10,12 @@ use Rattle.study_facts.proofs.walk.add_reached.Goals as goal
 pub last_state-requires : goal.last_state-requires
 last_state-requires g c =
     let at = c.requires.states in
-    at-some (marked c.args.bench.now) at.front c.args.trail.now.states.items at.at
+    at-some (marked_study c.args.bench.now) at.front c.args.trail.now.states.items at.at
 
 pub add_node-requires : goal.add_node-requires
 add_node-requires g c =
     let at = c.requires.states in
-    let s = marked c.args.bench.now in
+    let s = marked_study c.args.bench.now in
     let path = c.as_slice.result.now in
     let is : path ≡ at.front ++ at.place ∷ [] = c.as_slice.ensures.value ∙ at.path_is in
     record {

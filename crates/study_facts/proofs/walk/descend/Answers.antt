@@ -1,6 +1,6 @@
 use Rattle.std.proofs.Common.{ℕ, List, [], ◌∷◌, ◌++◌, ap, subst, ◌∙◌}
 use Rattle.study_board.specs.Position.{Position}
-use Rattle.study_marks.specs.BenchState.{marked}
+use Rattle.study_marks.specs.BenchState.{marked_study}
 use Rattle.study_facts.specs.Line.{line_to}
 use Rattle.study_facts.specs.WalkState.{IsStateAt}
 use Rattle.study_facts.proofs.NodesShown.{front-is}
@@ -27,7 +27,7 @@ add_reached-requires-clause-states g c = record {
 
 pub add_reached-requires-clause-line : goal.add_reached-requires-clause-line
 add_reached-requires-clause-line g c =
-    c.requires.line ∙ ap (line_to (marked c.args.bench.now)) (front-is c.push.new.self.items c.args.trail.now.steps.items c.args.place
+    c.requires.line ∙ ap (line_to (marked_study c.args.bench.now)) (front-is c.push.new.self.items c.args.trail.now.steps.items c.args.place
     c.in_ok-push.ensures.items)
 
 pub returns-clause-line : goal.returns-clause-line
@@ -35,7 +35,7 @@ returns-clause-line g c = (_, c.in_ok-push-2.ensures.items)
 
 pub returns-clause-line_to : goal.returns-clause-line_to
 returns-clause-line_to g c =
-    let s = marked c.args.bench.now in
+    let s = marked_study c.args.bench.now in
     let mid = c.args.trail.now.line.items in
     let front = front-is c.push.new.self.items c.args.trail.now.steps.items c.args.place c.in_ok-push.ensures.items in
     let before = c.requires.states.1.0 in

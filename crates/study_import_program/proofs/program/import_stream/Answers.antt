@@ -11,7 +11,8 @@ returns g c = (
       (g.W.Write.contents c.flush.new.self) c.import_games-answer.result c.flush.ensures.bytes c.import_games-answer.ensures.ok
       c.import_games-answer.ensures.err,
   elim c.if-is_err.branch [ then-is_err w ↦ inr w.answer-is | else-is_err w ↦ inl w.answer-is ],
-  c.ended.ensures.status,
-  λ none. reported_behind (g.E.Write.contents c.args.errors.now) (g.E.Write.contents c.import_games-answer.new.errors) (g.E.Write.contents c.ended.new.errors)
-      c.if-is_err.answer (c.import_games-answer.ensures.quiet none) c.ended.ensures.reported,
+  c.report_end.ensures.status,
+  λ none. reported_behind (g.E.Write.contents c.args.errors.now) (g.E.Write.contents c.import_games-answer.new.errors)
+      (g.E.Write.contents c.report_end.new.errors)
+      c.if-is_err.answer (c.import_games-answer.ensures.quiet none) c.report_end.ensures.reported,
 )

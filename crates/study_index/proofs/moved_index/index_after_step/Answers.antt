@@ -29,7 +29,7 @@ returns-else-slot-eq0 c = λ p t.
     let one : 1 ≤ c.args.slot = omega (arith, c.if-slot-eq0.false) in
     rw (
       c.least_image-else-slot-eq0.ensures,
-      c.stepped-moved.ensures.value,
+      c.number_after_step-moved.ensures.value,
       c.has_like_men-like.ensures,
       c.class_has_pawn-pawns.ensures,
       c.slots-slots.ensures,

@@ -1,5 +1,5 @@
-use Rattle.study_listing.proofs.Shown.{images-shown}
+use Rattle.study_listing.proofs.Shown.{images-listed_image}
 use Rattle.study_listing.proofs.laws.images_are_shown.Goals as goal
 
 pub returns : goal.returns
-returns c = images-shown
+returns c = images-listed_image

@@ -1,13 +1,13 @@
 use Rattle.std.proofs.Common.{◌≡◌, Some}
 use Rattle.study_board.specs.Position.{Position}
 use Rattle.study_index.specs.Computed.{position_numbered}
-use Rattle.study_listing.specs.Lists.{shown}
+use Rattle.study_listing.specs.Lists.{listed_image}
 use Rattle.study_listing.proofs.Written.{if-some}
 use Rattle.study_listing.proofs.listed.text_at.Goals as goal
 
 pub returns-in-Ok-clause-text : goal.returns-in-Ok-clause-text
 returns-in-Ok-clause-text g c h found =
     let s = c.args.selection.now in
-    let at = if-some (λ q. (p : Position) × (position_numbered s.search.class c.args.number ≡ Some p) × (shown s p ≡ Some q)) c.in-Ok-Some.image
+    let at = if-some (λ q. (p : Position) × (position_numbered s.search.class c.args.number ≡ Some p) × (listed_image s p ≡ Some q)) c.in-Ok-Some.image
     c.in-Ok-Some.field-0 (c.in-Ok-Some.ensures.image h found) c.in-Ok-Some.field-0-is in
     (at.0, at.1, (c.in-Ok-Some.image, at.2, c.in-Ok.ensures.game (c.listed_at.ensures.honest h)))

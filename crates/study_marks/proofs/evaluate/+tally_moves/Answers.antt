@@ -5,7 +5,7 @@ use Rattle.study_moves.specs.Rules.{after}
 use Rattle.study_values.specs.Game.{IsValueOf}
 use Rattle.study_marks.specs.MoveOutcomes.{MoveOutcomes}
 use Rattle.study_marks.specs.Evaluated.{IsProbeFaultOf, ProbeCount}
-use Rattle.study_marks.proofs.ValuesAsked.{counted-more, no_value-here, no_value-more, asked-more, legal-rest, room-with}
+use Rattle.study_marks.proofs.ValuesAsked.{next_count-more, no_value-here, no_value-more, asked-more, legal-rest, room-with}
 use Rattle.study_marks.proofs.evaluate.+tally_moves.Goals as goal
 
 pub tally_moves-requires : goal.tally_moves-requires
@@ -41,7 +41,7 @@ returns-in-Err-clause-asked g t c =
 
 pub returns-in-Ok-clause-game : goal.returns-in-Ok-clause-game
 returns-in-Ok-clause-game g t c h =
-    counted-more c.args.p.now c.in-Some.m.now c.args.moves.now c.in-Some.rest.now c.in-Ok.value c.args.tally.now
+    next_count-more c.args.p.now c.in-Some.m.now c.args.moves.now c.in-Some.rest.now c.in-Ok.value c.args.tally.now
     c.add.new.self c.tally_moves.new.tally c.tally_moves.result c.in-Some.ensures.cases.0
     (subst (λ (q : Position). IsValueOf q c.in-Ok.value) c.played-next.ensures.value (c.in-Ok.ensures.game h))
     c.add.ensures (c.tally_moves.ensures.game (c.value.ensures.stays_honest h))

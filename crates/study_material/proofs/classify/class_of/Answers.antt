@@ -3,7 +3,7 @@ use Rattle.std.specs.List.{All}
 use Rattle.study_board.specs.declared.men.Man.{Man}
 use Rattle.study_board.specs.declared.men.Kind.TheVariants.{King}
 use Rattle.study_board.specs.Men.{same_kind}
-use Rattle.study_material.specs.Lists.{is_other_than_king, lists, ordered, is_exchanged}
+use Rattle.study_material.specs.Lists.{is_other_than_king, lists, ordered_lists, is_exchanged}
 use Rattle.study_material.proofs.MenBesideKings.{lists-others, none_king, few_others}
 use Rattle.study_material.proofs.classify.class_of.Goals as goal
 
@@ -28,7 +28,7 @@ class_of_others-requires-clause-others c =
 
 pub returns-clause-class : goal.returns-clause-class
 returns-clause-class c =
-    c.class_of_others.ensures.class ∙ ap (λ l. ordered l)
+    c.class_of_others.ensures.class ∙ ap (λ l. ordered_lists l)
     (same_lists _ c.args.p.now.men
     (are_others _ _ _ _ c.as_slice.ensures.value c.others.ensures c.men.ensures.value))
 

@@ -3,7 +3,7 @@ use Rattle.std.proofs.lemmas.List.{drop_all, length-append}
 use Rattle.study_board.specs.declared.men.Man.{Man}
 use Rattle.study_moves.specs.Rules.{survives}
 use Rattle.study_moves.proofs.MenFound.{fewer_stay}
-use Rattle.study_moves.proofs.CarriedUp.{carried_into, carried-placed, length-carried}
+use Rattle.study_moves.proofs.CarriedUp.{carried_into, carried-insert_man, length-carried}
 use Rattle.study_moves.proofs.legal.men_with_moved.Goals as goal
 
 at_end : (q : Man → Bool) (list men all : List Man) (c : Man) (i : ℕ) → length men ≤ i → list ++ carried_into q c (drop i men) ≡ all → list ++ c ∷ [] ≡ all
@@ -22,4 +22,4 @@ returns c =
     let q = survives c.args.passed c.args.man.now c.args.moved.at in
     c.push.ensures.items
     ∙ at_end q c.loop-m.list.items c.args.men.now _ c.loop-m.carried c.loop-m.m-index c.loop-m-test.false c.loop-m.invariant.carried
-    ∙ carried-placed q c.args.moved c.args.men.now c.requires.ordered
+    ∙ carried-insert_man q c.args.moved c.args.men.now c.requires.ordered

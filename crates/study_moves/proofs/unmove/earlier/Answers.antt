@@ -8,8 +8,8 @@ use Rattle.study_moves.proofs.unmove.earlier.Goals as goal
 pub loop-m-init : goal.loop-m-init
 loop-m-init c = none_before c.args.q.now c.as_slice-m-items.result.now c.new-list.result.items c.new-list.ensures
 
-pub unmoved-requires : goal.unmoved-requires
-unmoved-requires c =
+pub position_before-requires : goal.position_before-requires
+position_before-requires c =
     let C : List Move → Type 0 = λ xs. Contains xs c.m-item.result in
     (c.unmoves-moves.ensures.exact c.m-item.result).0 (subst C c.as_slice-m-items.ensures.value
     (let H : Move → Type 0 = λ x. Contains c.as_slice-m-items.result.now x in
@@ -19,7 +19,8 @@ pub loop-m-preserved : goal.loop-m-preserved
 loop-m-preserved c =
     let each : AreDistinct c.as_slice-m-items.result.now = rw c.as_slice-m-items.ensures.value c.unmoves-moves.ensures.once in
     one_before c.args.q.now c.men-men.ensures.valid c.as_slice-m-items.result.now c.loop-m.m-index _ c.m-item.result c.loop-m-test.true c.m-item.is each
-    c.unmoved.result c.loop-m.list.items c.push.new.self.items c.loop-m.invariant c.unmoved.ensures.before c.unmoved.ensures.only c.push.ensures.items
+    c.position_before.result c.loop-m.list.items c.push.new.self.items c.loop-m.invariant c.position_before.ensures.before
+    c.position_before.ensures.only c.push.ensures.items
 
 pub returns-clause-exact : goal.returns-clause-exact
 returns-clause-exact c =

@@ -1,10 +1,10 @@
-use Rattle.study_marks.specs.BenchState.{marked}
+use Rattle.study_marks.specs.BenchState.{marked_study}
 use Rattle.study_page.proofs.WholePage.{from-nothing}
 use Rattle.study_page.proofs.csv.record_of.Goals as goal
 
 pub returns-clause-form : goal.returns-clause-form
 returns-clause-form g c = (
-  marked c.args.bench.now,
+  marked_study c.args.bench.now,
   c.in_ok-parts.parts.time_faults,
   c.args.info.unread,
   from-nothing _ _ _ c.new-text.ensures c.in_ok-add_record.ensures,

@@ -2,7 +2,7 @@ use Rattle.std.proofs.Common.{Some, None, refl, sym, ap, subst, ◌∙◌}
 use Rattle.std.proofs.lemmas.Result.{on_ok_weaker}
 use Rattle.study_notation.specs.declared.start.Start.{Start}
 use Rattle.study_marks.specs.declared.mark.MoveMark.TheVariants as variant
-use Rattle.study_marks.specs.BenchState.{marked}
+use Rattle.study_marks.specs.BenchState.{marked_study}
 use Rattle.study_facts.specs.Made.{Grew}
 use Rattle.study_facts.specs.Nodes.{EmptyUnless, parent_path}
 use Rattle.study_page.specs.Rows.{IsFaultOf, IsCardOf}
@@ -17,7 +17,7 @@ returns-in-Some-Dual-clause-faults g c h =
     let before = step.before in
     let mark = Some (variant.Dual c.in-Some-Dual.others) in
     on_ok_weaker c.add_dual.result
-    (λ grew. fault-listed (marked c.args.bench.now) step c.requires mark c.args.parts.now.faults c.add_dual.new.parts.faults
+    (λ grew. fault-listed (marked_study c.args.bench.now) step c.requires mark c.args.parts.now.faults c.add_dual.new.parts.faults
     (sym (c.in-Some-Dual.is ∙ ap Some c.in-Some-Dual.field-0-is) ∙ c.on_move.ensures)
     (subst (λ (st : Start). Grew (EmptyUnless step.solution (IsFaultOf st before.aim.now before.depth step.line.now before.position.now step.played
     step.mark.value mark)) c.args.parts.now.faults c.add_dual.new.parts.faults) c.start-first.ensures.value grew))
@@ -26,7 +26,7 @@ returns-in-Some-Dual-clause-faults g c h =
 pub returns-in-Some-Dual-clause-time : goal.returns-in-Some-Dual-clause-time
 returns-in-Some-Dual-clause-time g c h =
     on_ok_weaker c.add_dual.result
-    (time-listed (marked c.args.bench.now) c.args.step.now c.requires c.in-Some-Dual.others c.args.parts.now.time_faults c.add_dual.new.parts.time_faults
+    (time-listed (marked_study c.args.bench.now) c.args.step.now c.requires c.in-Some-Dual.others c.args.parts.now.time_faults c.add_dual.new.parts.time_faults
     (sym (c.in-Some-Dual.is ∙ ap Some c.in-Some-Dual.field-0-is) ∙ c.on_move.ensures))
     (c.add_dual.ensures.time h)
 
@@ -36,7 +36,7 @@ returns-in-Some-Dual-clause-duals g c h =
     let before = step.before in
     let mark = Some (variant.Dual c.in-Some-Dual.others) in
     on_ok_weaker c.add_dual.result
-    (λ grew. card-made (marked c.args.bench.now) step c.requires mark c.args.parts.now.duals c.add_dual.new.parts.duals
+    (λ grew. card-made (marked_study c.args.bench.now) step c.requires mark c.args.parts.now.duals c.add_dual.new.parts.duals
     (sym (c.in-Some-Dual.is ∙ ap Some c.in-Some-Dual.field-0-is) ∙ c.on_move.ensures)
     (subst (λ (st : Start). Grew (IsCardOf st before.aim.now before.depth step.line.now before.position.now step.played step.mark.value mark)
     c.args.parts.now.duals c.add_dual.new.parts.duals) c.start-first.ensures.value grew))
@@ -44,7 +44,7 @@ returns-in-Some-Dual-clause-duals g c h =
 
 pub returns-in-Some-Dual-clause-asked : goal.returns-in-Some-Dual-clause-asked
 returns-in-Some-Dual-clause-asked g c =
-    let s = marked c.args.bench.now in
+    let s = marked_study c.args.bench.now in
     let step = c.args.step.now in
     asks-wider g.V.Values.source s.start.position step.before.position.now
     (leads-at s (parent_path step.steps.now) step.before.position.now c.start-first.ensures.study.playable c.requires.step.before.position)
@@ -52,76 +52,76 @@ returns-in-Some-Dual-clause-asked g c =
 
 pub returns-in_ok-put_listed_mistake-in-Some-Mistake-clause-faults : goal.returns-in_ok-put_listed_mistake-in-Some-Mistake-clause-faults
 returns-in_ok-put_listed_mistake-in-Some-Mistake-clause-faults g c h =
-    mistake-listed (marked c.args.bench.now) c.args.step.now c.requires c.start-first.result.now c.args.parts.now.faults c.put_listed_mistake.new.html
+    mistake-listed (marked_study c.args.bench.now) c.args.step.now c.requires c.start-first.result.now c.args.parts.now.faults c.put_listed_mistake.new.html
     (sym (c.in-Some-Mistake.is ∙ ap Some c.in-Some-Mistake.field-0-is) ∙ c.on_move.ensures) c.start-first.ensures.value
     c.in_ok-put_listed_mistake-in-Some-Mistake.ensures
 
 pub returns-in_ok-put_listed_mistake-in-Some-Mistake-clause-time : goal.returns-in_ok-put_listed_mistake-in-Some-Mistake-clause-time
 returns-in_ok-put_listed_mistake-in-Some-Mistake-clause-time g c h =
-    time-none (marked c.args.bench.now) c.args.step.now.steps.now c.args.parts.now.time_faults (Some variant.Mistake)
+    time-none (marked_study c.args.bench.now) c.args.step.now.steps.now c.args.parts.now.time_faults (Some variant.Mistake)
     (sym (c.in-Some-Mistake.is ∙ ap Some c.in-Some-Mistake.field-0-is) ∙ c.on_move.ensures ∙ c.requires.mark) refl
 
 pub returns-in_ok-put_listed_mistake-in-Some-Mistake-clause-duals : goal.returns-in_ok-put_listed_mistake-in-Some-Mistake-clause-duals
 returns-in_ok-put_listed_mistake-in-Some-Mistake-clause-duals g c h =
-    card-made (marked c.args.bench.now) c.args.step.now c.requires (Some variant.Mistake) c.args.parts.now.duals c.args.parts.now.duals
+    card-made (marked_study c.args.bench.now) c.args.step.now c.requires (Some variant.Mistake) c.args.parts.now.duals c.args.parts.now.duals
     (sym (c.in-Some-Mistake.is ∙ ap Some c.in-Some-Mistake.field-0-is) ∙ c.on_move.ensures) (nothing-grew _ c.args.parts.now.duals refl)
 
 pub returns-in-Some-Only-clause-faults : goal.returns-in-Some-Only-clause-faults
 returns-in-Some-Only-clause-faults g c h =
-    fault-plain (marked c.args.bench.now) c.args.step.now c.requires (Some variant.Only) c.args.parts.now.faults
+    fault-plain (marked_study c.args.bench.now) c.args.step.now c.requires (Some variant.Only) c.args.parts.now.faults
     (sym (c.in-Some-Only.is ∙ ap Some c.in-Some-Only.field-0-is) ∙ c.on_move.ensures) tt
 
 pub returns-in-Some-Only-clause-time : goal.returns-in-Some-Only-clause-time
 returns-in-Some-Only-clause-time g c h =
-    time-none (marked c.args.bench.now) c.args.step.now.steps.now c.args.parts.now.time_faults (Some variant.Only)
+    time-none (marked_study c.args.bench.now) c.args.step.now.steps.now c.args.parts.now.time_faults (Some variant.Only)
     (sym (c.in-Some-Only.is ∙ ap Some c.in-Some-Only.field-0-is) ∙ c.on_move.ensures ∙ c.requires.mark) refl
 
 pub returns-in-Some-Only-clause-duals : goal.returns-in-Some-Only-clause-duals
 returns-in-Some-Only-clause-duals g c h =
-    card-made (marked c.args.bench.now) c.args.step.now c.requires (Some variant.Only) c.args.parts.now.duals c.args.parts.now.duals
+    card-made (marked_study c.args.bench.now) c.args.step.now c.requires (Some variant.Only) c.args.parts.now.duals c.args.parts.now.duals
     (sym (c.in-Some-Only.is ∙ ap Some c.in-Some-Only.field-0-is) ∙ c.on_move.ensures) (nothing-grew _ c.args.parts.now.duals refl)
 
 pub returns-in-Some-Idle-clause-faults : goal.returns-in-Some-Idle-clause-faults
 returns-in-Some-Idle-clause-faults g c h =
-    fault-plain (marked c.args.bench.now) c.args.step.now c.requires (Some variant.Idle) c.args.parts.now.faults
+    fault-plain (marked_study c.args.bench.now) c.args.step.now c.requires (Some variant.Idle) c.args.parts.now.faults
     (sym (c.in-Some-Idle.is ∙ ap Some c.in-Some-Idle.field-0-is) ∙ c.on_move.ensures) tt
 
 pub returns-in-Some-Idle-clause-time : goal.returns-in-Some-Idle-clause-time
 returns-in-Some-Idle-clause-time g c h =
-    time-none (marked c.args.bench.now) c.args.step.now.steps.now c.args.parts.now.time_faults (Some variant.Idle)
+    time-none (marked_study c.args.bench.now) c.args.step.now.steps.now c.args.parts.now.time_faults (Some variant.Idle)
     (sym (c.in-Some-Idle.is ∙ ap Some c.in-Some-Idle.field-0-is) ∙ c.on_move.ensures ∙ c.requires.mark) refl
 
 pub returns-in-Some-Idle-clause-duals : goal.returns-in-Some-Idle-clause-duals
 returns-in-Some-Idle-clause-duals g c h =
-    card-made (marked c.args.bench.now) c.args.step.now c.requires (Some variant.Idle) c.args.parts.now.duals c.args.parts.now.duals
+    card-made (marked_study c.args.bench.now) c.args.step.now c.requires (Some variant.Idle) c.args.parts.now.duals c.args.parts.now.duals
     (sym (c.in-Some-Idle.is ∙ ap Some c.in-Some-Idle.field-0-is) ∙ c.on_move.ensures) (nothing-grew _ c.args.parts.now.duals refl)
 
 pub returns-in-Some-Reply-clause-faults : goal.returns-in-Some-Reply-clause-faults
 returns-in-Some-Reply-clause-faults g c h =
-    fault-plain (marked c.args.bench.now) c.args.step.now c.requires (Some variant.Reply) c.args.parts.now.faults
+    fault-plain (marked_study c.args.bench.now) c.args.step.now c.requires (Some variant.Reply) c.args.parts.now.faults
     (sym (c.in-Some-Reply.is ∙ ap Some c.in-Some-Reply.field-0-is) ∙ c.on_move.ensures) tt
 
 pub returns-in-Some-Reply-clause-time : goal.returns-in-Some-Reply-clause-time
 returns-in-Some-Reply-clause-time g c h =
-    time-none (marked c.args.bench.now) c.args.step.now.steps.now c.args.parts.now.time_faults (Some variant.Reply)
+    time-none (marked_study c.args.bench.now) c.args.step.now.steps.now c.args.parts.now.time_faults (Some variant.Reply)
     (sym (c.in-Some-Reply.is ∙ ap Some c.in-Some-Reply.field-0-is) ∙ c.on_move.ensures ∙ c.requires.mark) refl
 
 pub returns-in-Some-Reply-clause-duals : goal.returns-in-Some-Reply-clause-duals
 returns-in-Some-Reply-clause-duals g c h =
-    card-made (marked c.args.bench.now) c.args.step.now c.requires (Some variant.Reply) c.args.parts.now.duals c.args.parts.now.duals
+    card-made (marked_study c.args.bench.now) c.args.step.now c.requires (Some variant.Reply) c.args.parts.now.duals c.args.parts.now.duals
     (sym (c.in-Some-Reply.is ∙ ap Some c.in-Some-Reply.field-0-is) ∙ c.on_move.ensures) (nothing-grew _ c.args.parts.now.duals refl)
 
 pub returns-in-None-clause-faults : goal.returns-in-None-clause-faults
 returns-in-None-clause-faults g c h =
-    fault-plain (marked c.args.bench.now) c.args.step.now c.requires None c.args.parts.now.faults
+    fault-plain (marked_study c.args.bench.now) c.args.step.now c.requires None c.args.parts.now.faults
     (sym c.in-None.is ∙ c.on_move.ensures) tt
 
 pub returns-in-None-clause-time : goal.returns-in-None-clause-time
 returns-in-None-clause-time g c h =
-    time-none (marked c.args.bench.now) c.args.step.now.steps.now c.args.parts.now.time_faults None
+    time-none (marked_study c.args.bench.now) c.args.step.now.steps.now c.args.parts.now.time_faults None
     (sym c.in-None.is ∙ c.on_move.ensures ∙ c.requires.mark) refl
 
 pub returns-in-None-clause-duals : goal.returns-in-None-clause-duals
 returns-in-None-clause-duals g c h =
-    card-made (marked c.args.bench.now) c.args.step.now c.requires None c.args.parts.now.duals c.args.parts.now.duals
+    card-made (marked_study c.args.bench.now) c.args.step.now c.requires None c.args.parts.now.duals c.args.parts.now.duals
     (sym c.in-None.is ∙ c.on_move.ensures) (nothing-grew _ c.args.parts.now.duals refl)

@@ -1,4 +1,4 @@
-use Rattle.study_marks.specs.BenchState.{marked}
+use Rattle.study_marks.specs.BenchState.{marked_study}
 use Rattle.study_facts.specs.Asked.{within}
 use Rattle.study_facts.specs.Made.{Grew}
 use Rattle.study_page.specs.Rows.{TryRows, ZugzwangRows, DefenceRows}
@@ -8,17 +8,18 @@ use Rattle.study_page.proofs.node_rows.add_rows.Goals as goal
 
 pub returns-clause-tries : goal.returns-clause-tries
 returns-clause-tries g c h =
-    on-ok c.add_end.result (Grew (TryRows (marked c.args.bench.now) c.args.node.now.here.steps.now) c.args.parts.now.tries c.add_try.new.html)
+    on-ok c.add_end.result (Grew (TryRows (marked_study c.args.bench.now) c.args.node.now.here.steps.now) c.args.parts.now.tries c.add_try.new.html)
     (c.in_ok-add_try.ensures.text h)
 
 pub returns-clause-zugzwangs : goal.returns-clause-zugzwangs
 returns-clause-zugzwangs g c h =
-    on-ok c.add_end.result (Grew (ZugzwangRows (marked c.args.bench.now) c.args.node.now.here.steps.now) c.args.parts.now.zugzwangs c.add_zugzwang.new.html)
+    on-ok c.add_end.result (Grew (ZugzwangRows (marked_study c.args.bench.now) c.args.node.now.here.steps.now) c.args.parts.now.zugzwangs
+    c.add_zugzwang.new.html)
     (c.in_ok-add_zugzwang.ensures.text (c.in_ok-add_try.ensures.asked.honest h))
 
 pub returns-clause-defences : goal.returns-clause-defences
 returns-clause-defences g c h =
-    on-ok c.add_end.result (Grew (DefenceRows (marked c.args.bench.now) c.args.node.now.here.steps.now) c.args.parts.now.defences c.add_defences.new.html)
+    on-ok c.add_end.result (Grew (DefenceRows (marked_study c.args.bench.now) c.args.node.now.here.steps.now) c.args.parts.now.defences c.add_defences.new.html)
     (c.in_ok-add_defences.ensures.text (c.in_ok-add_zugzwang.ensures.asked.honest (c.in_ok-add_try.ensures.asked.honest h)))
 
 pub returns-clause-ends : goal.returns-clause-ends

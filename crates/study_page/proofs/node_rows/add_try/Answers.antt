@@ -2,7 +2,7 @@ use Rattle.std.proofs.Common.{map, arith}
 use Rattle.study_moves.specs.Rules.{after}
 use Rattle.study_moves.specs.LegalList.{legal_list}
 use Rattle.study_tree.proofs.TreeDepth.{within-length}
-use Rattle.study_marks.specs.BenchState.{marked}
+use Rattle.study_marks.specs.BenchState.{marked_study}
 use Rattle.study_facts.proofs.Within.{each-legal, some-fault, some-evaluated}
 use Rattle.study_facts.proofs.NotHeld.{no_value-of}
 use Rattle.study_facts.specs.Asked.{within}
@@ -11,7 +11,8 @@ use Rattle.study_page.proofs.node_rows.add_try.Goals as goal
 
 pub refutations-requires : goal.refutations-requires
 refutations-requires g c =
-    let few = within-length 256 (marked c.args.bench.now).tree.below c.args.node.now.here.steps.now c.start-first.ensures.study.shallow c.requires.here.there in
+    let few = within-length 256 (marked_study c.args.bench.now).tree.below c.args.node.now.here.steps.now c.start-first.ensures.study.shallow
+    c.requires.here.there in
     let deep = c.requires.here.node.depth in
     record { depth = omega (arith, few, deep) }
 

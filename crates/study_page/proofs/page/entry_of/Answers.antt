@@ -1,6 +1,6 @@
 use Rattle.std.proofs.Common.{refl, ap, ◌∙◌, subst}
 use Rattle.study_html.specs.declared.element.Element.TheVariants as element
-use Rattle.study_html.specs.Elements.{inside}
+use Rattle.study_html.specs.Elements.{element_text}
 use Rattle.study_html.specs.Markup.{IsWellNested}
 use Rattle.study_page.proofs.WholePage.{from-nothing}
 use Rattle.study_page.proofs.page.entry_of.Goals as goal
@@ -24,7 +24,7 @@ returns-clause-text g c h =
       p.5,
       p.6,
       from-nothing _ _ _ c.new-page.ensures c.in_ok-put.ensures
-          ∙ ap (inside (element.Entry c.args.info.number)) (from-nothing _ _ _ c.new-content.ensures c.in_ok-put_content.ensures),
+          ∙ ap (element_text (element.Entry c.args.info.number)) (from-nothing _ _ _ c.new-content.ensures c.in_ok-put_content.ensures),
     )
 
 pub returns-clause-rows : goal.returns-clause-rows

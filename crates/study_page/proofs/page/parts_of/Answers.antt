@@ -1,4 +1,4 @@
-use Rattle.study_marks.specs.BenchState.{marked}
+use Rattle.study_marks.specs.BenchState.{marked_study}
 use Rattle.study_facts.specs.Order.{written_order}
 use Rattle.study_facts.specs.TimeFaults.{IsTimeFault}
 use Rattle.study_facts.proofs.EachAdded.{grew-each, rose-each}
@@ -9,7 +9,7 @@ use Rattle.study_page.proofs.page.parts_of.Goals as goal
 
 pub returns-clause-text : goal.returns-clause-text
 returns-clause-text g c h =
-    let s = marked c.args.bench.now in
+    let s = marked_study c.args.bench.now in
     let each = c.in_ok-walk_study.ensures.adds h in
     let old = c.new-findings.result in
     let new = c.walk_study.new.findings in

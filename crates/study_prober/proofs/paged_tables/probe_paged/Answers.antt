@@ -13,7 +13,7 @@ use Rattle.study_prober.proofs.KeptCells.{again_none, again_at}
 use Rattle.study_prober.proofs.Tables.{one_class}
 use Rattle.study_prober.specs.Sources.{IsGivenPage, failed_after}
 use Rattle.study_prober.proofs.GivenPages.{given_after, alike_after, one_held, read_at, unread_at, bad_at}
-use Rattle.study_text.specs.Counts.{counted}
+use Rattle.study_text.specs.Counts.{next_count}
 use Rattle.study_prober.specs.PageCache.{kept_cell}
 use Rattle.study_prober.proofs.ProbedSources.{number_in, value_at_index, whole_at, count_at, game_at}
 use Rattle.study_values.specs.Number.{cells_of}
@@ -209,7 +209,7 @@ returns-in-Some-clause-once g c = λ d h k of before after unkept.
     let here = one_class d c.class_of-class.result.0 c.args.p.now of c.class_of-class.ensures.class in
     let none = ap (λ (x : Class). kept_cell (λ v. v.items) c.args.pages.now.entries x c.index.result) (own ∙ sym here)
     ∙ ap (λ (m : ℕ). kept_cell (λ v. v.items) c.args.pages.now.entries d m) c.index.ensures.value ∙ unkept in
-    count_at g.S.PageSource.asked counted c.args.sources.now.items c.class_of-class.result.0 d c.number-at.result
+    count_at g.S.PageSource.asked next_count c.args.sources.now.items c.class_of-class.result.0 d c.number-at.result
     c.in-Some.held h c.value_of_number.new.held k c.number-at.ensures.value is.0 is.1 here before after (c.value_of_number.ensures.once none)
 
 pub returns-in-Some-clause-inside : goal.returns-in-Some-clause-inside

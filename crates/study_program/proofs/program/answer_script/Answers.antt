@@ -9,6 +9,6 @@ returns g c = (
   c.if-is_err.answer,
   HasRun-kept _ _ _ _ _ _ _ _ c.flush.ensures.bytes c.run_over_files-answer.ensures,
   elim c.if-is_err.branch [ then-is_err w ↦ inr w.answer-is | else-is_err w ↦ inl w.answer-is ],
-  c.ended.ensures.status,
-  c.ended.ensures.reported,
+  c.report_end.ensures.status,
+  c.report_end.ensures.reported,
 )

@@ -4,7 +4,7 @@ use Rattle.std.proofs.KnownBytes.{Appends-nil}
 use Rattle.study_reply.specs.Names.{words_of}
 use Rattle.study_reply.specs.Words.{reply_line}
 use Rattle.study_reply.specs.declared.refusal.Refusal.TheVariants.{NotAClass}
-use Rattle.study_script.specs.Replies.{refused}
+use Rattle.study_script.specs.Replies.{refused_reply}
 use Rattle.study_report.specs.declared.line_kind.LineKind.{LineKind}
 use Rattle.study_report.specs.declared.line_kind.LineKind.TheVariants.{Remark, PassedOver, NoClass, Study, Checked}
 use Rattle.study_script.specs.SessionHolds.{document_seen}
@@ -64,7 +64,7 @@ returns-in-PassedOver-clause-ok g c = λ p held at.
 pub returns-in-NoClass-clause-ok : goal.returns-in-NoClass-clause-ok
 returns-in-NoClass-clause-ok g c = λ p held at.
     let kind : NoClass ≡ line_kind c.args.line.now = sym c.in-NoClass.is ∙ c.kind_of.ensures in
-    let reply = refused p.state NotAClass in
+    let reply = refused_reply p.state NotAClass in
     refusal-adds g.T.Report.tells g.T.Report.refusal g.T.Report.remark (IsAdded g.T.Report.tells g.T.Report.refusal g.T.Report.remark p c.args.line.now)
     (SessionHolds g.S.Pages.PageSource.honest g.S.Pages.PageSource.gives (HonestOn none_trusted g.S.TableStore.honest) g.S.TableStore.files
     g.S.TableStore.headers g.S.TableStore.faults c.args.session.now.document c.args.session.now.tables c.args.session.now.store.now)
@@ -76,7 +76,7 @@ returns-in-NoClass-clause-ok g c = λ p held at.
 pub returns-in-NoClass-clause-err : goal.returns-in-NoClass-clause-err
 returns-in-NoClass-clause-err g c = λ p held at.
     let kind : NoClass ≡ line_kind c.args.line.now = sym c.in-NoClass.is ∙ c.kind_of.ensures in
-    let reply = refused p.state NotAClass in
+    let reply = refused_reply p.state NotAClass in
     refusal-stops g.T.Report.tells g.T.Report.refusal g.T.Report.remark (IsAdded g.T.Report.tells g.T.Report.refusal g.T.Report.remark p c.args.line.now)
     p c.args.line.now reply c.args.at.line (reply_line (codes "error ") (words_of NotAClass))
     c.refuse_line.result (g.W.Write.contents c.args.out.now) (g.W.Write.contents c.refuse_line.new.out) at.0 refl

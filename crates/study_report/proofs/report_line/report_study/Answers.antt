@@ -4,7 +4,7 @@ use Rattle.study_reply.specs.Names.{words_of}
 use Rattle.study_reply.specs.Words.{reply_line}
 use Rattle.study_reply.specs.declared.refusal.Refusal.TheVariants.{OutOfMemory}
 use Rattle.study_script.specs.SessionHolds.{Holds}
-use Rattle.study_script.specs.Replies.{refused}
+use Rattle.study_script.specs.Replies.{refused_reply}
 use Rattle.study_report.specs.Reported.{IsStudyReported, entry_at}
 use Rattle.study_report.specs.Written.{StopsIn}
 use Rattle.study_report.proofs.LineAdds.{RefusalWritten, refusal-adds, refusal-stops, section-adds, section-stops, left-out, refusal-listed, at-next}
@@ -31,7 +31,7 @@ returns-in-Err-OutOfMemory-clause-ok g c = λ p s plain held b at.
     refusal-adds g.T.Report.tells g.T.Report.refusal g.T.Report.remark (IsStudyReported g.T.Report.tells g.T.Report.refusal g.T.Report.remark p s
     c.args.line.now)
     (λ t. (t ≡ s) × Holds g.P.PageSource.honest g.P.PageSource.gives c.args.document.now c.add_section.new.tables t)
-    p c.args.line.now (refused s OutOfMemory) c.args.at.line bytes c.refuse_line-in-Err-OutOfMemory.result
+    p c.args.line.now (refused_reply s OutOfMemory) c.args.at.line bytes c.refuse_line-in-Err-OutOfMemory.result
     (g.W.Write.contents c.args.out.now) (g.W.Write.contents c.refuse_line-in-Err-OutOfMemory.new.out) at.0 refl
     (left-out g.T.Report.tells g.T.Report.refusal g.T.Report.remark p s c.args.line.now plain OutOfMemory b (inl refl)) (
       refl,
@@ -45,7 +45,7 @@ returns-in-Err-OutOfMemory-clause-err g c = λ p s plain held b at.
     let bytes = reply_line (codes "error ") (words_of OutOfMemory) in
     refusal-stops g.T.Report.tells g.T.Report.refusal g.T.Report.remark (IsStudyReported g.T.Report.tells g.T.Report.refusal g.T.Report.remark p s
     c.args.line.now)
-    p c.args.line.now (refused s OutOfMemory) c.args.at.line bytes c.refuse_line-in-Err-OutOfMemory.result
+    p c.args.line.now (refused_reply s OutOfMemory) c.args.at.line bytes c.refuse_line-in-Err-OutOfMemory.result
     (g.W.Write.contents c.args.out.now) (g.W.Write.contents c.refuse_line-in-Err-OutOfMemory.new.out) at.0 refl
     (left-out g.T.Report.tells g.T.Report.refusal g.T.Report.remark p s c.args.line.now plain OutOfMemory b (inl refl))
     (subst (λ w. IfErr c.refuse_line-in-Err-OutOfMemory.result (StopsIn (g.T.Report.refusal c.args.at.line c.args.line.now bytes) (g.W.Write.contents w)
@@ -58,7 +58,7 @@ returns-in-Err-Values-clause-ok g c = λ p s plain held b at.
     refusal-adds g.T.Report.tells g.T.Report.refusal g.T.Report.remark (IsStudyReported g.T.Report.tells g.T.Report.refusal g.T.Report.remark p s
     c.args.line.now)
     (λ t. (t ≡ s) × Holds g.P.PageSource.honest g.P.PageSource.gives c.args.document.now c.add_section.new.tables t)
-    p c.args.line.now (refused s why) c.args.at.line bytes c.refuse_line-in-Err-Values.result
+    p c.args.line.now (refused_reply s why) c.args.at.line bytes c.refuse_line-in-Err-Values.result
     (g.W.Write.contents c.args.out.now) (g.W.Write.contents c.refuse_line-in-Err-Values.new.out) at.0 refl
     (left-out g.T.Report.tells g.T.Report.refusal g.T.Report.remark p s c.args.line.now plain why b
     (inr (c.in-Err-Values.fault, c.in-Err-Values.ensures.why s plain c.in-Err-Values.fault held b cc, c.of_probe.ensures)))
@@ -73,7 +73,7 @@ returns-in-Err-Values-clause-err g c = λ p s plain held b at.
     let bytes = reply_line (codes "error ") (words_of why) in
     refusal-stops g.T.Report.tells g.T.Report.refusal g.T.Report.remark (IsStudyReported g.T.Report.tells g.T.Report.refusal g.T.Report.remark p s
     c.args.line.now)
-    p c.args.line.now (refused s why) c.args.at.line bytes c.refuse_line-in-Err-Values.result
+    p c.args.line.now (refused_reply s why) c.args.at.line bytes c.refuse_line-in-Err-Values.result
     (g.W.Write.contents c.args.out.now) (g.W.Write.contents c.refuse_line-in-Err-Values.new.out) at.0 refl
     (left-out g.T.Report.tells g.T.Report.refusal g.T.Report.remark p s c.args.line.now plain why b
     (inr (c.in-Err-Values.fault, c.in-Err-Values.ensures.why s plain c.in-Err-Values.fault held b cc, c.of_probe.ensures)))

@@ -16,18 +16,18 @@ pub returns-in_default-new-clause-faults : goal.returns-in_default-new-clause-fa
 returns-in_default-new-clause-faults g c quiet = no_faults class_list _
 
 pub returns-in-Lines-clause-reported : goal.returns-in-Lines-clause-reported
-returns-in-Lines-clause-reported g c = rw c.in-Lines.is (lines_reported _ _ _ _ _ c.follow_script.ensures.shape c.follow_script.ensures.fits)
+returns-in-Lines-clause-reported g c = rw c.in-Lines.is (lines_reported _ _ _ _ _ c.write_report.ensures.shape c.write_report.ensures.fits)
 
 pub returns-in-Sheet-clause-reported : goal.returns-in-Sheet-clause-reported
-returns-in-Sheet-clause-reported g c = rw c.in-Sheet.is (sheet_reported _ _ _ _ _ c.follow_sheet.ensures.shape c.follow_sheet.ensures.fits)
+returns-in-Sheet-clause-reported g c = rw c.in-Sheet.is (sheet_reported _ _ _ _ _ c.write_sheet.ensures.shape c.write_sheet.ensures.fits)
 
 pub returns-in-List-clause-reported : goal.returns-in-List-clause-reported
-returns-in-List-clause-reported g c = rw c.in-List.is (list_reported _ _ _ _ _ c.follow_list.ensures.shape c.follow_list.ensures.fits)
+returns-in-List-clause-reported g c = rw c.in-List.is (list_reported _ _ _ _ _ c.write_list.ensures.shape c.write_list.ensures.fits)
 
 pub returns-in-Pages-clause-reported : goal.returns-in-Pages-clause-reported
 returns-in-Pages-clause-reported g c =
-    rw c.in-Pages.is (pages_reported _ _ _ _ _ c.follow_pages.ensures.shape c.follow_pages.ensures.fits)
+    rw c.in-Pages.is (pages_reported _ _ _ _ _ c.write_pages.ensures.shape c.write_pages.ensures.fits)
 
 pub returns-clause-reported : goal.returns-clause-reported
 returns-clause-reported g c =
-    rw c.in-Pages-2.is (pages_reported _ _ _ _ _ c.follow_pages-in-Pages-2.ensures.shape c.follow_pages-in-Pages-2.ensures.fits)
+    rw c.in-Pages-2.is (pages_reported _ _ _ _ _ c.write_pages-in-Pages-2.ensures.shape c.write_pages-in-Pages-2.ensures.fits)

@@ -8,6 +8,6 @@ returns g c = (
   c.if-is_err.answer,
   (_, c.report_over_files-answer.ensures.reported, c.flush.ensures.bytes),
   elim c.if-is_err.branch [ then-is_err w ↦ inr w.answer-is | else-is_err w ↦ inl w.answer-is ],
-  c.ended.ensures.status,
-  (λ quiet. (_, c.report_over_files-answer.ensures.faults quiet, c.ended.ensures.stop)),
+  c.report_end.ensures.status,
+  (λ quiet. (_, c.report_over_files-answer.ensures.faults quiet, c.report_end.ensures.stop)),
 )

@@ -1,5 +1,5 @@
 use Rattle.std.proofs.Common.{◌≡◌, true, length, List, [], ◌∷◌, sym, ap, subst, arith, ◌∙◌}
-use Rattle.study_marks.specs.BenchState.{marked}
+use Rattle.study_marks.specs.BenchState.{marked_study}
 use Rattle.study_moves.specs.LegalList.{legal_list}
 use Rattle.study_facts.specs.declared.continuation.EvaluatedMove.{EvaluatedMove}
 use Rattle.study_facts.specs.Continuations.{AreChosen}
@@ -31,7 +31,8 @@ returns-in_err-add_listed_dual-clause-asked g c =
 
 pub returns-clause-also : goal.returns-clause-also
 returns-clause-also g c h =
-    also-evaluated (marked c.args.bench.now) c.args.step.now.steps.now c.args.step.now.before.aim.now c.args.step.now.before.depth c.args.step.now.line.now
+    also-evaluated (marked_study c.args.bench.now) c.args.step.now.steps.now c.args.step.now.before.aim.now c.args.step.now.before.depth
+    c.args.step.now.line.now
     c.args.step.now.before.position.now c.args.step.now.played c.requires.made.step
     c.as_slice.result.now c.in_ok-time.time c.args.others c.args.draft.now.nodes c.add_alternatives.new.text (sym c.requires.made.mark ∙ c.requires.mark)
     (subst (λ (l : List EvaluatedMove). AreChosen (λ v. true) c.args.step.now.before.position.now (legal_list c.args.step.now.before.position.now) l)
@@ -41,7 +42,8 @@ returns-clause-also g c h =
 pub returns-clause-fault : goal.returns-clause-fault
 returns-clause-fault g c h =
     let grew = c.in_ok-time.ensures.text (c.in_ok-evaluate_legal_moves.ensures.asked.honest h) in
-    dual-evaluated (marked c.args.bench.now) c.args.step.now.steps.now c.args.step.now.before.aim.now c.args.step.now.before.depth c.args.step.now.line.now
+    dual-evaluated (marked_study c.args.bench.now) c.args.step.now.steps.now c.args.step.now.before.aim.now c.args.step.now.before.depth
+    c.args.step.now.line.now
     c.args.step.now.before.position.now c.args.step.now.played c.requires.made.step
     c.as_slice.result.now c.in_ok-time.time c.args.others c.args.step.now.mark.value c.args.step.now.solution grew.0 c.args.draft.now.faults
     c.add_listed_dual.new.text
@@ -64,7 +66,7 @@ returns-clause-time g c h =
     let evaluated = c.as_slice.result.now in
     let same : c.as_slice-2.result.now ≡ evaluated = c.as_slice-2.ensures.value ∙ sym c.as_slice.ensures.value in
     let before = c.args.step.now.before in
-    dual-timed (marked c.args.bench.now) c.args.step.now.steps.now before.aim.now before.depth c.args.step.now.line.now before.position.now
+    dual-timed (marked_study c.args.bench.now) c.args.step.now.steps.now before.aim.now before.depth c.args.step.now.line.now before.position.now
     c.args.step.now.played c.requires.made.step
     evaluated c.in_ok-time.time c.count_alternatives.result c.args.others c.args.step.now.solution c.loses_time_alone-alone.result grew.0
     c.args.draft.now.time_faults c.count_where-draft.result

@@ -1,19 +1,19 @@
 use Rattle.std.proofs.Common.{refl, subst}
 use Rattle.study_marks.specs.Study.{plain_study}
-use Rattle.study_marks.specs.BenchState.{marked}
+use Rattle.study_marks.specs.BenchState.{marked_study}
 use Rattle.study_command.specs.Paths.{steps_of}
 use Rattle.study_script.specs.declared.document.Document.TheVariants as held
 use Rattle.study_reply.specs.declared.refusal.Refusal.TheVariants.{NoStudy}
 use Rattle.study_script.specs.State.{Document, Environment, quiet, study}
 use Rattle.study_script.specs.SessionHolds.{Holds}
-use Rattle.study_script.specs.Replies.{refused, IsInsertReply}
+use Rattle.study_script.specs.Replies.{refused_reply, IsInsertReply}
 use Rattle.study_script.proofs.Executions.{executed_weaker}
 use Rattle.study_script.proofs.Documents.{holds_of, seen_of}
 use Rattle.study_script.proofs.changes.insert.Goals as goal
 
 pub returns-in-Study : goal.returns-in-Study
 returns-in-Study g c = λ s h. executed_weaker
-    {I = λ (o : Environment). IsInsertReply s o (study (plain_study (marked c.in-Study.bench))) (steps_of c.args.path.now) c.args.san.now}
+    {I = λ (o : Environment). IsInsertReply s o (study (plain_study (marked_study c.in-Study.bench))) (steps_of c.args.path.now) c.args.san.now}
     {J = λ (o : Environment). IsInsertReply s o s.document (steps_of c.args.path.now) c.args.san.now}
     {H = Holds g.P.PageSource.honest g.P.PageSource.gives (held.Study c.insert_in_study.new.bench) c.insert_in_study.new.tables}
     {K = Holds g.P.PageSource.honest g.P.PageSource.gives (held.Study c.insert_in_study.new.bench) c.insert_in_study.new.tables} c.insert_in_study.result
@@ -26,7 +26,7 @@ pub returns-in-Empty : goal.returns-in-Empty
 returns-in-Empty g c = λ s h. (
   quiet,
   s,
-  subst (λ (x : Document). IsInsertReply s quiet x (steps_of c.args.path.now) c.args.san.now (refused s NoStudy))
+  subst (λ (x : Document). IsInsertReply s quiet x (steps_of c.args.path.now) c.args.san.now (refused_reply s NoStudy))
       (seen_of g.P.PageSource.honest g.P.PageSource.gives c.args.document.now held.Empty c.args.tables.now s c.in-Empty.is h) refl,
   h,
 )
@@ -35,7 +35,7 @@ pub returns-in-Start : goal.returns-in-Start
 returns-in-Start g c = λ s h. (
   quiet,
   s,
-  subst (λ (x : Document). IsInsertReply s quiet x (steps_of c.args.path.now) c.args.san.now (refused s NoStudy))
+  subst (λ (x : Document). IsInsertReply s quiet x (steps_of c.args.path.now) c.args.san.now (refused_reply s NoStudy))
       (seen_of g.P.PageSource.honest g.P.PageSource.gives c.args.document.now (held.Start c.in-Start.field-0) c.args.tables.now s c.in-Start.is h) refl,
   h,
 )

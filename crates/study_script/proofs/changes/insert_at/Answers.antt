@@ -3,23 +3,23 @@ use Rattle.study_board.specs.Position.{Position}
 use Rattle.study_notation.specs.Matching.{move_of}
 use Rattle.study_tree.specs.Tree.{has_spot}
 use Rattle.study_marks.specs.Study.{plain_study}
-use Rattle.study_marks.specs.BenchState.{marked}
+use Rattle.study_marks.specs.BenchState.{marked_study}
 use Rattle.study_script.specs.declared.document.Document.TheVariants as held
 use Rattle.study_reply.specs.declared.refusal.Refusal.TheVariants.{NoSuchNode}
 use Rattle.study_script.specs.State.{Environment, quiet}
 use Rattle.study_script.specs.SessionHolds.{Holds}
-use Rattle.study_script.specs.Replies.{refused, IsMoveReply, IsMoveReplyAt}
+use Rattle.study_script.specs.Replies.{refused_reply, IsMoveReply, IsMoveReplyAt}
 use Rattle.study_script.proofs.Executions.{executed_weaker}
 use Rattle.study_script.proofs.PlainNodes.{start_there, start_gone, position_at-plain}
 use Rattle.study_script.proofs.changes.insert_at.Goals as goal
 
 pub insert_san-requires : goal.insert_san-requires
 insert_san-requires g c =
-    record { at = (start_there (marked c.args.bench.now) c.args.path c.in-Some.start (sym c.in-Some.is ∙ c.start_at.ensures)).1 }
+    record { at = (start_there (marked_study c.args.bench.now) c.args.path c.in-Some.start (sym c.in-Some.is ∙ c.start_at.ensures)).1 }
 
 pub returns-in-Some : goal.returns-in-Some
 returns-in-Some g c = λ s h.
-    let shown = marked c.args.bench.now in
+    let shown = marked_study c.args.bench.now in
     let old = plain_study shown in
     let there = start_there shown c.args.path c.in-Some.start (sym c.in-Some.is ∙ c.start_at.ensures) in executed_weaker
     {I = λ (o : Environment). IsMoveReply s o old c.args.path (move_of c.in-Some.start.position c.args.san.now)}
@@ -31,10 +31,10 @@ returns-in-Some g c = λ s h.
     (there.1 ∙ sym (position_at-plain shown c.args.path)) i)) (λ t m. m) (c.insert_san.ensures s h)
 
 pub returns : goal.returns
-returns g c = λ s h. let shown = marked c.args.bench.now in (
+returns g c = λ s h. let shown = marked_study c.args.bench.now in (
   quiet,
   s,
-  subst (λ (x : Bool). IsMoveReplyAt s quiet (plain_study shown) c.args.path c.args.san.now x (refused s NoSuchNode))
+  subst (λ (x : Bool). IsMoveReplyAt s quiet (plain_study shown) c.args.path c.args.san.now x (refused_reply s NoSuchNode))
       (sym (start_gone shown c.args.path (sym c.in-None.is ∙ c.start_at.ensures))) refl,
   h,
 )

@@ -2,7 +2,7 @@ use Rattle.std.proofs.Common.{ℕ, List, subst}
 use Rattle.std.proofs.lemmas.Bool.{false≢true}
 use Rattle.study_tree.specs.Tree.{has_spot}
 use Rattle.study_marks.specs.Study.{plain_study}
-use Rattle.study_marks.specs.BenchState.{marked}
+use Rattle.study_marks.specs.BenchState.{marked_study}
 use Rattle.study_script.specs.declared.document.Document.TheVariants as held
 use Rattle.study_command.specs.Paths.{steps_of}
 use Rattle.study_script.specs.State.{Environment, no_path, study}
@@ -14,7 +14,7 @@ use Rattle.study_script.proofs.InsertReplies.{with_path}
 use Rattle.study_script.proofs.changes.insert_in_study.Goals as goal
 
 pub returns-in-Ok : goal.returns-in-Ok
-returns-in-Ok g c = λ s h. let old = plain_study (marked c.args.bench.now) in executed_reported
+returns-in-Ok g c = λ s h. let old = plain_study (marked_study c.args.bench.now) in executed_reported
     {I = λ (o : Environment). IsMoveReplyAt s o old c.in-Ok.path c.args.san.now (has_spot old.tree c.in-Ok.path)}
     {J = λ (o : Environment). IsInsertReply s o (study old) (steps_of c.args.path.now) c.args.san.now}
     {H = Holds g.P.PageSource.honest g.P.PageSource.gives (held.Study c.insert_at.new.bench) c.insert_at.new.tables}
@@ -27,6 +27,6 @@ pub returns-in-Err : goal.returns-in-Err
 returns-in-Err g c = λ s h. (
   no_path,
   s,
-  no_path_insert s (plain_study (marked c.args.bench.now)) (steps_of c.args.path.now) c.args.san.now (λ e. false≢true (c.in-Err.ensures.root e)),
+  no_path_insert s (plain_study (marked_study c.args.bench.now)) (steps_of c.args.path.now) c.args.san.now (λ e. false≢true (c.in-Err.ensures.root e)),
   h,
 )

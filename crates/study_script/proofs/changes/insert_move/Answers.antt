@@ -3,13 +3,13 @@ use Rattle.std.specs.Prelude.{MatchOption, IfErr}
 use Rattle.study_board.specs.Position.{Position}
 use Rattle.study_moves.specs.Rules.{after}
 use Rattle.study_marks.specs.Study.{plain_study, position_at}
-use Rattle.study_marks.specs.BenchState.{marked}
+use Rattle.study_marks.specs.BenchState.{marked_study}
 use Rattle.study_marks.specs.Queries.{asked_at, AllHeld, IsOutside}
 use Rattle.study_marks.specs.Answers.{TellsFirstFault}
 use Rattle.study_marks.specs.Edits.{with_insertion, insert_refusal}
 use Rattle.study_script.specs.State.{quiet}
 use Rattle.study_script.specs.SessionHolds.{tables_held, tables_source, are_paged}
-use Rattle.study_script.specs.Replies.{accepted, holding, inserted_text, IsInserted}
+use Rattle.study_script.specs.Replies.{accepted_reply, with_study, inserted_text, IsInserted}
 use Rattle.study_script.proofs.AskingEdits.{accepted_outside}
 use Rattle.study_script.proofs.HeldBehindReplies.{study_edited, study_same}
 use Rattle.study_script.proofs.PlainNodes.{position_at-plain, inserted_said}
@@ -19,7 +19,7 @@ use Rattle.study_script.proofs.changes.insert_move.Goals as goal
 
 pub returns-in-Ok : goal.returns-in-Ok
 returns-in-Ok g c = λ s h.
-    let shown = marked c.args.bench.now in
+    let shown = marked_study c.args.bench.now in
     let old = plain_study shown in
     let steps = c.args.path in
     let m = c.args.by.now in
@@ -28,8 +28,8 @@ returns-in-Ok g c = λ s h.
     let tables = c.args.tables.now in
     rw c.write_san-san.ensures (rw (inserted_said shown steps steps c.in-Ok.place c.args.start.now.position m refl c.in-Ok.ensures.place c.requires.at) (
       quiet,
-      holding s new,
-      subst (λ x. IsInserted s quiet old steps m x (accepted (holding s new) said))
+      with_study s new,
+      subst (λ x. IsInserted s quiet old steps m x (accepted_reply (with_study s new) said))
           (sym (none_of _ (insert_refusal {A = g.row.A.Denot} old steps m) (insert_refusal {A = Unit {0}} old steps m)
           (insert_same g.row.A.Denot (Unit {0}) old steps m) c.insert_move.result c.in-Ok.place
           c.insert_move.ensures.refusal c.in-Ok.is))
@@ -43,7 +43,7 @@ returns-in-Ok g c = λ s h.
 
 pub returns : goal.returns
 returns g c = λ s h.
-    let shown = marked c.args.bench.now in
+    let shown = marked_study c.args.bench.now in
     let old = plain_study shown in
     let steps = c.args.path in
     let m = c.args.by.now in

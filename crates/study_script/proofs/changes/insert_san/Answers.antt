@@ -2,10 +2,10 @@ use Rattle.std.proofs.Common.{Result, refl, sym, ◌∙◌, subst}
 use Rattle.study_moves.specs.declared.moves.Move.{Move}
 use Rattle.study_notation.specs.declared.fault.SanFault.{SanFault}
 use Rattle.study_marks.specs.Study.{plain_study}
-use Rattle.study_marks.specs.BenchState.{marked}
+use Rattle.study_marks.specs.BenchState.{marked_study}
 use Rattle.study_reply.specs.declared.refusal.Refusal.TheVariants.{San}
 use Rattle.study_script.specs.State.{quiet}
-use Rattle.study_script.specs.Replies.{refused, IsMoveReply}
+use Rattle.study_script.specs.Replies.{refused_reply, IsMoveReply}
 use Rattle.study_script.proofs.changes.insert_san.Goals as goal
 
 pub returns-in-Ok : goal.returns-in-Ok
@@ -15,7 +15,7 @@ pub returns : goal.returns
 returns g c = λ s h. (
   quiet,
   s,
-  subst (λ (x : Result Move SanFault). IsMoveReply s quiet (plain_study (marked c.args.bench.now)) c.args.path x (refused s (San c.in-Err.fault)))
+  subst (λ (x : Result Move SanFault). IsMoveReply s quiet (plain_study (marked_study c.args.bench.now)) c.args.path x (refused_reply s (San c.in-Err.fault)))
       (sym c.in-Err.is ∙ c.read_san.ensures.value) refl,
   h,
 )

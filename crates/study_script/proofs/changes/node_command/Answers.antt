@@ -1,19 +1,19 @@
 use Rattle.std.proofs.Common.{refl, subst}
 use Rattle.study_marks.specs.Study.{plain_study}
-use Rattle.study_marks.specs.BenchState.{marked}
+use Rattle.study_marks.specs.BenchState.{marked_study}
 use Rattle.study_command.specs.Paths.{steps_of}
 use Rattle.study_script.specs.declared.document.Document.TheVariants as held
 use Rattle.study_reply.specs.declared.refusal.Refusal.TheVariants.{NoStudy}
 use Rattle.study_script.specs.State.{Document, Environment, quiet, study}
 use Rattle.study_script.specs.SessionHolds.{HoldsFrom, HoldsBenchFrom}
-use Rattle.study_script.specs.Replies.{refused, IsStudyReplyAt}
+use Rattle.study_script.specs.Replies.{refused_reply, IsStudyReplyAt}
 use Rattle.study_script.proofs.Executions.{executed_weaker}
 use Rattle.study_script.proofs.HeldBehindReplies.{document_kept, document_of, bench_of, empty_seen, start_seen, study_seen}
 use Rattle.study_script.proofs.changes.node_command.Goals as goal
 
 pub returns-in-Study : goal.returns-in-Study
 returns-in-Study g c = λ s h. executed_weaker
-    {I = λ (o : Environment). IsStudyReplyAt s o c.args.word (study (plain_study (marked c.in-Study.bench))) (steps_of c.args.path.now)}
+    {I = λ (o : Environment). IsStudyReplyAt s o c.args.word (study (plain_study (marked_study c.in-Study.bench))) (steps_of c.args.path.now)}
     {J = λ (o : Environment). IsStudyReplyAt s o c.args.word s.document (steps_of c.args.path.now)} {H = HoldsBenchFrom s c.node_command_on.new.bench}
     {K = HoldsFrom {A = g.row.A.Denot} s (held.Study c.node_command_on.new.bench)} c.node_command_on.result
     (λ o r i. subst (λ (x : Document). IsStudyReplyAt s o c.args.word x (steps_of c.args.path.now) r)
@@ -25,7 +25,7 @@ pub returns-in-Empty : goal.returns-in-Empty
 returns-in-Empty g c = λ s h. (
   quiet,
   s,
-  subst (λ (x : Document). IsStudyReplyAt s quiet c.args.word x (steps_of c.args.path.now) (refused s NoStudy))
+  subst (λ (x : Document). IsStudyReplyAt s quiet c.args.word x (steps_of c.args.path.now) (refused_reply s NoStudy))
       (empty_seen c.args.document.now s c.in-Empty.is h) refl,
   document_kept c.args.document.now s h,
 )
@@ -34,7 +34,7 @@ pub returns-in-Start : goal.returns-in-Start
 returns-in-Start g c = λ s h. (
   quiet,
   s,
-  subst (λ (x : Document). IsStudyReplyAt s quiet c.args.word x (steps_of c.args.path.now) (refused s NoStudy))
+  subst (λ (x : Document). IsStudyReplyAt s quiet c.args.word x (steps_of c.args.path.now) (refused_reply s NoStudy))
       (start_seen c.args.document.now c.in-Start.field-0 s c.in-Start.is h) refl,
   document_kept c.args.document.now s h,
 )

@@ -1,7 +1,7 @@
 use Rattle.std.proofs.Common.{ℕ, List, subst}
 use Rattle.std.proofs.lemmas.Bool.{false≢true}
 use Rattle.study_marks.specs.Study.{plain_study}
-use Rattle.study_marks.specs.BenchState.{marked}
+use Rattle.study_marks.specs.BenchState.{marked_study}
 use Rattle.study_command.specs.Paths.{steps_of}
 use Rattle.study_script.specs.State.{Environment, no_path, study}
 use Rattle.study_script.specs.SessionHolds.{HoldsBenchFrom}
@@ -13,7 +13,7 @@ use Rattle.study_script.proofs.InsertReplies.{node_command_on}
 use Rattle.study_script.proofs.changes.node_command_on.Goals as goal
 
 pub returns-in-Ok : goal.returns-in-Ok
-returns-in-Ok g c = λ s h. let old = plain_study (marked c.args.bench.now) in executed_reported
+returns-in-Ok g c = λ s h. let old = plain_study (marked_study c.args.bench.now) in executed_reported
     {I = λ (o : Environment). IsStudyReply s c.args.word old c.in-Ok.path}
     {J = λ (o : Environment). IsStudyReplyAt s o c.args.word (study old) (steps_of c.args.path.now)}
     {H = HoldsBenchFrom s c.node_command_at.new.bench} {K = HoldsBenchFrom s c.node_command_at.new.bench} c.node_command_at.result
@@ -24,6 +24,6 @@ pub returns-in-Err : goal.returns-in-Err
 returns-in-Err g c = λ s h. (
   no_path,
   s,
-  no_path_word s c.args.word (plain_study (marked c.args.bench.now)) (steps_of c.args.path.now) (λ e. false≢true (c.in-Err.ensures.root e)),
+  no_path_word s c.args.word (plain_study (marked_study c.args.bench.now)) (steps_of c.args.path.now) (λ e. false≢true (c.in-Err.ensures.root e)),
   bench_kept c.args.bench.now s h,
 )

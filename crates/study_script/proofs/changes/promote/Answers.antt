@@ -1,35 +1,35 @@
 use Rattle.std.specs.Prelude.{codes}
 use Rattle.study_marks.specs.Study.{plain_study}
-use Rattle.study_marks.specs.BenchState.{marked}
+use Rattle.study_marks.specs.BenchState.{marked_study}
 use Rattle.study_marks.specs.Edits.{with_promotion, promote_refusal}
 use Rattle.study_tree.specs.Paths.{path_text}
-use Rattle.study_reply.specs.Words.{raised}
+use Rattle.study_reply.specs.Words.{path_after_move_up}
 use Rattle.study_reply.specs.Words.{reply_line}
 use Rattle.study_script.specs.State.{quiet}
-use Rattle.study_script.specs.Replies.{holding}
+use Rattle.study_script.specs.Replies.{with_study}
 use Rattle.study_script.proofs.SilentEdits.{edit_accepted, edit_refused, promote_same}
 use Rattle.study_script.proofs.HeldBehindReplies.{bench_edited, bench_same}
 use Rattle.study_script.proofs.changes.promote.Goals as goal
 
 pub returns-in-Ok : goal.returns-in-Ok
 returns-in-Ok g c = λ s h.
-    let old = plain_study (marked c.args.bench.now) in
+    let old = plain_study (marked_study c.args.bench.now) in
     let new = with_promotion old c.args.path in
-    let text = reply_line (codes "promote ") (path_text (raised c.args.path)) in
+    let text = reply_line (codes "promote ") (path_text (path_after_move_up c.args.path)) in
     let why = promote_refusal {A = g.row.A.Denot} old c.args.path in
     let reason = promote_refusal {A = Unit {0}} old c.args.path in
     let alike = promote_same g.row.A.Denot (Unit {0}) old c.args.path in (
       quiet,
-      holding s new,
+      with_study s new,
       edit_accepted s why reason new text alike c.promote.result _ c.promote.ensures.refusal c.in-Ok.is,
       bench_edited c.promote.new.self s new c.in-Ok.ensures.edited (c.in-Ok.ensures.right h.marks),
     )
 
 pub returns : goal.returns
 returns g c = λ s h.
-    let old = plain_study (marked c.args.bench.now) in
+    let old = plain_study (marked_study c.args.bench.now) in
     let new = with_promotion old c.args.path in
-    let text = reply_line (codes "promote ") (path_text (raised c.args.path)) in
+    let text = reply_line (codes "promote ") (path_text (path_after_move_up c.args.path)) in
     let why = promote_refusal {A = g.row.A.Denot} old c.args.path in
     let reason = promote_refusal {A = Unit {0}} old c.args.path in
     let alike = promote_same g.row.A.Denot (Unit {0}) old c.args.path in (

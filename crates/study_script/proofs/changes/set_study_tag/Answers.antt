@@ -1,31 +1,31 @@
 use Rattle.std.specs.Prelude.{codes}
 use Rattle.study_marks.specs.Study.{plain_study, tag_name}
-use Rattle.study_marks.specs.BenchState.{marked}
+use Rattle.study_marks.specs.BenchState.{marked_study}
 use Rattle.study_marks.specs.Edits.{with_tag, tag_refusal}
 use Rattle.study_reply.specs.Words.{reply_line}
 use Rattle.study_script.specs.State.{quiet}
-use Rattle.study_script.specs.Replies.{holding}
+use Rattle.study_script.specs.Replies.{with_study}
 use Rattle.study_script.proofs.SilentEdits.{edit_accepted, edit_refused, tag_same}
 use Rattle.study_script.proofs.HeldBehindReplies.{bench_edited, bench_same}
 use Rattle.study_script.proofs.changes.set_study_tag.Goals as goal
 
 pub returns-in-Ok : goal.returns-in-Ok
 returns-in-Ok g c = λ s h.
-    let old = plain_study (marked c.args.bench.now) in
+    let old = plain_study (marked_study c.args.bench.now) in
     let new = with_tag old c.args.name c.args.text.now in
     let text = reply_line (codes "tag ") (tag_name c.args.name) in
     let why = tag_refusal {A = g.row.A.Denot} c.args.text.now in
     let reason = tag_refusal {A = Unit {0}} c.args.text.now in
     let alike = tag_same g.row.A.Denot (Unit {0}) c.args.text.now in (
       quiet,
-      holding s new,
+      with_study s new,
       edit_accepted s why reason new text alike c.set_tag.result _ c.set_tag.ensures.refusal c.in-Ok.is,
       bench_edited c.set_tag.new.self s new c.in-Ok.ensures.edited (c.in-Ok.ensures.right h.marks),
     )
 
 pub returns-in-Err : goal.returns-in-Err
 returns-in-Err g c = λ s h.
-    let old = plain_study (marked c.args.bench.now) in
+    let old = plain_study (marked_study c.args.bench.now) in
     let new = with_tag old c.args.name c.args.text.now in
     let text = reply_line (codes "tag ") (tag_name c.args.name) in
     let why = tag_refusal {A = g.row.A.Denot} c.args.text.now in

@@ -1,18 +1,18 @@
 use Rattle.std.proofs.Common.{◌≡◌, refl, subst}
 use Rattle.study_marks.specs.Study.{plain_study}
-use Rattle.study_marks.specs.BenchState.{marked}
+use Rattle.study_marks.specs.BenchState.{marked_study}
 use Rattle.study_script.specs.declared.document.Document.TheVariants as held
 use Rattle.study_reply.specs.declared.refusal.Refusal.TheVariants.{NoStudy}
 use Rattle.study_script.specs.State.{Document, Environment, quiet, study}
 use Rattle.study_script.specs.SessionHolds.{HoldsFrom, HoldsBenchFrom}
-use Rattle.study_script.specs.Replies.{Reply, refused, tag_reply}
+use Rattle.study_script.specs.Replies.{Reply, refused_reply, tag_reply}
 use Rattle.study_script.proofs.Executions.{executed_weaker}
 use Rattle.study_script.proofs.HeldBehindReplies.{document_kept, document_of, bench_of, empty_seen, start_seen, study_seen}
 use Rattle.study_script.proofs.changes.set_tag.Goals as goal
 
 pub returns-in-Study : goal.returns-in-Study
 returns-in-Study g c = λ s h. executed_weaker
-    {I = λ (o : Environment) (r : Reply). r ≡ tag_reply s (study (plain_study (marked c.in-Study.bench))) c.args.name c.args.text.now}
+    {I = λ (o : Environment) (r : Reply). r ≡ tag_reply s (study (plain_study (marked_study c.in-Study.bench))) c.args.name c.args.text.now}
     {J = λ (o : Environment) (r : Reply). r ≡ tag_reply s s.document c.args.name c.args.text.now} {H = HoldsBenchFrom s c.set_study_tag.new.bench}
     {K = HoldsFrom {A = g.row.A.Denot} s (held.Study c.set_study_tag.new.bench)} c.set_study_tag.result
     (λ o r i. subst (λ (x : Document). r ≡ tag_reply s x c.args.name c.args.text.now)
@@ -24,7 +24,7 @@ pub returns-in-Empty : goal.returns-in-Empty
 returns-in-Empty g c = λ s h. (
   quiet,
   s,
-  subst (λ (x : Document). refused s NoStudy ≡ tag_reply s x c.args.name c.args.text.now) (empty_seen c.args.document.now s c.in-Empty.is h) refl,
+  subst (λ (x : Document). refused_reply s NoStudy ≡ tag_reply s x c.args.name c.args.text.now) (empty_seen c.args.document.now s c.in-Empty.is h) refl,
   document_kept c.args.document.now s h,
 )
 
@@ -32,7 +32,7 @@ pub returns-in-Start : goal.returns-in-Start
 returns-in-Start g c = λ s h. (
   quiet,
   s,
-  subst (λ (x : Document). refused s NoStudy ≡ tag_reply s x c.args.name c.args.text.now)
+  subst (λ (x : Document). refused_reply s NoStudy ≡ tag_reply s x c.args.name c.args.text.now)
       (start_seen c.args.document.now c.in-Start.field-0 s c.in-Start.is h) refl,
   document_kept c.args.document.now s h,
 )

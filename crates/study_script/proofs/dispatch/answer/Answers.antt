@@ -6,11 +6,11 @@ use Rattle.study_reply.specs.declared.refusal.Refusal.TheVariants.{Form}
 use Rattle.study_command.specs.Parser.{Asks, line_seen, command_of, command_seen}
 use Rattle.study_script.specs.State.{quiet}
 use Rattle.study_script.specs.SessionHolds.{Answered, BrokenOff}
-use Rattle.study_script.specs.Replies.{accepted, refused, IsReplyTo, IsReplyWhere, IsReply}
+use Rattle.study_script.specs.Replies.{accepted_reply, refused_reply, IsReplyTo, IsReplyWhere, IsReply}
 use Rattle.study_script.proofs.Executions.{executed_answered, executed_broken}
 use Rattle.study_script.specs.Stores.{HonestOn, IsTrustedAsk}
 use Rattle.study_script.specs.Session.{SessionHolds}
-use Rattle.study_script.specs.Written.{IsPieceWhere, IsCutOff, silent, error_of}
+use Rattle.study_script.specs.Written.{IsPieceWhere, IsCutOff, silent_piece, error_of}
 use Rattle.study_script.proofs.DonePieces.{answer-written, answer-cut-off}
 use Rattle.study_reply.specs.Names.{words_of}
 use Rattle.study_script.proofs.dispatch.answer.Goals as goal
@@ -19,10 +19,10 @@ pub returns-in-Ok-None-clause-ok : goal.returns-in-Ok-None-clause-ok
 returns-in-Ok-None-clause-ok g c =
     λ trusted s may d. (
       quiet,
-      accepted s [],
-      subst (λ (x : Asks). IsReplyWhere s quiet x (accepted s []))
-          c.read_command.ensures (subst (λ x. IsReplyWhere s quiet (line_seen x) (accepted s [])) (sym c.in-Ok-None.is)
-          (subst (λ x. IsReplyWhere s quiet (line_seen (Ok x)) (accepted s [])) (sym c.in-Ok-None.field-0-is) refl)),
+      accepted_reply s [],
+      subst (λ (x : Asks). IsReplyWhere s quiet x (accepted_reply s []))
+          c.read_command.ensures (subst (λ x. IsReplyWhere s quiet (line_seen x) (accepted_reply s [])) (sym c.in-Ok-None.is)
+          (subst (λ x. IsReplyWhere s quiet (line_seen (Ok x)) (accepted_reply s [])) (sym c.in-Ok-None.field-0-is) refl)),
       Appends-nil (g.W.Write.contents c.args.out.now),
       d,
       refl,
@@ -33,9 +33,9 @@ returns-in_err-write_refusal-in-Err-clause-err g c =
     λ trusted s may d. let part : BrokenOff (IsReply s c.args.line.now) (g.W.Write.contents c.args.out.now)
     (g.W.Write.contents c.write_refusal.new.out) = (
       quiet,
-      refused s (Form c.in-Err.fault),
-      subst (λ (x : Asks). IsReplyWhere s quiet x (refused s (Form c.in-Err.fault))) c.read_command.ensures
-          (subst (λ x. IsReplyWhere s quiet (line_seen x) (refused s (Form c.in-Err.fault))) (sym c.in-Err.is) refl),
+      refused_reply s (Form c.in-Err.fault),
+      subst (λ (x : Asks). IsReplyWhere s quiet x (refused_reply s (Form c.in-Err.fault))) c.read_command.ensures
+          (subst (λ x. IsReplyWhere s quiet (line_seen x) (refused_reply s (Form c.in-Err.fault))) (sym c.in-Err.is) refl),
       c.in_err-write_refusal-in-Err.ensures.err,
     ) in OnErr-known _ _ part
 
@@ -43,9 +43,9 @@ pub returns-in_ok-write_refusal-in-Err-clause-ok : goal.returns-in_ok-write_refu
 returns-in_ok-write_refusal-in-Err-clause-ok g c =
     λ trusted s may d. (
       quiet,
-      refused s (Form c.in-Err.fault),
-      subst (λ (x : Asks). IsReplyWhere s quiet x (refused s (Form c.in-Err.fault))) c.read_command.ensures
-          (subst (λ x. IsReplyWhere s quiet (line_seen x) (refused s (Form c.in-Err.fault))) (sym c.in-Err.is) refl),
+      refused_reply s (Form c.in-Err.fault),
+      subst (λ (x : Asks). IsReplyWhere s quiet x (refused_reply s (Form c.in-Err.fault))) c.read_command.ensures
+          (subst (λ x. IsReplyWhere s quiet (line_seen x) (refused_reply s (Form c.in-Err.fault))) (sym c.in-Err.is) refl),
       c.in_ok-write_refusal-in-Err.ensures.ok,
       d,
       refl,
@@ -84,9 +84,9 @@ returns-in-Ok-Some-clause-err g c = λ trusted s may d.
 
 pub returns-in-Ok-None-clause-written : goal.returns-in-Ok-None-clause-written
 returns-in-Ok-None-clause-written g c = (
-  silent,
-  subst (λ (x : Asks). IsPieceWhere x silent) c.read_command.ensures (subst (λ x. IsPieceWhere (line_seen x) silent) (sym c.in-Ok-None.is)
-      (subst (λ x. IsPieceWhere (line_seen (Ok x)) silent) (sym c.in-Ok-None.field-0-is) refl)),
+  silent_piece,
+  subst (λ (x : Asks). IsPieceWhere x silent_piece) c.read_command.ensures (subst (λ x. IsPieceWhere (line_seen x) silent_piece) (sym c.in-Ok-None.is)
+      (subst (λ x. IsPieceWhere (line_seen (Ok x)) silent_piece) (sym c.in-Ok-None.field-0-is) refl)),
   Appends-nil (g.W.Write.contents c.args.out.now),
   refl,
 )

@@ -3,7 +3,7 @@ use Rattle.study_marks.specs.Queries.{asked_at}
 use Rattle.study_reply.specs.Words.{stipulation_words}
 use Rattle.study_script.specs.State.{quiet}
 use Rattle.study_script.specs.SessionHolds.{tables_held, tables_source, are_paged}
-use Rattle.study_script.specs.Replies.{holding, new_study}
+use Rattle.study_script.specs.Replies.{with_study, new_study}
 use Rattle.study_script.proofs.AskingEdits.{refused_asking, accepted_outside}
 use Rattle.study_script.proofs.Documents.{study_made, document_same}
 use Rattle.study_script.proofs.TablesFaults.{failing_known}
@@ -14,7 +14,7 @@ returns-in-Ok g c = λ s h.
     let new = new_study c.args.start c.args.stipulation.now in
     let tables = c.args.tables.now in (
       quiet,
-      holding s new,
+      with_study s new,
       accepted_outside s (tables_held tables) (asked_at c.args.start.position) new (stipulation_words c.args.stipulation.now) h.classes
           c.in-Ok.ensures.found,
       study_made g.P.PageSource.honest g.P.PageSource.gives

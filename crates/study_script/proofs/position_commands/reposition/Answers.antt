@@ -2,13 +2,13 @@ use Rattle.std.proofs.Common.{◌≡◌, true}
 use Rattle.std.specs.Prelude.{codes}
 use Rattle.study_notation.specs.FenSpelling.{fen_text}
 use Rattle.study_marks.specs.Study.{plain_study}
-use Rattle.study_marks.specs.BenchState.{marked}
+use Rattle.study_marks.specs.BenchState.{marked_study}
 use Rattle.study_marks.specs.Queries.{asked_at}
 use Rattle.study_marks.specs.Edits.{with_position}
 use Rattle.study_reply.specs.Words.{reply_line}
 use Rattle.study_script.specs.State.{quiet}
 use Rattle.study_script.specs.SessionHolds.{tables_held, tables_source, are_paged}
-use Rattle.study_script.specs.Replies.{holding}
+use Rattle.study_script.specs.Replies.{with_study}
 use Rattle.study_script.proofs.AskingEdits.{refused_asking, accepted_outside}
 use Rattle.study_script.proofs.HeldBehindReplies.{study_edited, study_same}
 use Rattle.study_script.proofs.TablesFaults.{failing_known}
@@ -17,11 +17,11 @@ use Rattle.study_script.proofs.position_commands.reposition.Goals as goal
 pub returns-in-Ok : goal.returns-in-Ok
 returns-in-Ok g c = λ s h.
     let start = c.copied.result in
-    let new = with_position (plain_study (marked c.args.bench.now)) start in
+    let new = with_position (plain_study (marked_study c.args.bench.now)) start in
     let tables = c.args.tables.now in
     rw (← c.copied.ensures) (
       quiet,
-      holding s new,
+      with_study s new,
       accepted_outside s (tables_held tables) (asked_at start.position) new (reply_line (codes "position ") (fen_text start)) h.classes c.in-Ok.ensures.found,
       study_edited g.P.PageSource.honest g.P.PageSource.gives c.args.bench.now c.set_position.new.bench tables c.set_position.new.tables
           s new h c.in-Ok.ensures.edited (c.in-Ok.ensures.right h.values) (c.set_position.ensures.honest h.values)
@@ -31,7 +31,7 @@ returns-in-Ok g c = λ s h.
 pub returns-in-Err : goal.returns-in-Err
 returns-in-Err g c = λ s h.
     let start = c.copied.result in
-    let new = with_position (plain_study (marked c.args.bench.now)) start in
+    let new = with_position (plain_study (marked_study c.args.bench.now)) start in
     let asked = asked_at start.position in
     let tables = c.args.tables.now in
     let out = refused_asking g.row.A.Denot s (tables_held tables) (are_paged tables) asked new (reply_line (codes "position ") (fen_text start))

@@ -2,19 +2,19 @@ use Rattle.std.proofs.Common.{refl, subst}
 use Rattle.std.specs.Prelude.{codes}
 use Rattle.study_notation.specs.FenSpelling.{fen_text}
 use Rattle.study_marks.specs.Study.{plain_study}
-use Rattle.study_marks.specs.BenchState.{marked}
+use Rattle.study_marks.specs.BenchState.{marked_study}
 use Rattle.study_script.specs.declared.document.Document.TheVariants as held
 use Rattle.study_reply.specs.Words.{reply_line}
 use Rattle.study_script.specs.State.{Document, Environment, quiet, start, study}
 use Rattle.study_script.specs.SessionHolds.{Holds}
-use Rattle.study_script.specs.Replies.{accepted, IsPositionReply}
+use Rattle.study_script.specs.Replies.{accepted_reply, IsPositionReply}
 use Rattle.study_script.proofs.Executions.{executed_weaker}
 use Rattle.study_script.proofs.Documents.{holds_of, seen_of, start_held}
 use Rattle.study_script.proofs.position_commands.set_position.Goals as goal
 
 pub returns-in-Study : goal.returns-in-Study
 returns-in-Study g c = λ s h. executed_weaker
-    {I = λ (o : Environment). IsPositionReply s o (study (plain_study (marked c.in-Study.bench))) c.args.start}
+    {I = λ (o : Environment). IsPositionReply s o (study (plain_study (marked_study c.in-Study.bench))) c.args.start}
     {J = λ (o : Environment). IsPositionReply s o s.document c.args.start}
     {H = Holds g.P.PageSource.honest g.P.PageSource.gives (held.Study c.reposition.new.bench) c.reposition.new.tables}
     {K = Holds g.P.PageSource.honest g.P.PageSource.gives (held.Study c.reposition.new.bench) c.reposition.new.tables} c.reposition.result
@@ -28,7 +28,7 @@ returns-in-Empty g c = λ s h. rw c.set_bare_start.ensures.reply (
   quiet,
   record s { document = start c.args.start },
   subst (λ (x : Document). IsPositionReply s quiet x c.args.start
-      (accepted (record s { document = start c.args.start }) (reply_line (codes "position ") (fen_text c.args.start))))
+      (accepted_reply (record s { document = start c.args.start }) (reply_line (codes "position ") (fen_text c.args.start))))
       (seen_of g.P.PageSource.honest g.P.PageSource.gives c.args.document.now held.Empty c.args.tables.now s c.in-Empty.is h) refl,
   start_held g.P.PageSource.honest g.P.PageSource.gives c.args.document.now c.set_bare_start.new.document c.args.tables.now s c.args.start
       c.set_bare_start.ensures.held h,
@@ -39,7 +39,7 @@ returns-in-Start g c = λ s h. rw c.set_bare_start-in-Start.ensures.reply (
   quiet,
   record s { document = start c.args.start },
   subst (λ (x : Document). IsPositionReply s quiet x c.args.start
-      (accepted (record s { document = start c.args.start }) (reply_line (codes "position ") (fen_text c.args.start))))
+      (accepted_reply (record s { document = start c.args.start }) (reply_line (codes "position ") (fen_text c.args.start))))
       (seen_of g.P.PageSource.honest g.P.PageSource.gives c.args.document.now (held.Start c.in-Start.field-0) c.args.tables.now s c.in-Start.is h) refl,
   start_held g.P.PageSource.honest g.P.PageSource.gives c.args.document.now c.set_bare_start-in-Start.new.document c.args.tables.now s c.args.start
       c.set_bare_start-in-Start.ensures.held h,

@@ -2,13 +2,13 @@ use Rattle.std.proofs.Common.{◌≡◌, true, sym, subst}
 use Rattle.std.specs.Prelude.{codes}
 use Rattle.study_notation.specs.FenSpelling.{fen_text}
 use Rattle.study_marks.specs.Study.{plain_study}
-use Rattle.study_marks.specs.BenchState.{marked}
+use Rattle.study_marks.specs.BenchState.{marked_study}
 use Rattle.study_marks.specs.Queries.{positions_asked}
 use Rattle.study_marks.specs.Edits.{with_start}
 use Rattle.study_reply.specs.Words.{reply_line}
 use Rattle.study_script.specs.State.{quiet}
 use Rattle.study_script.specs.SessionHolds.{tables_held, tables_source, are_paged}
-use Rattle.study_script.specs.Replies.{accepted, holding, IsShiftReply}
+use Rattle.study_script.specs.Replies.{accepted_reply, with_study, IsShiftReply}
 use Rattle.study_script.proofs.AskingEdits.{accepted_outside}
 use Rattle.study_script.proofs.ShiftReplies.{unbroken, shift_refused}
 use Rattle.study_script.proofs.HeldBehindReplies.{study_edited, study_same}
@@ -18,14 +18,14 @@ use Rattle.study_script.proofs.position_commands.shift.Goals as goal
 pub returns-in-Ok : goal.returns-in-Ok
 returns-in-Ok g c = λ s h.
     let start = c.copied.result in
-    let old = plain_study (marked c.args.bench.now) in
+    let old = plain_study (marked_study c.args.bench.now) in
     let new = with_start old start in
     let said = reply_line (codes "shift ") (fen_text start) in
     let tables = c.args.tables.now in rw (← c.copied.ensures) (
       quiet,
-      holding s new,
-      subst (λ x. IsShiftReply s quiet old start x (accepted (holding s new) said))
-          (sym (unbroken (Unit {0}) (marked c.args.bench.now) start c.in-Ok.ensures.broken))
+      with_study s new,
+      subst (λ x. IsShiftReply s quiet old start x (accepted_reply (with_study s new) said))
+          (sym (unbroken (Unit {0}) (marked_study c.args.bench.now) start c.in-Ok.ensures.broken))
           (accepted_outside s (tables_held tables) (positions_asked new) new said h.classes c.in-Ok.ensures.found),
       study_edited g.P.PageSource.honest g.P.PageSource.gives c.args.bench.now c.shift_position.new.bench tables
           c.shift_position.new.tables s new h c.in-Ok.ensures.edited (c.in-Ok.ensures.right h.values)
@@ -35,7 +35,7 @@ returns-in-Ok g c = λ s h.
 pub returns-in-Err : goal.returns-in-Err
 returns-in-Err g c = λ s h.
     let start = c.copied.result in
-    let old = plain_study (marked c.args.bench.now) in
+    let old = plain_study (marked_study c.args.bench.now) in
     let asked = positions_asked (with_start old start) in
     let tables = c.args.tables.now in
     let out = shift_refused g.row.A.Denot s (tables_held tables) (are_paged tables) old start c.in-Err.refusal

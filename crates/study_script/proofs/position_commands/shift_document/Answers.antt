@@ -1,20 +1,20 @@
 use Rattle.std.proofs.Common.{refl, subst}
 use Rattle.study_notation.specs.Fen.{start_of}
 use Rattle.study_marks.specs.Study.{plain_study}
-use Rattle.study_marks.specs.BenchState.{marked}
+use Rattle.study_marks.specs.BenchState.{marked_study}
 use Rattle.study_command.specs.declared.command.FenCommand.TheVariants.{Shift}
 use Rattle.study_script.specs.declared.document.Document.TheVariants as held
 use Rattle.study_reply.specs.declared.refusal.Refusal.TheVariants.{NoStudy}
 use Rattle.study_script.specs.State.{Document, Environment, quiet, study}
 use Rattle.study_script.specs.SessionHolds.{Holds}
-use Rattle.study_script.specs.Replies.{refused, IsStartReply}
+use Rattle.study_script.specs.Replies.{refused_reply, IsStartReply}
 use Rattle.study_script.proofs.Executions.{executed_weaker}
 use Rattle.study_script.proofs.Documents.{holds_of, seen_of}
 use Rattle.study_script.proofs.position_commands.shift_document.Goals as goal
 
 pub returns-in-Study : goal.returns-in-Study
 returns-in-Study g c = λ s h. executed_weaker
-    {I = λ (o : Environment). IsStartReply s o Shift (study (plain_study (marked c.in-Study.bench))) (start_of c.args.fen.now)}
+    {I = λ (o : Environment). IsStartReply s o Shift (study (plain_study (marked_study c.in-Study.bench))) (start_of c.args.fen.now)}
     {J = λ (o : Environment). IsStartReply s o Shift s.document (start_of c.args.fen.now)}
     {H = Holds g.P.PageSource.honest g.P.PageSource.gives (held.Study c.shift_study.new.bench) c.shift_study.new.tables}
     {K = Holds g.P.PageSource.honest g.P.PageSource.gives (held.Study c.shift_study.new.bench) c.shift_study.new.tables} c.shift_study.result
@@ -27,7 +27,7 @@ pub returns-in-Empty : goal.returns-in-Empty
 returns-in-Empty g c = λ s h. (
   quiet,
   s,
-  subst (λ (x : Document). IsStartReply s quiet Shift x (start_of c.args.fen.now) (refused s NoStudy))
+  subst (λ (x : Document). IsStartReply s quiet Shift x (start_of c.args.fen.now) (refused_reply s NoStudy))
       (seen_of g.P.PageSource.honest g.P.PageSource.gives c.args.document.now held.Empty c.args.tables.now s c.in-Empty.is h) refl,
   h,
 )
@@ -36,7 +36,7 @@ pub returns-in-Start : goal.returns-in-Start
 returns-in-Start g c = λ s h. (
   quiet,
   s,
-  subst (λ (x : Document). IsStartReply s quiet Shift x (start_of c.args.fen.now) (refused s NoStudy))
+  subst (λ (x : Document). IsStartReply s quiet Shift x (start_of c.args.fen.now) (refused_reply s NoStudy))
       (seen_of g.P.PageSource.honest g.P.PageSource.gives c.args.document.now (held.Start c.in-Start.field-0) c.args.tables.now s c.in-Start.is h) refl,
   h,
 )

@@ -1,13 +1,13 @@
 use Rattle.std.proofs.Common.{refl, sym, ◌∙◌}
 use Rattle.study_tree.specs.Tree.{spot_at}
-use Rattle.study_marks.specs.BenchState.{marked}
+use Rattle.study_marks.specs.BenchState.{marked_study}
 use Rattle.study_script.specs.State.{quiet}
 use Rattle.study_script.proofs.HeldBehindReplies.{bench_kept, mark_reported, mark_missing}
 use Rattle.study_script.proofs.queries.mark_at.Goals as goal
 
 pub returns-in-Some : goal.returns-in-Some
 returns-in-Some g c = λ s h.
-    let m = marked c.args.bench.now in
+    let m = marked_study c.args.bench.now in
     let steps = c.args.path in (
       quiet,
       s,
@@ -17,7 +17,7 @@ returns-in-Some g c = λ s h.
 
 pub returns : goal.returns
 returns g c = λ s h.
-    let m = marked c.args.bench.now in
+    let m = marked_study c.args.bench.now in
     let steps = c.args.path in (
       quiet,
       s,

@@ -1,6 +1,6 @@
 use Rattle.std.proofs.Common.{rules, ◌≡◌, Err, refl, sym, subst}
 use Rattle.study_script.specs.State.{quiet, is_among}
-use Rattle.study_script.specs.Replies.{IsClassReply, IsOpenReply, refused}
+use Rattle.study_script.specs.Replies.{IsClassReply, IsOpenReply, refused_reply}
 use Rattle.study_command.specs.declared.command.TableCommand.{TableCommand}
 use Rattle.study_command.specs.declared.command.TableCommand.TheVariants.{Load}
 use Rattle.study_reply.specs.declared.refusal.Refusal.TheVariants.{NotAClass}
@@ -15,7 +15,7 @@ returns-in_err-class-in-Load g c = λ trusted s may h seen.
     rw is (
       quiet,
       s,
-      subst (λ (w : TableCommand). IsClassReply s quiet w c.args.name.now (refused s NotAClass))
+      subst (λ (w : TableCommand). IsClassReply s quiet w c.args.name.now (refused_reply s NotAClass))
           (sym c.in-Load.is) (not_named s quiet Load c.args.name.now c.in_err-class-in-Load.ensures.err.1),
       (h, refl, seen),
     )

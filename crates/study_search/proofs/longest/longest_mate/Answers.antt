@@ -8,7 +8,7 @@ use Rattle.study_search.proofs.longest.longest_mate.Goals as goal
 pub loop-number-preserved : goal.loop-number-preserved
 loop-number-preserved g c = record {
   longest = λ h.
-      subst (λ (x : Option ℕ). IsLongestBelow (MatesAt c.args.class c.args.side) (c.loop-number.number + 1) x) (sym c.longer-longest.ensures)
+      subst (λ (x : Option ℕ). IsLongestBelow (MatesAt c.args.class c.args.side) (c.loop-number.number + 1) x) (sym c.option_max-longest.ensures)
       (longest-more (MatesAt c.args.class c.args.side) c.loop-number.number c.loop-number.longest c.in-Ok.mate
       (c.loop-number.invariant.longest h) (c.in-Ok.ensures.game (c.loop-number.invariant.honest h)));
   honest = λ h. c.mate_at.ensures.honest (c.loop-number.invariant.honest h);

@@ -1,5 +1,5 @@
 use Rattle.std.proofs.Common.{◌∷◌, ◌+◌, refl, sym, ◌∙◌, ap, arith}
-use Rattle.study_tree.specs.Edits.{plain}
+use Rattle.study_tree.specs.Edits.{without_spares}
 use Rattle.study_tree.specs.Changes.{changed_along}
 use Rattle.study_tree.proofs.PathSteps.{has_node-within, step_of, has_node-step}
 use Rattle.study_tree.proofs.LabelChanges.{changed-set, changed-here}
@@ -39,7 +39,8 @@ returns-in-Some g t c =
     c.index_mut-child.result.now c.requires.found refl c.child.view_is c.index_mut-child.ensures.value in
     changed-set (g.C.LabelChange.changed c.args.change.now) c.args.depth c.args.children.now.items c.args.first c.args.rest.now _ _
     step.within step.at refl c.change.ensures
-    (c.update_below.ensures ∙ ap (changed_along (g.C.LabelChange.changed c.args.change.now) (c.args.depth + 1) (plain _)) (sym c.in-Some.ensures.cases.0))
+    (c.update_below.ensures ∙ ap (changed_along (g.C.LabelChange.changed c.args.change.now) (c.args.depth + 1) (without_spares _))
+    (sym c.in-Some.ensures.cases.0))
 
 pub returns-in_default : goal.returns-in_default
 returns-in_default g t c =

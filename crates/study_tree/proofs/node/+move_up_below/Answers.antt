@@ -1,6 +1,6 @@
 use Rattle.std.proofs.Common.{◌∷◌, refl, ◌∙◌, ap, arith}
 use Rattle.study_tree.specs.Forest.{forest_of}
-use Rattle.study_tree.specs.Edits.{plain, raised_at}
+use Rattle.study_tree.specs.Edits.{without_spares, raised_at}
 use Rattle.study_tree.proofs.PathSteps.{has_node-within, step_of, has_node-step, place_edited-step, raised-here, last_place-here}
 use Rattle.study_tree.proofs.node.+move_up_below.Goals as goal
 
@@ -41,7 +41,7 @@ pub returns-in-None : goal.returns-in-None
 returns-in-None g t c =
     let z = c.in-None.ensures.cases in
     let within = has_node-within c.args.children.now.items c.args.first c.args.rest.now c.requires.found in
-    ap (λ xs. plain (forest_of xs)) c.swap.ensures.items
+    ap (λ xs. without_spares (forest_of xs)) c.swap.ensures.items
     ∙ raised-here c.args.children.now.items c.args.first c.args.rest.now z
     (omega (arith, last_place-here c.args.first c.args.rest.now z, c.requires.not_first)) within
 

@@ -1,6 +1,6 @@
 use Rattle.std.proofs.Common.{ℕ, ◌∷◌, refl, ◌∙◌, ap, arith, vec_len, vec_capacity, ◌-◌}
 use Rattle.study_tree.specs.Forest.{Twig, forest_of}
-use Rattle.study_tree.specs.Edits.{plain, dropped_at}
+use Rattle.study_tree.specs.Edits.{without_spares, dropped_at}
 use Rattle.study_tree.proofs.PathSteps.{has_node-within, step_of, has_node-step, place_edited-step, dropped-here, nodes_in-remove, nodes_in-set}
 use Rattle.study_tree.proofs.node.+remove_below.Goals as goal
 
@@ -23,7 +23,8 @@ remove_below-requires g t c κs within =
 
 pub returns-in-None-clause-removed : goal.returns-in-None-clause-removed
 returns-in-None-clause-removed g t c =
-    ap (λ xs. plain (forest_of xs)) c.take_node.ensures.items ∙ dropped-here c.args.children.now.items c.args.first c.args.rest.now c.in-None.ensures.cases
+    ap (λ xs. without_spares (forest_of xs)) c.take_node.ensures.items
+    ∙ dropped-here c.args.children.now.items c.args.first c.args.rest.now c.in-None.ensures.cases
 
 pub returns-in-None-clause-counted : goal.returns-in-None-clause-counted
 returns-in-None-clause-counted g t c =

@@ -4,7 +4,7 @@ use Rattle.study_board.specs.Position.{Position}
 use Rattle.study_moves.specs.LegalList.{legal_list}
 use Rattle.study_notation.specs.declared.start.Start.{Start}
 use Rattle.study_marks.specs.Goals.{aim_of}
-use Rattle.study_marks.specs.BenchState.{marked}
+use Rattle.study_marks.specs.BenchState.{marked_study}
 use Rattle.study_facts.specs.declared.continuation.EvaluatedMove.{EvaluatedMove}
 use Rattle.study_facts.specs.Continuations.{AreChosen}
 use Rattle.study_view.specs.Asked.{EachEvaluated, StoppedAt}
@@ -18,7 +18,7 @@ use Rattle.study_view.proofs.view.view_from.Goals as goal
 
 pub returns-in_err-moves-clause-asked : goal.returns-in_err-moves-clause-asked
 returns-in_err-moves-clause-asked g c =
-    let s = marked c.args.bench.now in
+    let s = marked_study c.args.bench.now in
     let f = c.in_err-moves.field-0.0 in
     refused-after g.V.Values.source
     s.start.position (asked_at s c.args.steps.now) c.args.values.now c.evaluate_legal_moves.new.values c.from_residual.result (Values f)
@@ -32,7 +32,7 @@ returns-in_err-moves-clause-asked g c =
 
 pub returns-in_err-lines-clause-asked : goal.returns-in_err-lines-clause-asked
 returns-in_err-lines-clause-asked g c =
-    let s = marked c.args.bench.now in
+    let s = marked_study c.args.bench.now in
     refused-after g.V.Values.source
     s.start.position (asked_at s c.args.steps.now) c.args.values.now c.tree_lines.new.values c.from_residual-in_err-lines.result c.in_err-lines.field-0.0
     c.from_residual-in_err-lines.ensures.1
@@ -48,7 +48,7 @@ returns-in_err-lines-clause-asked g c =
 
 pub returns-in_err-text-clause-asked : goal.returns-in_err-text-clause-asked
 returns-in_err-text-clause-asked g c =
-    let s = marked c.args.bench.now in
+    let s = marked_study c.args.bench.now in
     refused-after g.V.Values.source
     s.start.position (asked_at s c.args.steps.now) c.args.values.now c.tree_lines.new.values c.from_residual-in_err-text.result OutOfMemory
     c.from_residual-in_err-text.ensures.1
@@ -62,7 +62,7 @@ returns-in_err-text-clause-asked g c =
 
 pub returns-clause-asked : goal.returns-clause-asked
 returns-clause-asked g c =
-    let s = marked c.args.bench.now in
+    let s = marked_study c.args.bench.now in
     each-more g.V.Values.source s.start.position (asked_at s c.args.steps.now) c.args.values.now c.evaluate_legal_moves.new.values c.tree_lines.new.values
     (subst
     (λ (asked : List Position). EachEvaluated g.V.Values.source
@@ -73,7 +73,7 @@ returns-clause-asked g c =
 
 pub returns-clause-text : goal.returns-clause-text
 returns-clause-text g c h =
-    let s = marked c.args.bench.now in
+    let s = marked_study c.args.bench.now in
     let here = c.args.start.now in
     let st = c.stipulation-stipulation.result in
     let aim : c.aim_of-aim.result ≡ aim_of s =

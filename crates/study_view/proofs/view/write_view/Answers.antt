@@ -1,6 +1,6 @@
 use Rattle.std.proofs.Common.{List, ℕ, refl, subst, ap, Err}
 use Rattle.std.specs.Io.KnownBytes.{Appends}
-use Rattle.study_marks.specs.BenchState.{marked}
+use Rattle.study_marks.specs.BenchState.{marked_study}
 use Rattle.study_text.specs.Taken.{TakesPrefix}
 use Rattle.study_view.specs.declared.fault.ViewFault.TheVariants.{Device}
 use Rattle.study_view.proofs.AllAsked.{refused-so}
@@ -27,6 +27,6 @@ returns-in-Ok-clause-ok g c h = (
 pub returns-in-Ok-clause-plain : goal.returns-in-Ok-clause-plain
 returns-in-Ok-clause-plain g c h right = (
   c.in_ok-text.text,
-  (marked c.args.bench.now, refl, right.marks, c.in_ok-text.ensures.text h),
+  (marked_study c.args.bench.now, refl, right.marks, c.in_ok-text.ensures.text h),
   subst (λ (t : List ℕ). Appends (g.W.Write.contents c.args.out.now) (g.W.Write.contents c.write_text.new.out) t) c.as_slice.ensures c.in-Ok.ensures.ok,
 )

@@ -8,4 +8,4 @@ returns g c =
     let spans = c.args.spans.now in
     let bytes = c.args.bytes.now in
     whole_reported c.file_of.result (λ v. v.items) (IsMadeFile spans bytes c.args.class) (IsMakeDenial spans bytes c.args.class) IsNoMemory
-    c.reported.result.text.items c.reported.result.ended c.reported.ensures.text c.reported.ensures.none c.file_of.ensures.file c.file_of.ensures.none refl
+    c.answer_of.result.text.items c.answer_of.result.ended c.answer_of.ensures.text c.answer_of.ensures.none c.file_of.ensures.file c.file_of.ensures.none refl

@@ -9,4 +9,5 @@ pub returns : goal.returns
 returns g c =
     let p = c.args.start.now.position in
     whole_reported c.passed_of.result (λ v. v.items) (λ text. text ≡ squares_text (passed_squares p.men p.to_move)) IsOutOfMemory IsNoMemory
-    c.reported.result.text.items c.reported.result.ended c.reported.ensures.text c.reported.ensures.none c.passed_of.ensures.text c.passed_of.ensures.none refl
+    c.answer_of.result.text.items c.answer_of.result.ended c.answer_of.ensures.text c.answer_of.ensures.none c.passed_of.ensures.text
+    c.passed_of.ensures.none refl

@@ -8,7 +8,7 @@ use Rattle.study_web.proofs.dispatch.answer_review.Goals as goal
 pub returns-in-Err : goal.returns-in-Err
 returns-in-Err g c =
     let script = c.args.script.now in
-    inl (no_value_end IsOutOfMemory (IsUnread script) c.in-Err.why c.reported.result.text.items c.reported.result.ended c.reported.ensures.none
+    inl (no_value_end IsOutOfMemory (IsUnread script) c.in-Err.why c.answer_of.result.text.items c.answer_of.result.ended c.answer_of.ensures.none
     c.in-Err.ensures.none (no_memory script))
 
 pub returns-in-Ok : goal.returns-in-Ok

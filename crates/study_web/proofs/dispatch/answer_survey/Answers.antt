@@ -40,7 +40,7 @@ returns-in-Ok g c =
       subst (λ (q : Position). AreClassesNeeded (q ∷ []) classes) c.copied.ensures c.classes_needed-classes.ensures,
       whole_reported c.survey_of.result (λ v. v.items) (λ text. AreAllRight those bytes → IsSurvey p asked.square asked.stipulation text)
           (IsSurveyDenial (IsOfFileValues those bytes p) asked.start asked.square) IsNoMemory
-          c.reported.result.text.items c.reported.result.ended c.reported.ensures.text c.reported.ensures.none
+          c.answer_of.result.text.items c.answer_of.result.ended c.answer_of.ensures.text c.answer_of.ensures.none
           (if_right c.survey_of.result (λ v. v.items) (AreAllRight those bytes) (IsSurvey p asked.square asked.stipulation)
           (λ right. c.survey_of.ensures.text (right_made spans made.bytes right)))
           (survey_denial _ (IsOfFileValues those bytes p) asked.start asked.square (values_made spans made.bytes made.written p)

@@ -9,5 +9,5 @@ pub returns : goal.returns
 returns g c =
     let script = c.args.script.now in
     whole_reported c.tables_of.result (λ v. v.items) (AreTables (script_lines script)) IsOutOfMemory (IsUnread script)
-    c.reported.result.text.items c.reported.result.ended c.reported.ensures.text c.reported.ensures.none c.tables_of.ensures.text c.tables_of.ensures.none
+    c.answer_of.result.text.items c.answer_of.result.ended c.answer_of.ensures.text c.answer_of.ensures.none c.tables_of.ensures.text c.tables_of.ensures.none
     (no_memory script)

@@ -32,7 +32,7 @@ returns-in-Ok g c =
       classes,
       c.classes_for-classes.ensures,
       whole_reported c.found_of.result (λ v. v.items) (λ text. AreAllRight those bytes → IsPiece piece text) (IsOfFileSearch those bytes) IsNoMemory
-          c.reported.result.text.items c.reported.result.ended c.reported.ensures.text c.reported.ensures.none
+          c.answer_of.result.text.items c.answer_of.result.ended c.answer_of.ensures.text c.answer_of.ensures.none
           (if_right c.found_of.result (λ v. v.items) (AreAllRight those bytes) (IsPiece piece)
           (λ right. c.found_of.ensures.text (right_made spans made.bytes right)))
           (search_denial c.found_of.result _ (IsOfFileSearch those bytes) (search_made spans made.bytes made.written) c.found_of.ensures.none) refl,

@@ -7,5 +7,6 @@ use Rattle.study_web.proofs.dispatch.of_import.Goals as goal
 pub returns : goal.returns
 returns g c =
     whole_reported c.imported_of.result (λ v. v.items) (λ text. text ≡ script_of (all_games c.args.given) c.args.pgn.now) IsOutOfMemory IsNoMemory
-    c.reported.result.text.items c.reported.result.ended c.reported.ensures.text c.reported.ensures.none c.imported_of.ensures.text c.imported_of.ensures.none
+    c.answer_of.result.text.items c.answer_of.result.ended c.answer_of.ensures.text c.answer_of.ensures.none c.imported_of.ensures.text
+    c.imported_of.ensures.none
     refl

@@ -36,7 +36,7 @@ returns-in-Ok g c =
       classes,
       subst (λ (q : Position). AreClassesNeeded (q ∷ []) classes) c.copied.ensures c.classes_needed-classes.ensures,
       whole_reported c.row_of.result (λ v. v.items) (λ text. AreAllRight those bytes → IsRow row.outcome row.start.position text)
-          (IsOfFileSearch those bytes) IsNoMemory c.reported.result.text.items c.reported.result.ended c.reported.ensures.text c.reported.ensures.none
+          (IsOfFileSearch those bytes) IsNoMemory c.answer_of.result.text.items c.answer_of.result.ended c.answer_of.ensures.text c.answer_of.ensures.none
           (if_right c.row_of.result (λ v. v.items) (AreAllRight those bytes) (IsRow row.outcome row.start.position)
           (λ right. c.row_of.ensures.text (right_made spans made.bytes right)))
           (search_denial c.row_of.result _ (IsOfFileSearch those bytes) (search_made spans made.bytes made.written) c.row_of.ensures.none) refl,

@@ -18,7 +18,7 @@ returns g c =
     whole_reported c.view_of.result (λ v. v.items) (λ text. AreAllRight spans bytes → OverFiles spans bytes (IsViewOver script steps text))
     (λ d. IsOfFiles spans bytes d ⊎ IsViewDenial (λ fault. AreAllRight spans bytes → OverFiles spans bytes (IsValueFaultOver script fault))
     (AreAllRight spans bytes → OverFiles spans bytes (LacksNodeOver script steps)) d) (IsUnread script)
-    c.reported.result.text.items c.reported.result.ended c.reported.ensures.text c.reported.ensures.none
+    c.answer_of.result.text.items c.answer_of.result.ended c.answer_of.ensures.text c.answer_of.ensures.none
     (if_right c.view_of.result (λ v. v.items) (AreAllRight spans bytes) (λ text. OverFiles spans bytes (IsViewOver script steps text))
     (λ right. views_made made.spans made.bytes made.written c.view_of.result (λ v. IsViewOver script steps v.items)
     (c.view_of.ensures.text (right_made made.spans made.bytes right))))

@@ -1,6 +1,6 @@
 use Rattle.std.proofs.Common.{◌∷◌, [], length, eqb, ap, ◌∙◌}
 use Rattle.std.specs.Io.KnownBytes.{Consumes}
-use Rattle.study_command.proofs.LineTaken.{Begins-more, ends_at_feed, stops_at_end, long_inside, gave-begun, gave-ended, gave-last}
+use Rattle.study_command.proofs.LineTaken.{Begins-more, ends_at_feed, stops_at_end, long_inside, gave-begun_lines, gave-ended, gave-last}
 use Rattle.study_command.proofs.line.Line.read.Goals as goal
 
 pub returns-in-Ok-Some-eq10-clause-line : goal.returns-in-Ok-Some-eq10-clause-line
@@ -38,7 +38,7 @@ returns-clause-line g c =
 
 pub returns-in-Err-clause-no_feed : goal.returns-in-Err-clause-no_feed
 returns-in-Err-clause-no_feed g c =
-    λ _. gave-begun (g.R.Read.remaining c.args.script.now) (g.R.Read.remaining c.loop-self.script)
+    λ _. gave-begun_lines (g.R.Read.remaining c.args.script.now) (g.R.Read.remaining c.loop-self.script)
     (g.R.Read.remaining c.read_byte.new.script) c.loop-self.self c.loop-self.invariant c.in-Err.ensures.err
 
 pub returns-in-Ok-Some-eq10-clause-one_feed : goal.returns-in-Ok-Some-eq10-clause-one_feed

@@ -1,20 +1,20 @@
 use Rattle.std.proofs.Common.{◌≡◌, List, length, ap, sym, ◌∙◌, subst, rules}
 use Rattle.study_board.specs.Men.{same_side}
 use Rattle.study_board.specs.Position.{Position, IsValid}
-use Rattle.study_text.specs.Counts.{counted}
+use Rattle.study_text.specs.Counts.{next_count}
 use Rattle.study_tree.specs.Tree.{plain_tree, size_of}
 use Rattle.study_marks.specs.declared.node_label.Evaluation.{Evaluation}
 use Rattle.study_marks.specs.declared.mark_rules.Aim.{Aim}
 use Rattle.study_marks.specs.Study.{plain_study, IsPlayable}
 use Rattle.study_marks.specs.Goals.{aim_of}
-use Rattle.study_marks.specs.BenchState.{BenchState, marked, AllAddUp, evaluation_tree}
+use Rattle.study_marks.specs.BenchState.{BenchState, marked_study, AllAddUp, evaluation_tree}
 use Rattle.study_marks.specs.Edits.{with_start}
 use Rattle.study_marks.specs.Queries.{positions_asked, AreTablesHeld, IsOutside, HasStopped, is_of_tables, counted_up_by}
 use Rattle.study_marks.specs.Bench.{bench_state_of}
 use Rattle.study_marks.specs.Evaluated.{AllAreEvaluated}
 use Rattle.study_marks.specs.Relabelled.{reevaluated_tree}
-use Rattle.study_marks.proofs.BenchEdits.{counted-later}
-use Rattle.study_marks.proofs.Readers.{size-marked}
+use Rattle.study_marks.proofs.BenchEdits.{next_count-later}
+use Rattle.study_marks.proofs.Readers.{size-marked_study}
 use Rattle.study_marks.proofs.BenchRewritten.{restarted, shifted-study, shifted-plain, shifted-right, asked-shifted, same-refusal, refusal-asked}
 use Rattle.study_marks.specs.Answers.{TellsFirstFault}
 use Rattle.study_marks.proofs.FaultsReported.{same-first, same-undamaged}
@@ -25,7 +25,7 @@ returns-in_err-all-clause-refusal g c =
     let b = bench_state_of c.self.inside.start c.self.inside.stipulation c.self.inside.tags c.self.inside.tree in
     let same = asked-shifted b c.args.self.now c.args.start c.self.view_is in
     same-refusal c.from_residual.result c.in_err-all.field-0.0 (g.V.Values.source.held c.args.values.now)
-    (positions_asked (with_start (plain_study (marked c.args.self.now)) c.args.start)) c.from_residual.ensures.1
+    (positions_asked (with_start (plain_study (marked_study c.args.self.now)) c.args.start)) c.from_residual.ensures.1
     (subst (λ (ps : List Position). IsOutside (g.V.Values.source.held c.args.values.now) ps c.in_err-all.field-0.0) same c.in_err-all.ensures.refusal)
 
 pub returns-in_err-all-clause-asked : goal.returns-in_err-all-clause-asked
@@ -33,7 +33,7 @@ returns-in_err-all-clause-asked g c =
     let b = bench_state_of c.self.inside.start c.self.inside.stipulation c.self.inside.tags c.self.inside.tree in
     let same = asked-shifted b c.args.self.now c.args.start c.self.view_is in
     refusal-asked c.from_residual.result c.in_err-all.field-0.0
-    (length (positions_asked (with_start (plain_study (marked c.args.self.now)) c.args.start)))
+    (length (positions_asked (with_start (plain_study (marked_study c.args.self.now)) c.args.start)))
     (g.V.Values.source.asked_of c.args.values.now) (g.V.Values.source.asked_of c.evaluate_all.new.values) c.from_residual.ensures.1
     (subst (λ (ps : List Position). HasStopped (is_of_tables c.in_err-all.field-0.0) (length ps)
     (g.V.Values.source.asked_of c.args.values.now) (g.V.Values.source.asked_of c.evaluate_all.new.values)) same
@@ -70,8 +70,8 @@ returns-clause-edited g c =
     let b = bench_state_of c.self.inside.start c.self.inside.stipulation c.self.inside.tags c.self.inside.tree in
     let u = plain_tree c.relabel_all.new.tree in
     let evaluated : evaluation_tree u ≡ reevaluated_tree c.as_slice.result.now (evaluation_tree b.study.tree) = c.relabel_all.ensures.evaluated in
-    shifted-plain c.as_slice.result.now b c.args.start u (counted c.relabel_all.new.tree.relabelled) evaluated
-    ∙ ap (λ (k : BenchState). with_start (plain_study (marked k)) c.args.start) c.self.view_is
+    shifted-plain c.as_slice.result.now b c.args.start u (next_count c.relabel_all.new.tree.relabelled) evaluated
+    ∙ ap (λ (k : BenchState). with_start (plain_study (marked_study k)) c.args.start) c.self.view_is
 
 pub returns-clause-right : goal.returns-clause-right
 returns-clause-right g c =
@@ -87,16 +87,16 @@ returns-clause-right g c =
           s;
     }) c.to_move.ensures in
     let right : AllAddUp (aim_of (restarted b.study c.args.start u)) u = subst (λ (a : Aim). AllAddUp a u) aim c.relabel_all.ensures.right in
-    λ h. shifted-right c.as_slice.result.now b c.args.start u (counted c.relabel_all.new.tree.relabelled) evaluated right
+    λ h. shifted-right c.as_slice.result.now b c.args.start u (next_count c.relabel_all.new.tree.relabelled) evaluated right
     (subst (λ (ts : List Evaluation). AllAreEvaluated c.args.start.position (reevaluated_tree ts (evaluation_tree b.study.tree)))
     (sym c.as_slice.ensures.value) (c.in_ok-all.ensures.game h))
 
 pub returns-clause-relabelled : goal.returns-clause-relabelled
 returns-clause-relabelled g c =
     let b = bench_state_of c.self.inside.start c.self.inside.stipulation c.self.inside.tags c.self.inside.tree in
-    counted-later (size_of (plain_tree c.self.inside.tree)) c.self.inside.tree.relabelled c.relabel_all.new.tree.relabelled c.relabel_all.ensures.count
-    ∙ ap (λ n. counted_up_by n (counted c.self.inside.tree.relabelled)) (size-marked b c.args.self.now c.self.view_is)
-    ∙ ap (λ (k : BenchState). counted_up_by (size_of (marked c.args.self.now).tree) k.relabelled) c.self.view_is
+    next_count-later (size_of (plain_tree c.self.inside.tree)) c.self.inside.tree.relabelled c.relabel_all.new.tree.relabelled c.relabel_all.ensures.count
+    ∙ ap (λ n. counted_up_by n (next_count c.self.inside.tree.relabelled)) (size-marked_study b c.args.self.now c.self.view_is)
+    ∙ ap (λ (k : BenchState). counted_up_by (size_of (marked_study c.args.self.now).tree) k.relabelled) c.self.view_is
 
 pub returns-clause-asked : goal.returns-clause-asked
 returns-clause-asked g c =
@@ -109,7 +109,7 @@ returns-in_err-all-clause-first g c =
     let b = bench_state_of c.self.inside.start c.self.inside.stipulation c.self.inside.tags c.self.inside.tree in
     let same = asked-shifted b c.args.self.now c.args.start c.self.view_is in
     same-first g.V.Values.source c.args.values.now
-    (positions_asked (with_start (plain_study (marked c.args.self.now)) c.args.start)) c.evaluate_all.new.values c.from_residual.result
+    (positions_asked (with_start (plain_study (marked_study c.args.self.now)) c.args.start)) c.evaluate_all.new.values c.from_residual.result
     c.in_err-all.field-0.0 c.from_residual.ensures.1
     (subst (λ (ps : List Position). TellsFirstFault g.V.Values.source c.args.values.now ps c.evaluate_all.new.values
     c.in_err-all.field-0.0) same c.in_err-all.ensures.first)

@@ -9,7 +9,7 @@ use Rattle.study_marks.specs.Edits.{with_start}
 use Rattle.study_marks.specs.EditLists.{questions_of}
 use Rattle.study_marks.specs.Answers.{TellsFirstFault}
 use Rattle.study_marks.proofs.FaultsReported.{same-first, same-undamaged}
-use Rattle.study_marks.specs.BenchState.{marked}
+use Rattle.study_marks.specs.BenchState.{marked_study}
 use Rattle.study_marks.proofs.SameShape.{moves_to-mapped}
 use Rattle.study_marks.proofs.OneEdit.{position-applied, insert-refused, insert-accepted, shift-applied, stipulation-applied}
 use Rattle.study_marks.proofs.bench.Bench.apply.Goals as goal
@@ -18,8 +18,8 @@ pub returns-in_err-_place-in-Insert-clause-applied : goal.returns-in_err-_place-
 returns-in_err-_place-in-Insert-clause-applied g c =
     let e = c.in_err-_place-in-Insert.ensures in
     let place =
-    ap (position_after (marked c.args.self.now).start.position)
-    (sym (moves_to-mapped (λ (x : Mark). tt {0}) (marked c.args.self.now).tree.below c.in-Insert.path)) in
+    ap (position_after (marked_study c.args.self.now).start.position)
+    (sym (moves_to-mapped (λ (x : Mark). tt {0}) (marked_study c.args.self.now).tree.below c.in-Insert.path)) in
     insert-refused g.V.Values.source c.args.values.now c.insert.new.values c.args.self.now
     c.insert.new.self c.args.edit.now c.in-Insert.path c.in-Insert.m c.in_err-_place-in-Insert.field-0.0
     c.from_residual.result
@@ -43,18 +43,18 @@ pub returns-in_ok-_place-in-Insert-clause-applied : goal.returns-in_ok-_place-in
 returns-in_ok-_place-in-Insert-clause-applied g c =
     let e = c.in_ok-_place-in-Insert.ensures in
     let place =
-    ap (position_after (marked c.args.self.now).start.position)
-    (sym (moves_to-mapped (λ (x : Mark). tt {0}) (marked c.args.self.now).tree.below c.in-Insert.path)) in
+    ap (position_after (marked_study c.args.self.now).start.position)
+    (sym (moves_to-mapped (λ (x : Mark). tt {0}) (marked_study c.args.self.now).tree.below c.in-Insert.path)) in
     insert-accepted g.V.Values.source c.args.values.now c.insert.new.values c.args.self.now
     c.insert.new.self c.args.edit.now c.in-Insert.path c.in-Insert.m c.in_ok-_place-in-Insert._place _
     c.in-Insert.is e.refusal place e.found e.edited e.right e.kept e.relabelled e.asked e.failures e.honest e.tables
 
 pub returns-in_err-_place-in-Insert-clause-first : goal.returns-in_err-_place-in-Insert-clause-first
 returns-in_err-_place-in-Insert-clause-first g c =
-    let s = plain_study (marked c.args.self.now) in
-    let place : position_at (marked c.args.self.now) c.in-Insert.path ≡ position_at s c.in-Insert.path =
-    ap (position_after (marked c.args.self.now).start.position)
-    (sym (moves_to-mapped (λ (x : Mark). tt {0}) (marked c.args.self.now).tree.below c.in-Insert.path)) in
+    let s = plain_study (marked_study c.args.self.now) in
+    let place : position_at (marked_study c.args.self.now) c.in-Insert.path ≡ position_at s c.in-Insert.path =
+    ap (position_after (marked_study c.args.self.now).start.position)
+    (sym (moves_to-mapped (λ (x : Mark). tt {0}) (marked_study c.args.self.now).tree.below c.in-Insert.path)) in
     same-first g.V.Values.source c.args.values.now (questions_of s c.args.edit.now) c.insert.new.values
     c.from_residual.result c.in_err-_place-in-Insert.field-0.0 c.from_residual.ensures.1
     (subst (λ x. TellsFirstFault g.V.Values.source c.args.values.now (questions_of s x) c.insert.new.values
@@ -64,7 +64,7 @@ returns-in_err-_place-in-Insert-clause-first g c =
 
 pub returns-in-Shift-clause-first : goal.returns-in-Shift-clause-first
 returns-in-Shift-clause-first g c =
-    let s = plain_study (marked c.args.self.now) in
+    let s = plain_study (marked_study c.args.self.now) in
     subst (λ x. IfErr c.shift_position.result (TellsFirstFault g.V.Values.source c.args.values.now (questions_of s x)
     c.shift_position.new.values)) (sym c.in-Shift.is)
     (subst (λ (st : Start). IfErr c.shift_position.result (TellsFirstFault g.V.Values.source c.args.values.now

@@ -1,6 +1,6 @@
 use Rattle.std.proofs.Common.{ℕ, List, OnOk, subst, sym, ◌∙◌}
 use Rattle.std.proofs.lemmas.Result.{on_ok_weaker}
-use Rattle.study_marks.specs.BenchState.{marked}
+use Rattle.study_marks.specs.BenchState.{marked_study}
 use Rattle.study_facts.specs.Asked.{within}
 use Rattle.study_facts.specs.Made.{Grew, Rose}
 use Rattle.study_facts.specs.TimeFaults.{IsTimeFault}
@@ -12,7 +12,7 @@ use Rattle.study_page.proofs.page_findings.PageFindingsFindings.add_node.Goals a
 
 pub returns-clause-adds : goal.returns-clause-adds
 returns-clause-adds g c h =
-    let s = marked c.args.bench.now in
+    let s = marked_study c.args.bench.now in
     let path = c.args.step.now.steps.now in
     let old = c.args.self.now.sections in
     let mid = c.add_move.new.parts in
@@ -44,7 +44,7 @@ returns-clause-adds g c h =
 
 pub returns-clause-asked : goal.returns-clause-asked
 returns-clause-asked g c =
-    let s = marked c.args.bench.now in
+    let s = marked_study c.args.bench.now in
     let here = c.node_after.result in
     asks-then (within s.start.position g.V.Values.source)
     c.args.values.now c.add_move.new.values c.add_rows.new.values c.add_rows.result c.in_ok-add_move.ensures.asked

@@ -1,7 +1,7 @@
 use Rattle.std.proofs.Common.{ℕ, List, [], OnOk, ap, refl, subst}
 use Rattle.study_tree.specs.Tree.{spot_at}
 use Rattle.study_marks.specs.Bench.{played_by}
-use Rattle.study_marks.specs.BenchState.{marked}
+use Rattle.study_marks.specs.BenchState.{marked_study}
 use Rattle.study_facts.specs.Made.{Grew, Rose}
 use Rattle.study_facts.specs.TimeFaults.{IsTimeFault}
 use Rattle.study_page.specs.Rows.{FaultItems, Cards, TryRows, ZugzwangRows, DefenceRows, EndRows}
@@ -13,12 +13,12 @@ use Rattle.study_page.proofs.page_findings.PageFindingsFindings.add_root.Goals a
 pub add_rows-requires : goal.add_rows-requires
 add_rows-requires g c = record {
   here = c.root_node.ensures.node;
-  by = ap (λ (u : List ℕ). played_by (spot_at (marked c.args.bench.now).tree u)) c.root_node.ensures.path;
+  by = ap (λ (u : List ℕ). played_by (spot_at (marked_study c.args.bench.now).tree u)) c.root_node.ensures.path;
 }
 
 pub returns-clause-adds : goal.returns-clause-adds
 returns-clause-adds g c h =
-    let s = marked c.args.bench.now in
+    let s = marked_study c.args.bench.now in
     let old = c.args.self.now.sections in
     let new = c.add_rows.new.parts in
     let root : List ℕ = [] in
@@ -40,6 +40,6 @@ returns-clause-adds g c h =
 pub returns-clause-asked : goal.returns-clause-asked
 returns-clause-asked g c =
     let here = c.root_node.result in
-    asks-wider g.V.Values.source (marked c.args.bench.now).start.position here.node.position.now
-    (leads-at (marked c.args.bench.now) here.steps.now here.node.position.now c.start-first.ensures.study.playable c.root_node.ensures.node.node.position)
+    asks-wider g.V.Values.source (marked_study c.args.bench.now).start.position here.node.position.now
+    (leads-at (marked_study c.args.bench.now) here.steps.now here.node.position.now c.start-first.ensures.study.playable c.root_node.ensures.node.node.position)
     c.args.values.now c.add_rows.new.values c.add_rows.result c.add_rows.ensures.asked

@@ -1,5 +1,5 @@
 use Rattle.std.proofs.Common.{refl, rules}
-use Rattle.study_marks.specs.BenchState.{marked}
+use Rattle.study_marks.specs.BenchState.{marked_study}
 use Rattle.study_marks.specs.Study.{plain_study}
 use Rattle.study_report.specs.Reported.{study_entry}
 use Rattle.study_print.proofs.EntriesGrow.{entries_after}
@@ -14,7 +14,7 @@ returns-in_err-rows-clause-device g c honest right h =
 pub returns-clause-listed : goal.returns-clause-listed
 returns-clause-listed g c reported honest right listed =
     let next = c.next-self in
-    let s = marked c.args.bench.now in
+    let s = marked_study c.args.bench.now in
     let row = c.in_ok-rows.ensures.rows honest in
     entries_after reported c.args.self.now.count next.result c.args.self.now.rows c.in_ok-rows.rows (study_entry (plain_study s) c.args.info) listed
     (row.0, (s, refl, right.marks, row.1), row.2) next.ensures.nothing next.ensures.one next.ensures.several

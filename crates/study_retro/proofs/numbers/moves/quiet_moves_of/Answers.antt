@@ -44,7 +44,7 @@ loses_after-requires-clause-free g c =
     let f = first-of _ _ _ c.in-Some.ensures.steps in
     let x = c.in-Some.target in
     ap (λ (zs : List Man). is_occupied zs x) (sym c.as_slice-men.ensures.value)
-    ∙ sym (c.occupied.ensures x f.inside)
+    ∙ sym (c.occupied_squares.ensures x f.inside)
     ∙ not-other _ _ (sym (ap (λ (s : ℕ). has s x) c.into_iter-target-iterator.ensures.into_iter_gives ∙ c.without-free.ensures x f.inside)
     ∙ c.loop-target.invariant.among x f.inside f.there)
 
@@ -84,5 +84,5 @@ returns-clause-no g c = λ f q at x legal quiet.
     let free = occupied_same class c.args.number q at c.requires.plain men side c.requires.encodes x ∙ quiet.0 in
     let there = ap (λ (set : ℕ). has set x) c.into_iter-target-iterator.ensures.into_iter_gives ∙ c.without-free.ensures x s.0
     ∙ in-one-alone _ _ (c.safe_targets.ensures x s.0 ∙ ap (λ (zs : List Man). is_safe_target zs side man x) c.as_slice-men.ensures.value ∙ s.2)
-    (c.occupied.ensures x s.0 ∙ ap (λ (zs : List Man). is_occupied zs x) c.as_slice-men.ensures.value ∙ free) in
+    (c.occupied_squares.ensures x s.0 ∙ ap (λ (zs : List Man). is_occupied zs x) c.as_slice-men.ensures.value ∙ free) in
     c.loop-target.invariant.lose x s.0 there (none-of-empty _ c.in-None.ensures.steps.0 x s.0) plain q at

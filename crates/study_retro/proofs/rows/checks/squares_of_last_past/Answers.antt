@@ -3,7 +3,7 @@ use Rattle.study_board.specs.declared.men.Side.{Side}
 use Rattle.study_board.specs.Men.{attacks_square}
 use Rattle.study_board.specs.Sets.{has}
 use Rattle.study_retro.specs.RowMoves.{does_not_block}
-use Rattle.study_retro.specs.Still.{facing, on_square}
+use Rattle.study_retro.specs.Still.{opposing_man, on_square}
 use Rattle.study_retro.proofs.CheckLemmas.{past_one}
 use Rattle.study_retro.proofs.RowChecks.{bears_men}
 use Rattle.study_retro.proofs.rows.checks.squares_of_last_past.Goals as goal
@@ -14,7 +14,7 @@ returns c y ly =
     let man = c.args.man.now in
     let to = c.args.to in
     let x = c.args.x in
-    let f = facing last x in
+    let f = opposing_man last x in
     let checks = c.args.checks in
     c.intersection.ensures y
     ∙ ap (λ (b : Bool). has checks y && b) (c.attacks.ensures y ly

@@ -13,4 +13,4 @@ returns-then-eq c x lx =
 pub returns-else-eq : goal.returns-else-eq
 returns-else-eq c x lx =
     let piece : is_pawn c.args.man.now ≡ false = sym (kind_same c.args.man.now.kind Pawn) ∙ sym c.eq.ensures ∙ c.if-eq.false in
-    c.without.ensures x lx ∙ rw (c.attacks.ensures x lx, c.occupied.ensures x lx) (sym (goes_as_piece c.args.others.now c.args.man.now x piece))
+    c.without.ensures x lx ∙ rw (c.attacks.ensures x lx, c.occupied_squares.ensures x lx) (sym (goes_as_piece c.args.others.now c.args.man.now x piece))

@@ -8,5 +8,5 @@ returns c = λ y ly e board. elim (or_cases _ _ (sym (c.union-2.ensures y) ∙ e
     | inl still ↦ inl (inl (c.still_squares.ensures y ly still board))
     | inr check ↦ inl (inr (c.squares_without_position.ensures y ly check))
   ]
-  | inr there ↦ inr (sym (c.occupied.ensures y ly) ∙ there)
+  | inr there ↦ inr (sym (c.occupied_squares.ensures y ly) ∙ there)
 ]

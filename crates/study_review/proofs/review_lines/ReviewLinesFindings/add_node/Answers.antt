@@ -1,6 +1,6 @@
 use Rattle.std.proofs.Common.{rules, ℕ, List, subst}
 use Rattle.std.proofs.lemmas.Result.{on_ok_weaker}
-use Rattle.study_marks.specs.BenchState.{marked}
+use Rattle.study_marks.specs.BenchState.{marked_study}
 use Rattle.study_facts.specs.Asked.{within}
 use Rattle.study_facts.specs.Made.{Grew, Rose}
 use Rattle.study_facts.specs.Nodes.{AlsoLines, FaultLines, parent_path}
@@ -13,7 +13,7 @@ use Rattle.study_review.proofs.review_lines.ReviewLinesFindings.add_node.Goals a
 
 pub returns-clause-adds : goal.returns-clause-adds
 returns-clause-adds g c h =
-    let s = marked c.args.bench.now in
+    let s = marked_study c.args.bench.now in
     let path = c.args.step.now.steps.now in
     let old = c.args.self.now in
     let mid = c.add_move.new.draft in
@@ -31,7 +31,7 @@ returns-clause-adds g c h =
 
 pub returns-clause-asked : goal.returns-clause-asked
 returns-clause-asked g c =
-    let s = marked c.args.bench.now in
+    let s = marked_study c.args.bench.now in
     let made = c.move_of-made.result in
     let here = c.node_after-here.result in
     asks-then (within s.start.position g.V.Values.source)
@@ -45,7 +45,7 @@ returns-clause-asked g c =
 
 pub returns-in_err-add_move-clause-asked : goal.returns-in_err-add_move-clause-asked
 returns-in_err-add_move-clause-asked g c =
-    let s = marked c.args.bench.now in
+    let s = marked_study c.args.bench.now in
     let made = c.move_of-made.result in
     asks-wider g.V.Values.source s.start.position made.before.position.now
     (leads-at s (parent_path made.steps.now) made.before.position.now c.start-first.ensures.study.playable c.move_of-made.ensures.made.step.before.position)

@@ -1,6 +1,6 @@
 use Rattle.std.proofs.Common.{ℕ, List, subst}
 use Rattle.std.proofs.lemmas.Result.{on_ok_weaker}
-use Rattle.study_marks.specs.BenchState.{marked}
+use Rattle.study_marks.specs.BenchState.{marked_study}
 use Rattle.study_facts.specs.Made.{Grew}
 use Rattle.study_facts.proofs.TimeCounted.{root-time}
 use Rattle.study_facts.proofs.Within.{leads-at, asks-wider}
@@ -10,7 +10,7 @@ use Rattle.study_review.proofs.review_lines.ReviewLinesFindings.add_root.Goals a
 
 pub returns-clause-adds : goal.returns-clause-adds
 returns-clause-adds g c h =
-    let s = marked c.args.bench.now in
+    let s = marked_study c.args.bench.now in
     let old = c.args.self.now in
     on_ok_weaker c.add_here.result
     (λ k. (
@@ -23,7 +23,7 @@ returns-clause-adds g c h =
 
 pub returns-clause-asked : goal.returns-clause-asked
 returns-clause-asked g c =
-    let s = marked c.args.bench.now in
+    let s = marked_study c.args.bench.now in
     let here = c.root_node-here.result in
     asks-wider g.V.Values.source s.start.position here.node.position.now
     (leads-at s here.steps.now here.node.position.now c.start-first.ensures.study.playable c.root_node-here.ensures.node.node.position)

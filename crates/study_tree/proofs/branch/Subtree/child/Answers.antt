@@ -1,6 +1,6 @@
 use Rattle.std.proofs.Common.{[], Some, refl, ap, sym, ◌∙◌, arith}
 use Rattle.study_tree.specs.Forest.{forest_of, nodes_in}
-use Rattle.study_tree.specs.Edits.{node_in, plain}
+use Rattle.study_tree.specs.Edits.{node_in, without_spares}
 use Rattle.study_tree.proofs.PathSteps.{node_in-none, node_in-here}
 use Rattle.study_tree.proofs.PathEnds.{nodes_from-node_in}
 use Rattle.study_tree.proofs.ShownTrees.{node_in-plain, plain_twig}
@@ -26,4 +26,4 @@ returns-in-Some g c =
     ∙ ap plain_twig (node_in-here c.self.inside.children.now c.args.place [] c.in-Some.node.now refl
     c.in-Some.ensures.lookup.3.0 c.in-Some.ensures.lookup.1
     ∙ ap (λ x. Some x) (sym c.node.view_is))
-    ∙ ap (λ xs. Some (record { played = c.node.inside.played; label = c.node.inside.label; below = plain (forest_of xs) })) (sym c.deref.ensures.value)
+    ∙ ap (λ xs. Some (record { played = c.node.inside.played; label = c.node.inside.label; below = without_spares (forest_of xs) })) (sym c.deref.ensures.value)

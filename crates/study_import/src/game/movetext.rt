@@ -1,0 +1,195 @@
+//! The moves of a game.
+ghost use Rattle.std.specs.Prelude.{◌≡◌, true, length};
+ghost use Rattle.study_marks.specs.Study.{plain_study};
+ghost use Rattle.study_marks.specs.BenchState.{marked_study};
+ghost use Rattle.study_games.specs.Tokens.{token_seen};
+ghost use Rattle.study_import.specs.Notes.{game_of, is_header_tag, game_taken};
+ghost use Rattle.study_import.specs.Movetext.{at_end, game_numbered, read_moves};
+ghost use Rattle.study_import.specs.MovesRead.{Ends, TakesIn};
+ghost use Rattle.study_import.specs.Behind.{to_the_end};
+
+use crate::game::behind_result::moves_in;
+use crate::game::notes::Notes;
+use crate::game::numbering::Numbering;
+use crate::game::reading::Reading;
+use crate::game::token_effects::Reason;
+use std::alloc::Allocator;
+use study_games::{Token, TokenFault, begins_feed, read_token};
+
+/// Why the moves of a game cannot be read to the end.
+#[derive(Clone, Copy)]
+pub enum Stop {
+    Token(TokenFault),
+    Taking(Reason),
+    OpenVariation,
+    /// The number of a move does not fit.
+    Numbering,
+    /// There are moves behind the result.
+    BehindResult,
+}
+
+/// The first fault of the moves, and the number of bytes from its place on.
+#[derive(Clone, Copy)]
+pub struct MovesFault {
+    pub why: Stop,
+    pub left: usize,
+}
+
+/// The state of reading a game, and the notes.
+#[derive(Drop)]
+pub struct GameReading<'a, A: Allocator> {
+    pub reading: Reading<'a, A>,
+    pub notes: Notes,
+}
+
+fn is_header_tag(notes: &Notes, token: Token<'_>) -> bool
+    ensures { result ≡ is_header_tag notes.now (token_seen token.entry) }
+{
+    match token {
+        Token::Tag(_, _) => notes.in_header,
+        _ => false,
+    }
+}
+
+impl<'a, A: Allocator> GameReading<'a, A> {
+    /// The numbering after a token and before the text behind it, `None` if the token is a number that does not fit.
+    fn numbering_after(&self, token: Token<'_>, behind: &[u8]) -> Option<Numbering>
+        ensures { let game = game_of (plain_study (marked_study self.now.reading.bench))
+            self.now.reading.lines.path.items self.now.reading.lines.begun
+            self.now.reading.lines.waiting.items self.now.reading.lines.cut
+            self.now.reading.inserts self.now.notes in
+            result ≡ game_numbered game (token_seen token.entry) behind.now }
+    {
+        let lines = &self.reading.lines;
+        if lines.cut >= 1 {
+            return Some(self.notes.numbering);
+        }
+        let side = self.reading.bench.start().position.to_move();
+        self.notes
+            .numbering
+            .with_token(side, lines.path.len(), token, behind)
+    }
+
+    /// Takes a token. Returns whether the game ends there.
+    #[tactic(auto, using(crate::proofs::TokenByToken::noted_takes))]
+    fn take(&mut self, token: Token<'_>) -> Result<bool, Reason>
+        ensures { let before = game_of
+            (plain_study (marked_study self.old.reading.bench)) self.old.reading.lines.path.items
+            self.old.reading.lines.begun
+            self.old.reading.lines.waiting.items self.old.reading.lines.cut
+            self.old.reading.inserts self.old.notes in
+            let after = game_of (plain_study (marked_study self.new.reading.bench))
+            self.new.reading.lines.path.items self.new.reading.lines.begun
+            self.new.reading.lines.waiting.items self.new.reading.lines.cut
+            self.new.reading.inserts self.new.notes in
+            TakesIn result (game_taken before (token_seen token.entry)) after }
+    {
+        if is_header_tag(&self.notes, token) {
+            return Ok(false);
+        }
+        let cut = self.reading.lines.cut >= 1;
+        let waits = !self.reading.lines.waiting.is_empty();
+        self.notes = self.notes.with_token(cut, waits, token);
+        self.reading.take(token)
+    }
+
+    /// The end of the text, where no variation may be open.
+    fn end_text<'t>(&self, text: &'t [u8]) -> Result<&'t [u8], MovesFault>
+        ensures { let game = game_of (plain_study (marked_study self.now.reading.bench))
+            self.now.reading.lines.path.items self.now.reading.lines.begun
+            self.now.reading.lines.waiting.items self.now.reading.lines.cut
+            self.now.reading.inserts self.now.notes in
+            Ends (λ t. t.now) result (at_end game) game }
+    {
+        if self.reading.lines.waiting.is_empty() {
+            let (_, end) = text.split_at(text.len());
+            Ok(end)
+        } else {
+            Err(MovesFault {
+                why: Stop::OpenVariation,
+                left: 0,
+            })
+        }
+    }
+
+    /// Reads a game from its first line up to its result or the end of the text, and returns the rest of the text.
+    pub fn read<'t>(&mut self, text: &'t [u8], mut fresh: bool) -> Result<&'t [u8], MovesFault>
+        ensures { let before = game_of
+            (plain_study (marked_study self.old.reading.bench)) self.old.reading.lines.path.items
+            self.old.reading.lines.begun
+            self.old.reading.lines.waiting.items self.old.reading.lines.cut
+            self.old.reading.inserts self.old.notes in
+            let after = game_of (plain_study (marked_study self.new.reading.bench))
+            self.new.reading.lines.path.items self.new.reading.lines.begun
+            self.new.reading.lines.waiting.items self.new.reading.lines.cut
+            self.new.reading.inserts self.new.notes in
+            Ends (λ t. t.now) result (read_moves (length text.now) fresh text.now before) after }
+    {
+        let mut rest = text;
+        let mut fuel = text.len();
+        while fuel > 0 {
+            let left = rest.len();
+            let Some(found) = read_token(rest, fresh) else {
+                break;
+            };
+            match found {
+                Err(fault) => {
+                    return Err(MovesFault {
+                        why: Stop::Token(fault),
+                        left,
+                    });
+                }
+                Ok(cut) => {
+                    let Some(numbering) = self.numbering_after(cut.token, cut.rest) else {
+                        return Err(MovesFault {
+                            why: Stop::Numbering,
+                            left,
+                        });
+                    };
+                    self.notes.numbering = numbering;
+                    match self.take(cut.token) {
+                        Ok(true) => return Ok(cut.rest),
+                        Ok(false) => {}
+                        Err(reason) => {
+                            return Err(MovesFault {
+                                why: Stop::Taking(reason),
+                                left,
+                            });
+                        }
+                    }
+                    fresh = begins_feed(rest);
+                    rest = cut.rest;
+                }
+            }
+            fuel -= 1;
+        }
+        self.end_text(text)
+    }
+
+    /// Reads a game, and returns the text behind its result, which has no moves.
+    #[tactic(auto, using(crate::proofs::NoneBehind::still_reported))]
+    pub fn read_whole<'t>(&mut self, text: &'t [u8]) -> Result<&'t [u8], MovesFault>
+        ensures { let before = game_of
+            (plain_study (marked_study self.old.reading.bench)) self.old.reading.lines.path.items
+            self.old.reading.lines.begun
+            self.old.reading.lines.waiting.items self.old.reading.lines.cut
+            self.old.reading.inserts self.old.notes in
+            let after = game_of (plain_study (marked_study self.new.reading.bench))
+            self.new.reading.lines.path.items self.new.reading.lines.begun
+            self.new.reading.lines.waiting.items self.new.reading.lines.cut
+            self.new.reading.inserts self.new.notes in
+            Ends (λ t. t.now) result
+            (to_the_end (read_moves (length text.now) true text.now before)) after }
+    {
+        match self.read(text, true) {
+            Ok(behind) => match moves_in(behind) {
+                None => Ok(behind),
+                Some(left) => Err(MovesFault {
+                    why: Stop::BehindResult,
+                    left,
+                }),
+            },
+            Err(fault) => Err(fault),
+        }
+    }
+}

@@ -1,5 +1,0 @@
-use Rattle.std.proofs.Common.{length}
-use Rattle.study_web.proofs.chosen.+add_spans.Given as goal
-
-abbrev pub decreases-add_spans : goal.decreases-add_spans
-decreases-add_spans g l = length l.spans.now
