@@ -150,7 +150,7 @@ pub fn calls() {
                 .map(|position| unmoves(position).as_slice().len() as u64)
                 .sum()
         });
-        show("unplayed", sample.label, count, || {
+        show("position_before", sample.label, count, || {
             positions.iter().map(unplayed_from).sum()
         });
         show("played", sample.label, turns.len(), || men_after(turns));

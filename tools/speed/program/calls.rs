@@ -5,7 +5,7 @@ use crate::timed::show;
 use std::io;
 use study_board::{Kind, Position, Side, Square};
 use study_index::index;
-use study_moves::{in_check, is_legal, legal_moves, played, unmoves, unmoved};
+use study_moves::{in_check, is_legal, legal_moves, played, position_before, unmoves};
 
 fn count_moves(positions: &[Position]) -> u64 {
     let mut sum = 0u64;
@@ -36,7 +36,7 @@ fn add_squares_before(position: &Position) -> u64 {
     let moves = unmoves(position);
     let mut sum = 0u64;
     for by in moves.as_slice() {
-        sum = sum.saturating_add(add_squares(&unmoved(position, *by)));
+        sum = sum.saturating_add(add_squares(&position_before(position, *by)));
     }
     sum
 }
@@ -119,7 +119,7 @@ fn measure_steps_back(rt: HostRuntime, label: &str, positions: &[Position]) -> i
         count,
         || count_unmoves(positions),
     )?;
-    show(rt, "unmoved", label, count, || add_unplayed(positions))
+    show(rt, "position_before", label, count, || add_unplayed(positions))
 }
 
 fn measure_at(rt: HostRuntime, setting: Setting) -> io::Result<()> {
