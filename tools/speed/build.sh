@@ -1,5 +1,5 @@
 #!/bin/bash
-# Builds the program that tools/speed.sh times beside plain Rust: tools/speed/out/study_speed.
+# Builds the program that tools/speed/speed.sh times beside plain Rust: tools/speed/out/study_speed.
 #
 #   tools/speed/build.sh [FOLDER]
 #
@@ -19,7 +19,7 @@ if [ -e "$room" ] && [ ! -e "$room/crates.txt" ] && [ -n "$(ls -A "$room")" ]; t
 fi
 
 mkdir -p "$room" "$top/tools/speed/out"
-. "$top/tools/libraries.sh"
+. "$top/tools/release/libraries.sh"
 if left_by_the_gate "$top"; then
     rm -rf "$room/src"; mkdir "$room/src"; touch "$room/crates.txt"
     for file in "$top"/tools/speed/program/*.rs; do cp "$file" "$room/src/$(basename "$file" .rs).rt"; done

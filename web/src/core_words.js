@@ -1,5 +1,5 @@
 // @ts-check
-// Words of the core, from the byte strings of its crates: tools/write_core_words.py writes this file.
+// Words of the core, from the byte strings of its crates: tools/release/write_core_words.py writes this file.
 
 /** Why a line is refused, by the name of the refusal, as the printed page has it. */
 export const REASONS = /** @type {Record<string, string>} */ ({

@@ -1,4 +1,4 @@
-//! The squares in each direction from each square, the bit x for the square x. Written by tools/tables.py.
+//! The squares in each direction from each square, the bit x for the square x. Written by tools/release/tables.py.
 
 /// The directions are right, right and up, up, left and up, left, left and down, down, right and down; in a ninth
 /// there is no square.

@@ -91,7 +91,7 @@ fn open_or_report<'a, S: TableStore, A: Allocator, E: Write>(
 
 /// Opens each table whose file is there, in the order of the class list, and writes the fault of each file that is not a table.
 ///
-/// No clause says which files those are: `tools/report_faults.py` tests it.
+/// No clause says which files those are: `tools/run/report_faults.py` tests it.
 pub fn open_tables<'a, S: TableStore, A: Allocator, E: Write>(
     alloc: &'a A,
     tables: &mut PagedTables<'a, S::Pages, A>,

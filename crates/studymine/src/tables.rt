@@ -45,7 +45,7 @@ fn put_fault<A: Allocator, E: Write>(alloc: &A, errors: &mut E, class: Class, re
 
 /// Opens each table whose file exists, in the order of the class list, and writes the fault of each file that is not a table.
 ///
-/// No contract: `tools/finding.sh` compares what is written.
+/// No contract: `tools/run/finding.sh` compares what is written.
 pub fn open_tables<'a, S: TableStore, A: Allocator, E: Write>(
     alloc: &'a A,
     tables: &mut PagedTables<'a, S::Pages, A>,

@@ -2,7 +2,7 @@
 //! Times the calls that a builder of tables makes most, the building of tables, and their files.
 //!
 //! Each line has four words: what was timed, on what, picoseconds a call, and a sum of what the calls answered.
-//! `tools/speed.sh` sets the lines beside those of plain Rust. With no argument nothing is printed, so that `rt run` builds the
+//! `tools/speed/speed.sh` sets the lines beside those of plain Rust. With no argument nothing is printed, so that `rt run` builds the
 //! program and measures nothing.
 #![tactic(auto)]
 

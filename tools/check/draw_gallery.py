@@ -1,0 +1,123 @@
+#!/usr/bin/env python3
+"""Makes the gallery's page, docs/gallery: a diagram of each study, and why it is there.
+
+    tools/check/draw_gallery.py            writes docs/gallery/README.md and docs/gallery/NAME.svg
+    tools/check/draw_gallery.py --check    exit status 1 where these are not what the scripts and examples/README.md give
+
+The position and the tags are those of the script up to its first `pgn` line, the order, verdicts and words those of the table in examples/README.md. Men are drawn as on the board (web/men.svg).
+"""
+import os
+import re
+import sys
+
+TOP = os.path.abspath(os.path.join(os.path.dirname(os.path.abspath(__file__)), "..", ".."))
+DATA, PAGE = f"{TOP}/crates/gallery/data", f"{TOP}/docs/gallery"
+STYLE = (".l{fill:#f0e3cc}.d8{fill:#b98d62}.w,.b{stroke:#1a1a1a;stroke-width:1.6;stroke-linejoin:round;stroke-linecap:round}"
+         ".w{fill:#fff;--line:#1a1a1a}.b{fill:#2c2c2c;--line:#f0f0f0}.i{fill:none;stroke:var(--line)}.d{fill:var(--line);stroke:none}"
+         "text{font:11px sans-serif;fill:#444;text-anchor:middle}")
+
+
+def read(file):
+    with open(file, encoding="utf8") as it:
+        return it.read()
+
+
+def symbols():
+    return dict(re.findall(r'(?s)<symbol id="m([A-Z])"[^>]*>(.*?)</symbol>', read(f"{TOP}/web/men.svg")))
+
+
+def men_of(fen):
+    for row, rank in enumerate(fen.split()[0].split("/")):
+        file = 0
+        for letter in rank:
+            if letter.isdigit():
+                file += int(letter)
+            else:
+                yield letter, file, row
+                file += 1
+
+
+def spoken(fen):
+    sides = {True: [], False: []}
+    for letter, file, row in sorted(men_of(fen), key=lambda man: "KQRBNP".index(man[0].upper())):
+        sides[letter.isupper()].append(f"{letter.upper()}{'abcdefgh'[file]}{8 - row}")
+    return f"White {' '.join(sides[True])}; Black {' '.join(sides[False])}; {'White' if fen.split()[1] == 'w' else 'Black'} to move"
+
+
+def diagram(fen, shapes):
+    text = [f'<svg xmlns="http://www.w3.org/2000/svg" viewBox="-14 -2 376 378" width="240" height="241"><title>{spoken(fen)}</title>',
+            f"<style>{STYLE}</style>"]
+    text += [f'<rect class="{"l" if (file + row) % 2 == 0 else "d8"}" x="{45 * file}" y="{45 * row}" width="45" height="45"/>'
+             for row in range(8) for file in range(8)]
+    text += [f'<text x="{45 * file + 22}" y="373">{"abcdefgh"[file]}</text><text x="-7" y="{45 * file + 27}">{8 - file}</text>' for file in range(8)]
+    text += [f'<g class="{"w" if letter.isupper() else "b"}" transform="translate({45 * file} {45 * row})">{shapes[letter.upper()]}</g>'
+             for letter, file, row in men_of(fen)]
+    return "\n".join(text + ["</svg>", ""])
+
+
+def study_of(name):
+    """The start of a script's first study, and its tags."""
+    fen, tags = "", {}
+    for line in read(f"{DATA}/{name}.script").split("\n"):
+        command, _, rest = line.partition(" ")
+        if command == "position" and not fen:
+            fen = rest
+        elif command == "tag":
+            key, _, value = rest.partition(" ")
+            tags.setdefault(key, value)
+        elif command == "pgn":
+            break
+    return fen, tags
+
+
+def rows():
+    for name, tables, verdicts, shows in re.findall(r"^\| \[(\w+)\]\([^)]*\) \| ([^|]*) \| ([^|]*) \| ([^|]*) \|$", read(f"{DATA}/README.md"), re.M):
+        yield name, verdicts, shows
+
+
+def entry(name, verdicts, shows):
+    fen, tags = study_of(name)
+    year = re.sub(r"(\.\?\?)+$", "", tags.get("Date", ""))
+    title = tags.get("Event", "Untitled")
+    source = ", ".join(it for it in (tags.get("White", ""), year) if it.strip("?."))
+    text = f"**{title}**" + (f"<br>{source}" if source else "") + f"<br>*{verdicts}*<br><br>{shows}<br><br>"
+    text += f"[script](../../crates/gallery/data/{name}.script) · [replies](../../crates/gallery/data/{name}.expected) · "
+    return f"| ![{spoken(fen)}]({name}.svg) | {text}[facts](../../crates/gallery/data/{name}.lines) |", fen
+
+
+def pages():
+    """Each file of the page, by its name."""
+    shapes, made, table = symbols(), {}, []
+    for name, verdicts, shows in rows():
+        line, fen = entry(name, verdicts, shows)
+        made[f"{name}.svg"] = diagram(fen, shapes)
+        table.append(line)
+    head = """# The gallery
+
+Published studies and endings with two to four men, each with its script, its replies and the facts of its report. The verdicts are strict: a waste
+of time counts as a dual, so some well-known studies are unsound by the letter. [The notes](../../crates/gallery/data/README.md) explain how the
+gallery is run and where its expected replies come from.
+
+| | |
+|---|---|
+"""
+    made["README.md"] = head + "\n".join(table) + "\n"
+    return made
+
+
+def main():
+    made = pages()
+    if "--check" in sys.argv[1:]:
+        wrong = [it for it in made if not os.path.isfile(f"{PAGE}/{it}") or read(f"{PAGE}/{it}") != made[it]]
+        wrong += [it for it in os.listdir(PAGE) if it not in made] if os.path.isdir(PAGE) else []
+        print(f"docs/gallery: {', '.join(wrong)}: run tools/check/draw_gallery.py" if wrong else f"docs/gallery: {len(made)} files as they are to be")
+        return 1 if wrong else 0
+    os.makedirs(PAGE, exist_ok=True)
+    for name, text in made.items():
+        with open(f"{PAGE}/{name}", "w", encoding="utf8") as it:
+            it.write(text)
+    return 0
+
+
+if __name__ == "__main__":
+    sys.exit(main())
