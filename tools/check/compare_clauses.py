@@ -4,7 +4,7 @@
     tools/check/compare_clauses.py COMMIT [COMMIT]     the second is the files as they stand, if none is named
 
 Where a thing stands does not matter: functions and definitions are found by their names, in whatever crate, and imports and comments are left
-out. It prints each that is in one state alone, and each whose tokens differ, with both texts; the last line counts them.
+out. It prints each that is only in one state, and each whose tokens differ, with both texts; the last line counts them.
 """
 import re
 import subprocess

@@ -81,7 +81,9 @@ def picture():
             "<title>Which crate stands on which</title>", '<rect width="100%" height="100%" fill="#fff"/>', '<g stroke="#889" stroke-width="1" fill="none">']
     for upper, lower in lines:
         (x, y), (u, v) = at[upper], at[lower]
-        text.append(f'<path d="M{x + WIDTH / 2:.0f} {y:.0f}C{x + WIDTH / 2:.0f} {y - 22:.0f} {u + WIDTH / 2:.0f} {v + HEIGHT + 22:.0f} {u + WIDTH / 2:.0f} {v + HEIGHT:.0f}"/>')
+        upper_end, lower_end = x + WIDTH / 2, u + WIDTH / 2
+        text.append(f'<path d="M{upper_end:.0f} {y:.0f}C{upper_end:.0f} {y - 22:.0f} '
+                    f'{lower_end:.0f} {v + HEIGHT + 22:.0f} {lower_end:.0f} {v + HEIGHT:.0f}"/>')
     text.append("</g>")
     for name, (x, y) in at.items():
         text.append(f'<rect x="{x:.0f}" y="{y:.0f}" width="{WIDTH}" height="{HEIGHT}" rx="4" fill="{colours[groups[name]]}" stroke="#556"/>'

@@ -1,6 +1,6 @@
 #!/usr/bin/env python3
 """Lists what the headline rests on, definition by definition, and counts its lines without imports,
-comments, empty lines and lines of closing brackets alone; then what is read besides for the theorems of reports, pages and the board.
+comments, empty lines and lines of only closing brackets; then what is read besides for the theorems of reports, pages and the board.
 
 It starts from the clauses that docs/THEOREM.md names, row by row (CALLS, MORE), and follows every name in them: to definitions of
 specs/, to the types of the code (structs and enums), or, of a type that has one, to its view, which is what contracts see of it. With an argument

@@ -2,16 +2,16 @@
 """Lays out the pages of studies from facts of an independent program, and compares the pages of studyreport with them.
 
     tools/oracle/report_facts.py check TABLES [NAME ..]    lines and pages of gallery scripts, each alone and all in one run, byte by byte
-    tools/oracle/report_facts.py agree TABLES [SCRIPT ..]  the lines and the page of any script by one program: each fact of the lines has to be
-                                                    in the page, and no other (without scripts, those of the gallery)
+    tools/oracle/report_facts.py agree TABLES [SCRIPT ..]  the lines and the page of any script by one program: each fact of the lines has to
+                                                           be in the page, and no other (without scripts, those of the gallery)
     tools/oracle/report_facts.py print NAME ..             what is expected of the scripts in one run: the whole file of pages
     tools/oracle/report_facts.py gate                      writes what the gate expects of the lines and pages of gallery, and of studyreport
     tools/oracle/report_facts.py facts                     writes into examples/NAME.lines which faults lose time alone, by the other lines, and which
-                                                    nodes are mutual zugzwangs, by tools/oracle/finding/zugzwangs.txt
+                                                           nodes are mutual zugzwangs, by tools/oracle/finding/zugzwangs.txt
 
 The facts are those of examples/NAME.lines and the games of PGN in examples/NAME.expected; both come from a program that shares
-nothing with this repository; so does the list of all mutual zugzwangs. `agree` takes the lines of studyreport itself, and the games of studybench. The layout is that of
-docs/REPORT.md, written here once more.
+nothing with this repository; so does the list of all mutual zugzwangs. `agree` takes the lines of studyreport itself, and the games of
+studybench. The layout is that of docs/REPORT.md, written here once more.
 """
 import copy
 import html

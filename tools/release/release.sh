@@ -5,10 +5,9 @@
 #   tools/release/release.sh --board      puts the board of this commit, which tools/release/web.sh has built, into dist/, for whoever has no toolchain
 #   tools/release/release.sh --check      builds the board of dist/ anew, from the commit that dist/studyboard.txt names, and compares the bytes
 #
-# web/out/studyboard.html is taken where tools/release/web.sh has built it. TABLES, a folder of all tables (examples/all_tables.script), gives the printed
-# pages of the gallery. The archive is out/studybench-VERSION-linux-x86_64.tar.gz, the same
-# bytes for the same programs. It is unpacked into an empty folder and tried there with an empty PATH: the programs need the C library and
-# nothing else.
+# web/out/studyboard.html is taken if tools/release/web.sh has built it. TABLES, a folder of all tables (examples/all_tables.script), gives the
+# printed pages of the gallery. The archive is out/studybench-VERSION-linux-x86_64.tar.gz, the same bytes for the same programs. It is unpacked
+# into an empty folder and tried there with an empty PATH: the programs need the C library and nothing else.
 set -e
 top=$(cd "$(dirname "$0")/../.." && pwd)
 if [ "$1" = --board ]; then
@@ -17,15 +16,19 @@ if [ "$1" = --board ]; then
     mkdir -p dist
     cp web/out/studyboard.html dist/studyboard.html
     version=$(sed -n 's/^pub const VERSION: &str = "\([^ ]*\) .*/\1/p' crates/study_program/src/options.rt)
-    printf 'version %s\ncommit %s\nsha256 %s\n' "$version" "$(git rev-parse HEAD)" "$(sha256sum < dist/studyboard.html | cut -d' ' -f1)" | tee dist/studyboard.txt
+    sum=$(sha256sum < dist/studyboard.html | cut -d' ' -f1)
+    printf 'version %s\ncommit %s\nsha256 %s\n' "$version" "$(git rev-parse HEAD)" "$sum" | tee dist/studyboard.txt
     exit 0
 fi
 if [ "$1" = --check ]; then
     cd "$top"
     commit=$(sed -n 's/^commit //p' dist/studyboard.txt); sum=$(sed -n 's/^sha256 //p' dist/studyboard.txt)
-    [ "$(sha256sum < dist/studyboard.html | cut -d' ' -f1)" = "$sum" ] || { echo "dist/studyboard.html is not the file that dist/studyboard.txt names"; exit 1; }
+    [ "$(sha256sum < dist/studyboard.html | cut -d' ' -f1)" = "$sum" ] ||
+        { echo "dist/studyboard.html is not the file that dist/studyboard.txt names"; exit 1; }
     work=$(mktemp -d); trap 'rm -rf "$work"' EXIT
-    git clone -q "$top" "$work/clone" && cd "$work/clone" && git checkout -q "$commit" && tools/release/web.sh "$work/module"
+    git clone -q "$top" "$work/clone" && cd "$work/clone" && git checkout -q "$commit"
+    build=tools/release/web.sh; [ -x "$build" ] || build=tools/web.sh  # (where it is at commits of 1.7.0 and before)
+    "$build" "$work/module"
     cmp web/out/studyboard.html "$top/dist/studyboard.html" && echo "dist/studyboard.html is the board of $commit"
     exit
 fi
@@ -41,7 +44,8 @@ name=studybench-$version-linux-x86_64
 work=$(mktemp -d); trap 'rm -rf "$work"' EXIT
 here=$work/$name
 mkdir -p "$here" out
-cp crates/studybench/out/studybench crates/studyreport/out/studyreport crates/studyimport/out/studyimport crates/studymine/out/studymine README.md CHANGELOG.md CONTRIBUTING.md "$here/"
+for program in studybench studyreport studyimport studymine; do cp "crates/$program/out/$program" "$here/"; done
+cp README.md CHANGELOG.md CONTRIBUTING.md "$here/"
 cp -r docs "$here/"
 cp -rL examples "$here/"
 cp --parents crates/*/README.md web/README.md "$here/"

@@ -13,6 +13,8 @@ HERE = os.path.dirname(os.path.abspath(__file__))
 
 
 def main():
+    if len(sys.argv) != 2:
+        sys.exit(__doc__)
     with open(os.path.join(HERE, "..", "..", "examples", "all_tables.script"), encoding="ascii") as file:
         names = re.findall(r"^build (\w+)$", file.read(), re.M)
     rows = []
@@ -21,7 +23,7 @@ def main():
             data = file.read()
         rows.append("  %s: [%d, '%s']," % (name, len(data), hashlib.sha256(data).hexdigest()))
     print("// @ts-check")
-    print("// Length and SHA-256 of the file of each class: the same bytes whoever builds it. Made by tools/release/table_digests.py.")
+    print("// Length and SHA-256 of the file of each class, the same whoever builds it. Made by tools/release/table_digests.py.")
     print("/** @type {Record<string, [number, string]>} */")
     print("export const DIGESTS = {")
     print("\n".join(rows))

@@ -1,5 +1,8 @@
 #!/usr/bin/env python3
-"""Writes the constant tables of study_board: `tables.py tables` prints src/attack_tables.rt, `tables.py rays` prints src/ray_tables.rt.
+"""Writes the constant tables of study_board.
+
+    tools/release/tables.py tables   prints src/attack_tables.rt
+    tools/release/tables.py rays     prints src/ray_tables.rt
 
 A set of squares is a 64-bit number, bit x for the square x. Run `rt fmt` in the crate afterwards."""
 import sys

@@ -32,7 +32,8 @@ rm -rf src specs proofs
 (cd "$top/web/$name" && find . -name '*.txt') | while read -r file; do install -D -m 644 "$top/web/$name/$file" "${file%.txt}"; done
 words_for "$top" std study_web
 "$kit/bin/rattle" build --crate-name $name src/lib.rt "${words[@]}" --jobs 2 --links $name=c --crate-type staticlib --target $target \
-    --toolchain "$kit/toolchain" --backend llvm --incremental out/incremental -o out/lib$name.a > out/module.log 2>&1 || { grep -v '^statements\|^library' out/module.log | tail -20; exit 1; }
+    --toolchain "$kit/toolchain" --backend llvm --incremental out/incremental -o out/lib$name.a > out/module.log 2>&1 ||
+    { grep -v '^statements\|^library' out/module.log | tail -20; exit 1; }
 grep '^logic=' out/module.log
 "$kit/bin/rattle-link" --target $target --toolchain "$kit/toolchain" -o out/$name.64.wasm out/lib$name.a
 

@@ -72,7 +72,9 @@ def version():
 
 
 def main():
-    page_js, worker_js, module64, module32, out = sys.argv[1:6]
+    if len(sys.argv) != 6:
+        sys.exit(__doc__)
+    page_js, worker_js, module64, module32, out = sys.argv[1:]
     script, worker, style = read(page_js).strip(), read(worker_js).strip(), small_style(os.path.join(WEB, "board.css"))
     for text in (script, worker):
         assert "</script" not in text.lower() and "<!--" not in text, "a bundle that would end its element"

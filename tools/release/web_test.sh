@@ -2,11 +2,13 @@
 # Tests studyboard.html: types, format, pure functions, and the page in headless Chromium, opened from its file.
 #
 #   tools/release/web_test.sh [--short] [TABLES]
+#   tools/release/web_test.sh --sources           only types, format and pure functions, in seconds: no page is needed
 #
 # TABLES has the files of tables that examples/all_tables.script builds; without it only what needs none is tried. --short: one
 # study by mouse, 20 scripts, and that nothing is lost; tables of two and three men are enough for it. STUDYBOARD names
 # another page than web/out/studyboard.html; SHOTS a folder for pictures; STUDYBENCH the native program.
-top=$(cd "$(dirname "$0")/../.." && pwd); short=; [ "$1" = --short ] && { short=1; shift; }
+top=$(cd "$(dirname "$0")/../.." && pwd); mode=; case ${1:-} in --*) mode=$1; shift ;; esac
+case $mode in "" | --short | --sources) ;; *) echo "tools/release/web_test.sh: $mode is no option: see the head of this file" >&2; exit 2 ;; esac
 tables=${1:-}; page=${STUDYBOARD:-$top/web/out/studyboard.html}; python=${PYTHON:-/usr/bin/python3}; status=0
 say() { echo "tools/release/web_test.sh: $1"; }
 try() { "$@" || status=1; }
@@ -28,6 +30,7 @@ fi
 lines=$(awk 'FNR > 300 { print FILENAME }' "$top"/web/src/*.js | sort -u)
 [ -z "$lines" ] || { say "more than 300 lines: $lines"; status=1; }
 
+[ "$mode" = --sources ] && exit $status
 [ -f "$page" ] || { say "no page: run tools/release/web.sh first"; exit 1; }
 if ! command -v chromedriver > /dev/null || ! "$python" -c 'import selenium' 2> /dev/null; then
     say "no chromedriver (Debian's chromium-driver, python3-selenium): the page is not tried"
@@ -35,7 +38,7 @@ if ! command -v chromedriver > /dev/null || ! "$python" -c 'import selenium' 2> 
 fi
 [ -n "$tables" ] || { say "no folder of tables: the page is not tried"; exit $status; }
 cd "$top/web/tests/browser" || exit 1
-if [ -n "$short" ]; then
+if [ "$mode" = --short ]; then
     try "$python" gallery.py "$tables" kpk_opposition
     try "$python" scripts.py "$tables" 20
     try "$python" kept.py "$tables"

@@ -4,8 +4,8 @@
 #   tools/run/faults.sh            the built program: memory, reads, writes, opened files and places in them that fail, are cut
 #                              short or are broken off, then the deepest tree under limits of stack and addresses, whole
 #                              devices and tools/run/files.sh; then studyreport, with tools/run/report_faults.py, and studyimport; some minutes
-#   tools/run/faults.sh report     studyreport alone
-#   tools/run/faults.sh import     studyimport alone
+#   tools/run/faults.sh report     only studyreport
+#   tools/run/faults.sh import     only studyimport
 #   tools/run/faults.sh try [N ..] `rt try --fail-alloc N` over the small scripts, for each N (default 3 19 35 51); slow
 #
 # FAULTS_RUNS=N bounds the runs of one script with one kind of fault (default 24): where there are more places for the fault,
@@ -96,7 +96,10 @@ imported() { # studyimport: a call that fails ends the run with its name, and wh
     for kind in alloc stdin stdout; do for how in fail short interrupt; do
         [ $kind = alloc ] && [ $how != fail ] && continue
         for at in $(seq 1 "$FAULTS_RUNS"); do
-            (cd "$work" && FAULT_KIND=$kind FAULT_HOW=$how FAULT_AT=$at FAULT_CHUNK=400 LD_PRELOAD="$work/fault.so" timeout 60 "$import" < "$games" > out 2> err)
+            (
+                cd "$work" && export FAULT_KIND=$kind FAULT_HOW=$how FAULT_AT=$at FAULT_CHUNK=400
+                LD_PRELOAD="$work/fault.so" timeout 60 "$import" < "$games" > out 2> err
+            )
             was=$?; runs=$((runs + 1)); name=$(sed -n 's/^studyimport: //p' "$work/err")
             case $was,$kind,$name in
                 0,*,) cmp -s "$work/out" "$work/script" ;;

@@ -7,7 +7,8 @@
 # and lines and pages must have the same facts (report_facts.py, where studybench is built too). With chromium there is a picture of each
 # page, all.pdf as it is printed, and with pdftoppm its first sides in grey.
 top=$(cd "$(dirname "$0")/../.." && pwd); examples="$top/examples"
-tables=$(realpath "${1:?tools/run/report.sh TABLES [FOLDER]}"); out=${2:-/tmp/report}
+[ -d "${1:-}" ] || { echo "usage: tools/run/report.sh TABLES [FOLDER]" >&2; exit 2; }
+tables=$(realpath "$1"); out=${2:-/tmp/report}
 program=${STUDYREPORT:-$top/crates/studyreport/out/studyreport}; bench=${STUDYBENCH:-$top/crates/studybench/out/studybench}
 [ -x "$program" ] || { echo "studyreport is not built: cd crates/studyreport && rt run -- --help"; exit 2; }
 command -v tidy > /dev/null || { echo "tidy is not installed"; exit 2; }

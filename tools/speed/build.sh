@@ -9,8 +9,8 @@
 # as the crate study_speed, and has `rt` prove and build all of it there. FOLDER keeps what was proved and built for the next time.
 set -e
 top=$(cd "$(dirname "$0")/../.." && pwd); room=$(realpath -m "${1:-${TMPDIR:-/tmp}/studybench_speed}")
-uses="study_text study_board study_moves study_material study_values study_index study_table study_retro study_tablefile study_prober study_notation study_tree study_marks"
-uses="$uses study_pgn study_command study_review study_view study_script study_program linked_list_allocator sha2"
+uses="study_text study_board study_moves study_material study_values study_index study_table study_retro study_tablefile study_prober study_notation study_tree"
+uses="$uses study_marks study_pgn study_command study_review study_view study_script study_program linked_list_allocator sha2"
 
 case "$room/" in "$top"/*) echo "tools/speed/build.sh: $room is in the repository"; exit 2 ;; esac
 if [ -e "$room" ] && [ ! -e "$room/crates.txt" ] && [ -n "$(ls -A "$room")" ]; then

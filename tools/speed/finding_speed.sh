@@ -2,12 +2,13 @@
 # Times the search of studymine beside plain Rust of the same sources, without their contracts and compiled by rustc, over the tables of a folder.
 #
 #   tools/speed/finding_speed.sh TABLES    the mutual zugzwangs of each class, and two lists of only moves; seconds of a processor, and the ratios
-#   STUDYMINE=PROGRAM                the program; else that of crates/studymine/out, which has to be built
+#   STUDYMINE=PROGRAM                      the program; else that of crates/studymine/out, which has to be built
 #
-# Each takes the fastest of three goes, in turns with the other. Both must count the same. Without a program the plain one is timed alone.
+# Each takes the fastest of three goes, in turns with the other. Both must count the same. Without a program only the plain one is timed.
 set -eo pipefail
 top=$(cd "$(dirname "$0")/../.." && pwd)
-tables=$(realpath "${1:?"usage: tools/speed/finding_speed.sh TABLES"}")
+[ -d "${1:-}" ] || { echo "usage: tools/speed/finding_speed.sh TABLES" >&2; exit 2; }
+tables=$(realpath "$1")
 program=${STUDYMINE:-$top/crates/studymine/out/studymine}
 work=$(mktemp -d); trap 'rm -rf "$work"' EXIT
 stripped=$top/tools/speed/stripped

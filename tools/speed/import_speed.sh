@@ -2,9 +2,9 @@
 # Times studyimport beside plain Rust of the same sources, without their contracts and compiled by rustc, on 10 MB of small games.
 #
 #   tools/speed/import_speed.sh [PGN]    the games of the file (the example's) again and again; seconds of a processor, and the ratio
-#   STUDYIMPORT=PROGRAM            the program; else that of crates/studyimport/out, which has to be built
+#   STUDYIMPORT=PROGRAM                  the program; else that of crates/studyimport/out, which has to be built
 #
-# Each takes the fastest of five goes, in turns with the other. Both must write the same script. Without a program the plain one is timed alone.
+# Each takes the fastest of five goes, in turns with the other. Both must write the same script. Without a program only the plain one is timed.
 set -e
 top=$(cd "$(dirname "$0")/../.." && pwd)
 pgn=${1:-$top/examples/import/three_games.pgn}

@@ -3,10 +3,11 @@
 # gives is measured there first. It is no part of any claim; its cells are to be those of the proved program.
 #
 #   tools/speed/stripped.sh PROGRAM [TOP]    the sources of this checkout, or of the checkout TOP
-#   PROGRAM KRKN [verify] [FOLDER]     builds a class: seconds, numbers examined, a sum of its cells; FOLDER keeps the cells of what it needs
+#   PROGRAM KRKN [verify] [FOLDER]           builds a class: seconds, numbers examined, a sum of its cells; FOLDER keeps the cells of what it needs
 #
 # `valgrind --tool=callgrind PROGRAM KRK` counts its instructions, which other work does not change.
 set -e
+[ -n "$1" ] || { echo "usage: tools/speed/stripped.sh PROGRAM [TOP]" >&2; exit 2; }
 here=$(cd "$(dirname "$0")" && pwd); program=$1; top=${2:-$here/../..}
 work=$(mktemp -d)
 trap 'rm -rf "$work"' EXIT

@@ -1,5 +1,5 @@
 // @ts-check
-// Length and SHA-256 of the file of each class: the same bytes whoever builds it. Made by tools/release/table_digests.py.
+// Length and SHA-256 of the file of each class, the same whoever builds it. Made by tools/release/table_digests.py.
 /** @type {Record<string, [number, string]>} */
 export const DIGESTS = {
   KK: [4192, 'bf83feff7e2fa375732ceb490e06c433901a4f1b8ae9569bb394958a44b5c893'],

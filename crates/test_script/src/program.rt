@@ -58,7 +58,10 @@ fn help_and_version_are_reported_and_words_refused(rt: HostRuntime) -> Result<()
     check_words(
         &rt,
         &["--version"],
-        Err((0, "studybench 1.7.0 (kit rattle-kit-13f)\n")),
+        Err((
+            0,
+            "studybench 1.7.0 (rattle-kit-13b or 13f, logic dac8208d650f15bf)\n",
+        )),
     )?;
     for words in [
         ["--pages", "0"],
