@@ -2,9 +2,10 @@
 """Makes the gallery's page, docs/gallery: a diagram of each study, and why it is there.
 
     tools/check/draw_gallery.py            writes docs/gallery/README.md and docs/gallery/NAME.svg
-    tools/check/draw_gallery.py --check    exit status 1 where these are not what the scripts and examples/README.md give
+    tools/check/draw_gallery.py --check    exit status 1 if these are not what the scripts and their notes give, or a script does not say whose its study is
 
-The position and the tags are those of the script up to its first `pgn` line, the order, verdicts and words those of the table in examples/README.md. Men are drawn as on the board (web/men.svg).
+The position and the tags are those of the script up to its first `pgn` line, the order, verdicts and words those of the table in
+crates/gallery/data/README.md. Men are drawn as on the board (web/men.svg).
 """
 import os
 import re
@@ -78,9 +79,11 @@ def rows():
 def entry(name, verdicts, shows):
     fen, tags = study_of(name)
     year = re.sub(r"(\.\?\?)+$", "", tags.get("Date", ""))
-    title = tags.get("Event", "Untitled")
-    source = ", ".join(it for it in (tags.get("White", ""), year) if it.strip("?."))
-    text = f"**{title}**" + (f"<br>{source}" if source else "") + f"<br>*{verdicts}*<br><br>{shows}<br><br>"
+    if "Event" not in tags or "White" not in tags:
+        sys.exit(f"{name}.script: no tag Event or White: which study is it, and whose?")
+    title = tags["Event"]
+    source = ", ".join(it for it in (tags["White"], year) if it.strip("?."))
+    text = f"**{title}**<br>{source}<br>*{verdicts}*<br><br>{shows}<br><br>"
     text += f"[script](../../crates/gallery/data/{name}.script) · [replies](../../crates/gallery/data/{name}.expected) · "
     return f"| ![{spoken(fen)}]({name}.svg) | {text}[facts](../../crates/gallery/data/{name}.lines) |", fen
 
@@ -92,11 +95,14 @@ def pages():
         line, fen = entry(name, verdicts, shows)
         made[f"{name}.svg"] = diagram(fen, shapes)
         table.append(line)
-    head = """# The gallery
+    head = f"""# The gallery
 
-Published studies and endings with two to four men, each with its script, its replies and the facts of its report. The verdicts are strict: a waste
-of time counts as a dual, so some well-known studies are unsound by the letter. [The notes](../../crates/gallery/data/README.md) explain how the
-gallery is run and where its expected replies come from.
+{len(table)} studies and endings with two to four men: published studies, endings of the textbooks, and positions found with the tables. Under each
+title stands the author, if one is known, or the source. Authors and years are from memory; only those of Réti 1921 and of Barbier and Saavedra
+1895 are certain.
+
+The verdicts are strict: a waste of time counts as a dual, so some well-known studies are `unsound`. [The notes](../../crates/gallery/data/README.md)
+explain this, how the gallery is run, and where its expected replies come from.
 
 | | |
 |---|---|

@@ -76,8 +76,8 @@ fn study<'a, A: Allocator>(
     };
     let start = read_fen(START).ok()?;
     let mut bench = Bench::new(alloc, start, stipulation, values).ok()?;
-    bench.set_tag(TagName::Event, "Found with the tables").ok()?;
-    bench.set_tag(TagName::White, "King and rook").ok()?;
+    bench.set_tag(TagName::Event, "King and rook").ok()?;
+    bench.set_tag(TagName::White, "Found with the tables").ok()?;
     for (steps, san) in MOVES {
         let path = path_of(alloc, steps)?;
         let _place = insert(&mut bench, values, &path, san)?;

@@ -11,8 +11,8 @@ use study_web::{
 
 const SCRIPT: &str = r#"position k7/1R6/8/K7/8/8/8/8 w - - 0 1
 stipulate white mate 3
-tag Event Found with the tables
-tag White King and rook
+tag Event King and rook
+tag White Found with the tables
 insert root Rc7
 insert root Kb6
 insert root Kb5
@@ -224,12 +224,7 @@ fn pages_over_tables(rt: HostRuntime) -> Result<(), Fail> {
     assert!(rt; text.starts_with(b"<!DOCTYPE html>\n") && text.ends_with(b"</body></html>\n"));
     let refused = "Line 15 was refused: <code>insert root Ra9</code> <b>NotSan</b>: ";
     assert!(rt; has(text, refused));
-    assert!(rt;
-        has(
-            text,
-            "<article id=\"e1\"><header><h1>Found with the tables</h1>"
-        )
-    );
+    assert!(rt; has(text, "<article id=\"e1\"><header><h1>King and rook</h1>"));
     assert!(rt; has(text, ">not read: line 15</span>"));
     assert!(rt; !has(text, "<article id=\"e2\">") && !has(text, "Entries and verdicts"));
     assert!(rt;
