@@ -1,11 +1,14 @@
 #!/usr/bin/env python3
-"""Draws which crate stands on which, from crates.txt.
+"""Draws which crate uses which, from crates.txt, and writes the links of the table of crates in docs/ARCHITECTURE.md.
 
-    tools/check/draw_crates.py            writes docs/crates.svg
-    tools/check/draw_crates.py --check    exit status 1 where docs/crates.svg is not that picture
+    tools/check/draw_crates.py            writes docs/crates.svg, and the first and last cells of the table
+    tools/check/draw_crates.py --check    writes nothing; exit status 1 if it would, one line for each difference
 
-A crate stands one row below the lowest row of those that it uses. A line leads to each crate that it uses and does not reach through another.
-Crates of tests and the libraries of the kit are left out.
+In the picture a crate is one row below the lowest row of those that it uses. A line leads to each crate that it uses and does not reach through
+another. Crates of tests and the libraries of the kit are left out.
+
+The table has each crate of crates.txt once, and no other, after all crates that it uses: these faults are reported, not mended. A crate's name is a link to its
+page, if it has one; the last cell leads to the page's heading Definitions, else to its folder specs/, if it has one.
 """
 import html
 import os
@@ -16,8 +19,8 @@ TOP = os.path.join(os.path.dirname(os.path.abspath(__file__)), "..", "..")
 WIDTH, HEIGHT, ACROSS, DOWN = 118, 24, 132, 50
 
 
-def read_crates():
-    """The crates with those of them that each uses, and the heading under which each stands."""
+def all_crates():
+    """The crates with those of them that each uses, and the heading under which each is listed."""
     uses, groups, group = {}, {}, ""
     with open(f"{TOP}/crates.txt", encoding="utf8") as it:
         for line in it:
@@ -27,8 +30,7 @@ def read_crates():
             elif line:
                 name, _, names = line.partition(":")
                 uses[name], groups[name] = names.split(), group
-    shown = [it for it in uses if not it.startswith("test_")]
-    return {it: [dep for dep in uses[it] if dep in shown] for it in shown}, groups
+    return {it: [dep for dep in uses[it] if dep in uses] for it in uses}, groups
 
 
 def all_below(uses, name):
@@ -68,8 +70,8 @@ def in_order(rows, lines):
     return place
 
 
-def picture():
-    uses, groups = read_crates()
+def picture(all_uses, groups):
+    uses = {it: all_uses[it] for it in all_uses if not it.startswith("test_")}
     lines = [(name, dep) for name in uses for dep in uses[name]
              if not any(dep in all_below(uses, other) for other in uses[name] if other != dep)]
     rows = rows_of(uses)
@@ -78,7 +80,7 @@ def picture():
     at = {name: (across / 2 + place[name] * ACROSS - WIDTH / 2, 12 + DOWN * depth) for depth, row in enumerate(rows) for name in row}
     colours = dict(zip(dict.fromkeys(groups[it] for it in uses), ("#dbe7f6", "#e3f0dc", "#f7e8d0", "#f3dfe6", "#e6e0f3", "#f0f0e0", "#dff0ef", "#eee4da")))
     text = [f'<svg xmlns="http://www.w3.org/2000/svg" viewBox="0 0 {across:.0f} {DOWN * len(rows) + 4}" font-family="sans-serif" font-size="11">',
-            "<title>Which crate stands on which</title>", '<rect width="100%" height="100%" fill="#fff"/>', '<g stroke="#889" stroke-width="1" fill="none">']
+            "<title>Which crate uses which</title>", '<rect width="100%" height="100%" fill="#fff"/>', '<g stroke="#889" stroke-width="1" fill="none">']
     for upper, lower in lines:
         (x, y), (u, v) = at[upper], at[lower]
         upper_end, lower_end = x + WIDTH / 2, u + WIDTH / 2
@@ -91,16 +93,55 @@ def picture():
     return "\n".join(text + ["</svg>", ""])
 
 
+def linked_name(name):
+    return f"[{name}](../crates/{name}/README.md)" if os.path.exists(f"{TOP}/crates/{name}/README.md") else name
+
+
+def definitions_of(names):
+    """The link to the definitions of a row's crate."""
+    if len(names) != 1:
+        return ""
+    folder = f"crates/{names[0]}"
+    if os.path.exists(f"{TOP}/{folder}/README.md"):
+        with open(f"{TOP}/{folder}/README.md", encoding="utf8") as it:
+            if re.search("^## Definitions$", it.read(), re.M):
+                return f"[definitions](../{folder}/README.md#definitions)"
+    return f"[specs](../{folder}/specs)" if os.path.isdir(f"{TOP}/{folder}/specs") else ""
+
+
+def table_of(text, uses):
+    """The text with the links of its table of crates, and what the table lacks."""
+    lines, seen, faults = text.split("\n"), [], []
+    at = next(n for n, line in enumerate(lines) if line.startswith("| Crate |")) + 2
+    while at < len(lines) and lines[at].startswith("|"):
+        cells = [it.strip() for it in lines[at].strip().strip("|").split(" | ")]
+        names = [re.sub(r"\[(.*?)\].*", r"\1", it) for it in cells[0].split(", ")]
+        cells += [""] * (4 - len(cells))
+        lines[at] = "| " + " | ".join([", ".join(map(linked_name, names)), cells[1], cells[2], definitions_of(names)]) + " |"
+        for name in names:
+            if name in seen or name not in uses:
+                faults.append(f"{name} is in the table twice" if name in seen else f"{name} is in the table, and not in crates.txt")
+            seen.append(name)
+            faults += [f"{name} is in the table before {dep}, which it uses" for dep in uses.get(name, []) if dep not in seen]
+        at += 1
+    return "\n".join(lines), faults + [f"{name} is not in the table" for name in uses if name not in seen]
+
+
 def main():
-    file, drawn = f"{TOP}/docs/crates.svg", picture()
-    if "--check" in sys.argv[1:]:
-        with open(file, encoding="utf8") as it:
-            same = it.read() == drawn
-        print("docs/crates.svg is that of crates.txt" if same else "docs/crates.svg is not that of crates.txt: run tools/check/draw_crates.py")
-        return 0 if same else 1
-    with open(file, "w", encoding="utf8") as it:
-        it.write(drawn)
-    return 0
+    uses, groups = all_crates()
+    with open(f"{TOP}/docs/ARCHITECTURE.md", encoding="utf8") as it:
+        table, faults = table_of(it.read(), uses)
+    for name, new in (("docs/crates.svg", picture(uses, groups)), ("docs/ARCHITECTURE.md", table)):
+        with open(f"{TOP}/{name}", encoding="utf8") as it:
+            if it.read() == new:
+                continue
+        if "--check" in sys.argv[1:]:
+            faults.append(f"{name} is not that of crates.txt: run tools/check/draw_crates.py")
+            continue
+        with open(f"{TOP}/{name}", "w", encoding="utf8") as it:
+            it.write(new)
+    print("\n".join(faults) if faults else "docs/crates.svg and the table of docs/ARCHITECTURE.md are those of crates.txt")
+    return 1 if faults else 0
 
 
 if __name__ == "__main__":

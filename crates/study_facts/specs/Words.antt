@@ -66,7 +66,7 @@ play_line path p v list = front_words (codes "play ") path ++ (value_words v ++ 
 unfoldable pub move_words : Position → EvaluatedMove → List ℕ
 move_words p x = codes " " ++ move_text p x.played
 
--- `push_if_wanted 1.0.0 2 2 Ka5 Ka7`
+-- `keep 1.0.0 2 2 Ka5 Ka7`
 unfoldable pub keep_line : List ℕ → Position → List EvaluatedMove → List ℕ
 keep_line path p list =
     front_words (codes "keep ") path

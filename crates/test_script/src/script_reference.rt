@@ -1,4 +1,4 @@
-//! The script of docs/SCRIPT.md with each refusal once; `tools/check/script_doc.py` compares the two.
+//! A script with each refusal once, and its replies; docs/SCRIPT.md says what each means.
 use crate::rows::{Rows, check};
 
 const REFUSALS: Rows<'static> = "tag White Réti -> error BadByte
