@@ -603,7 +603,7 @@ def page(study, number):
 
 def left_out_row(line):
     """The row of a game without a block, from its comment: its place among the games, and why."""
-    place, _, why = line[2:].partition(":")
+    place, _, why = line[3:].partition(":")
     return inside("tr", inside("td", "") + inside("td", say(place)) + inside("td", "") + inside("td", "") + inside("td", say(why[1:] + meaning(line))))
 
 
@@ -671,6 +671,8 @@ GAME_REASONS = {
     "TagForm": "a tag that is not a name and a text in quotation marks",
     "OpenString": "a tag whose text is not closed in its line",
     "NoStipulation": "it does not say what is to be done",
+    "StipulationUnread": "a stipulation that is not understood",
+    "TagTwice": "a second tag of this name, so perhaps two games that run together",
     "TagInMoves": "a tag among the moves",
     "Numbering": "a move number that does not fit",
     "NullMove": "a null move in the main line",
@@ -701,7 +703,7 @@ def in_its_letters(text):
 
 def is_left_out(line):
     """Whether a line is the comment of studyimport on a game without a block."""
-    return bool(re.match(r"# game \d*, line ", line)) and not re.match(r"[^:]*: stipulated by ", line)
+    return bool(re.match(r"#! game \d*, line ", line)) and not re.match(r"[^:]*: stipulated by ", line)
 
 
 def meaning(line):
@@ -714,9 +716,9 @@ def remark(line):
     """The paragraph of a comment of studyimport: a game without a block, the original text of a tag, or what a block does not have. Other comments have
     none."""
     if is_left_out(line):
-        return inside("p", say("No page for " + line[2:] + meaning(line)), 'class="warn"')
-    if re.match(r"# ((Event|Site|Date|Round|White|Black) was|not taken over|behind the result|a tail): ", line):
-        return inside("p", in_its_letters(line[2:]), 'class="note"')
+        return inside("p", say("No page for " + line[3:] + meaning(line)), 'class="warn"')
+    if re.match(r"#! ((Event|Site|Date|Round|White|Black) was: |(not taken over|behind the result|a tail): |the stipulation )", line):
+        return inside("p", in_its_letters(line[3:]), 'class="note"')
     return ""
 
 
@@ -889,13 +891,17 @@ GATE_MORE = [
     ("tag Date 2026.??.??", None),
     ("tag Round 3", None),
     ("tag White <script>Caf\xe9", "BadByte"),
-    ("# game 2, line 14: stipulated by its comment", None),
-    ("# White was: <b>Caf\xe9", None),
-    ("# Event was: \xd0\x9c\xd0\xb0\xd1\x82 & \"", None),
+    ("#! game 2, line 14: stipulated by its comment", None),
+    ("# White was: a comment by hand", None),
+    ("#! the stipulation differs from its tag Result", None),
+    ("#! White was: <b>Caf\xe9", None),
+    ("#! Event was: \xd0\x9c\xd0\xb0\xd1\x82 & \"", None),
     ("pgn", "again"),
-    ("# game 3, line 31 (Kasparyan, G.): left out: 7 men", None),
-    ("# game 4, line 52, column 17: NoSuchMove at Kb6", None),
-    ("# game 5, line 60: NoStipulation", None),
+    ("#! game 3, line 31 (Kasparyan, G.): left out: 7 men", None),
+    ("#! game 4, line 52, column 17: NoSuchMove at Kb6", None),
+    ("#! game 5, line 60: StipulationUnread at its comment", None),
+    ("#! game 6, line 71 (Kling, J.): TagTwice at White", None),
+    ("# game 7, line 80: a comment by hand", None),
     ("moves 0.0.0.0.0", "NoSuchNode"),
     ("insert root 1.Qg8", "NotSan"),
     ("dance <script>'root'", "UnknownCommand"),

@@ -45,6 +45,8 @@ export const GAME_REASONS = /** @type {Record<string, string>} */ ({
   TagForm: 'a tag that is not a name and a text in quotation marks',
   OpenString: 'a tag whose text is not closed in its line',
   NoStipulation: 'it does not say what is to be done',
+  StipulationUnread: 'a stipulation that is not understood',
+  TagTwice: 'a second tag of this name, so perhaps two games that run together',
   TagInMoves: 'a tag among the moves',
   Numbering: 'a move number that does not fit',
   NullMove: 'a null move in the main line',

@@ -1,6 +1,7 @@
 // @ts-check
 // What the user does, as a change of the script's lines. Each function gives the lines to be run; the program takes or
 // refuses them.
+import {originalsIn} from './imported.js';
 import {aimWords} from './words.js';
 import {TAGS, isEdit, isGame, oneGame, wordsOf} from './script.js';
 import {squareName} from './fen.js';
@@ -188,8 +189,8 @@ export function isDate(text) {
  * @param {string} original
  */
 function withOriginal(lines, study, name, original) {
-  const at = lines.slice(study.head, study.from).findIndex(line => line.startsWith(`# ${name} was: `));
-  const rest = at < 0 ? lines : splice(lines, study.head + at, 1), remark = `# ${name} was: ${original}`;
+  const at = lines.slice(study.head, study.from).findIndex(line => originalsIn([line])[name] !== undefined);
+  const rest = at < 0 ? lines : splice(lines, study.head + at, 1), remark = `#! ${name} was: ${original}`;
   return original ? splice(rest, at < 0 ? study.from : study.head + at, 0, remark) : rest;
 }
 /**

@@ -1,6 +1,6 @@
 // @ts-check
 // What the program makes of a PGN: blocks of lines with remarks above them, and for each game that has none a remark
-// that says why.
+// that says why. A remark begins with `#!`; scripts of version 1.7 have `#`, and are read, too.
 import {GAME_REASONS} from './core_words.js';
 import {counted, reason} from './words.js';
 /**
@@ -32,8 +32,8 @@ export function plainBytes(bytes) {
   const read = code ? new TextEncoder().encode(new TextDecoder(code).decode(bytes)) : bytes;
   return read.includes(10) ? read : read.map(byte => (byte === 13 ? 10 : byte));
 }
-const GAME = /^# game (\d+), line (\d+)(?:, column (\d+))?(?: \(([^:]*)\))?: (.*)$/,
-      COUNTS = /^# games (\d+), studies (\d+)$/;
+const GAME = /^#!? game (\d+), line (\d+)(?:, column (\d+))?(?: \(([^:]*)\))?: (.*)$/,
+      COUNTS = /^#!? games (\d+), studies (\d+)$/;
 /**
  * The game that a remark says was left out.
  * @param {string} line
@@ -70,12 +70,12 @@ const GONE = /** @type {Record<string, [string, string]>} */ ({
 export function notKept(lines) {
   const sums = /** @type {Map<string, number>} */ (new Map());
   for (const line of lines) {
-    const m = /^# not taken over: (.*)$/.exec(line);
+    const m = /^#!? not taken over: (.*)$/.exec(line);
     for (const [, name, n] of m ? m[1].matchAll(/([A-Za-z ]+?) (\d+)(?:, |$)/g) : [])
       if (GONE[name]) sums.set(name, (sums.get(name) || 0) + Number(n));
   }
   const many = (/** @type {RegExp} */ form) => lines.filter(line => form.test(line)).length,
-        atNull = many(/^# note (\S+ )*--[ :]/), behind = many(/^# behind the result: /);
+        atNull = many(/^#!? note (\S+ )*--[ :]/), behind = many(/^#!? behind the result: /);
   const list = [...sums].map(([name, n]) => counted(n, ...GONE[name]));
   if (atNull) list.push(counted(atNull, 'comment or NAG there', 'comments and NAGs there'));
   if (behind) list.push(behind === 1 ? 'text behind a result' : `text behind ${behind} results`);
@@ -94,6 +94,22 @@ function firstLeftOut(games) {
   return first.join('; ') + (games.length > MOST ? `; and ${games.length - MOST} more` : '');
 }
 /**
+ * The games of an import whose sources of a stipulation differ, or have one that is not understood.
+ * @param {string[]} lines
+ */
+function doubtedGames(lines) {
+  const games = /** @type {Set<string>} */ (new Set());
+  let game = '';
+  for (const line of lines) {
+    game = (GAME.exec(line) || [])[1] || game;
+    if (line.startsWith('#! the stipulation ')) games.add(game);
+  }
+  return [...games];
+}
+/** @param {string[]} games */
+const doubtNote = games =>
+  games.length ? ` Sources of the stipulation differ in game ${games.join(', ')}: see the script.` : '';
+/**
  * How many games and studies there were. A game that was left out is named with the reason; of several beside studies
  * only their number, since the list has a row for each.
  * @param {string[]} lines
@@ -104,7 +120,7 @@ export function importNote(lines) {
   const listed = Number(counts[2]) > 0 && out.length > 1,
         which = listed ? `${out.length} games, each with its reason in the list` : firstLeftOut(out);
   return `${counted(Number(counts[1]), 'game')}, ${counted(Number(counts[2]), 'study', 'studies')}.` +
-    (out.length ? ` Left out: ${which}.` : '');
+    (out.length ? ` Left out: ${which}.` : '') + doubtNote(doubtedGames(lines));
 }
 /**
  * The lines of an import as a document: without the counts at its end, which the next change would make wrong.
@@ -115,7 +131,7 @@ export function documentOf(lines) {
   while (kept.length && kept[kept.length - 1] === '') kept.pop();
   return kept;
 }
-const ORIGINAL = /^# (?:its )?(Event|White|Black|Site|Date|Round) was: (.*)$/;
+const ORIGINAL = /^#!? (?:its )?(Event|White|Black|Site|Date|Round) was: (.*)$/;
 /**
  * The texts of tags in their own letters, as remarks above a position have them.
  * @param {string[]} remarks

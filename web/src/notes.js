@@ -80,7 +80,7 @@ export function namesOf(game) {
         text = (/** @type {string} */ name) => (tags[name] || '').replace(/\\(["\\])/g, '$1').trim();
   return ['Event', 'White']
     .filter(name => isKnown(text(name)))
-    .map(name => `# its ${name} was: ${text(name).slice(0, 80)}`);
+    .map(name => `#! its ${name} was: ${text(name).slice(0, 80)}`);
 }
 /**
  * The games of a PGN, cut as the program cuts them: a line of a tag begins one behind a line of moves, and a second
@@ -140,14 +140,14 @@ const looseMove = san => NOTATIONS.reduce((text, [from, to]) => text.replace(fro
  */
 const loose = path => path.split(' ').map(looseMove).join(' ');
 /**
- * What a game says beside its moves, as remarks: `# tag NAME TEXT`, `# note MOVES: TEXT`, and `# note+ MOVES: TEXT`
- * for what is more of a long comment.
+ * What a game says beside its moves, as remarks: `#! tag NAME TEXT`, `#! note MOVES: TEXT`, and
+ * `#! note+ MOVES: TEXT` for what is more of a long comment.
  * @param {string} game
  */
 export function remarksOf(game) {
   const [tags, movetext] = parts(game), own = isOwn(movetext), out = /** @type {string[]} */ ([]);
   for (const [name, text] of Object.entries(tags))
-    if (!OWN_TAGS.has(name)) out.push(`# tag ${name} ${text}`);
+    if (!OWN_TAGS.has(name)) out.push(`#! tag ${name} ${text}`);
   let last = '';
   walk(movetext, (kind, text, path) => {
     const behindMove = last === 'move';
@@ -155,7 +155,7 @@ export function remarksOf(game) {
     if (kind === 'move' || !text) return;
     if (own && (kind === 'nag' ? behindMove && /^\$[14]$/.test(text) : isOurs(text))) return;
     for (const [i, part] of partsOf(withoutBraces(text)).entries())
-      out.push(`# note${i ? '+' : ''} ${path.join(' ') || '-'}: ${part}`);
+      out.push(`#! note${i ? '+' : ''} ${path.join(' ') || '-'}: ${part}`);
   });
   return out.map(short);
 }
@@ -176,8 +176,8 @@ const isOwn = movetext => VERDICT.test(oneLine((/\{([^}]*)\}/.exec(movetext) || 
  * @param {(squares: string) => string} [marked]      the squares that its arrows and circles have from now on
  */
 export const notesMoved = (lines, study, to, marked = squares => squares) => lines.map((line, at) => {
-  if (at < study.head || at >= study.from || !/^# note\+? /.test(line)) return line;
-  return line.replace(/^(# note\+? )(\w[^:]*)/, (_, note, moves) => note + to(moves))
+  if (at < study.head || at >= study.from || !/^#!? note\+? /.test(line)) return line;
+  return line.replace(/^(#!? note\+? )(\w[^:]*)/, (_, note, moves) => note + to(moves))
     .replace(/(\[%c[as]l)( [^\]]*)/g, (_, mark, squares) => mark + marked(squares));
 });
 /**
@@ -186,10 +186,10 @@ export const notesMoved = (lines, study, to, marked = squares => squares) => lin
  * @param {string[]} remarks
  */
 export function withNotes(game, remarks) {
-  const tags = remarks.map(line => /^# tag (\w+) (.*)$/.exec(line)).filter(Boolean),
+  const tags = remarks.map(line => /^#!? tag (\w+) (.*)$/.exec(line)).filter(Boolean),
         notes = /** @type {Map<string, string[]>} */ (new Map());
   for (const line of remarks) {
-    const [, more, moves, text] = /^# note(\+?) ([^:]*): (.*)$/.exec(line) || [];
+    const [, more, moves, text] = /^#!? note(\+?) ([^:]*): (.*)$/.exec(line) || [];
     if (!text) continue;
     const key = moves === '-' ? '' : moves, list = notes.get(key) || [], last = list[list.length - 1];
     if (more && last) list[list.length - 1] = `${last.slice(0, -1)} ${text}}`;
@@ -242,7 +242,7 @@ function gamesOfStudy(script, study) {
   const unread = unreadIn(script, study).replace(/[{}]/g, ''),
         empty = study.verdict === 'sound' && !hasSolution(script.lines, study, null),
         said = unread || (empty ? NO_MOVE : ''),
-        remarks = script.lines.slice(study.head, study.from).concat(said && `# note -: ${said}`);
+        remarks = script.lines.slice(study.head, study.from).concat(said && `#! note -: ${said}`);
   return study.games.map(game => withNotes(inOwnLetters(study, game), remarks));
 }
 /** @param {Script} script */

@@ -54,7 +54,7 @@ function withRemarks(lines, text) {
   const games = gamesIn(text);
   let game = 0;
   return lines.flatMap(line => {
-    const m = /^# game (\d+), /.exec(line);
+    const m = /^#! game (\d+), /.exec(line);
     if (m) game = Number(m[1]);
     const source = games[game - 1];
     if (!source) return [line];

@@ -275,8 +275,8 @@ export function savedScript(script, classes) {
  * @param {Script} script
  */
 export const gamesOf = script => script.studies.flatMap(study => study.games).join('');
-/** Remarks of an import that a report prints. */
-const PRINTED = /^ *# ((game|not taken over|behind the result|a tail)\b|(Event|Site|Date|Round|White|Black) was: )/;
+/** Remarks that an import wrote, which a report may print. */
+const PRINTED = /^#! /;
 /**
  * The lines that are reported, each at its place in the script, so that refused ones have the numbers that they have on
  * the board. The `pgn` that a study lacks comes in place of an empty line or a remark behind it, if there is one.

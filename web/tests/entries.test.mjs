@@ -24,7 +24,7 @@ const FEN = '7K/8/k1P5/7p/8/8/8/8 w - - 0 1',
 const LINES = [
   'position ' + FEN, 'stipulate white win', 'tag Event A, "first"', 'tag White Reti', 'insert root Kg7', 'pgn', '',
   'position ' + FEN, 'tag Event B', 'pgn', '', 'position x', 'tag White Kasparyan, G.', '',
-  '# game 9, line 3: left out: 7 men', '', 'position ' + FEN, 'insert root Kz9', 'pgn'
+  '#! game 9, line 3: left out: 7 men', '', 'position ' + FEN, 'insert root Kz9', 'pgn'
 ];
 function doc(verdicts) {
   const sent = LINES.map((text, line) => ({text, line})), left = [...verdicts];
@@ -55,8 +55,8 @@ test('each entry has a row and a stamp', () => {
 });
 test('a game that was left out has its title and its author, where remarks behind it have them', () => {
   const lines = [
-    '# game 2, line 9: left out: 7 men', '# Event was: A "prize"', '# White was: Kasparyan, G.', '',
-    '# game 3, line 20: NoSuchMove at Kh9', '# White was: Réti', '# game 4, line 31: left out: 6 men'
+    '#! game 2, line 9: left out: 7 men', '#! Event was: A "prize"', '#! White was: Kasparyan, G.', '',
+    '#! game 3, line 20: NoSuchMove at Kh9', '#! White was: Réti', '#! game 4, line 31: left out: 6 men'
   ];
   const rows =
     entriesOf({...readScript(lines, [], []), at: 0, path: 'root', name: '', id: 'x', note: '', judged: true});
@@ -89,7 +89,7 @@ test('a name that was refused is not that of the study before, and facts of a pa
     entriesOf({...script, at: 0, path: 'root', name: '', id: 'x', note: '', judged: true}, [null, readReview(REVIEW)]);
   assert.deepEqual([row.author, row.stamp, row.review], ['Prokeš', 'not read: line 6, tag White Prokeš', null]);
   const {lines: mended} = setTag(lines, script.studies[1], 'White', 'Prokes', 'Prokeš');
-  assert.deepEqual(mended.slice(4), ['# White was: Prokeš', 'position ' + FEN, 'tag White Prokes']);
+  assert.deepEqual(mended.slice(4), ['#! White was: Prokeš', 'position ' + FEN, 'tag White Prokes']);
 });
 test('refused lines by what is wrong', () => {
   const row = (line, text, reply) => ({line, text, reply: 'error ' + reply});
@@ -199,7 +199,7 @@ test('a study whose own author was refused is signed by no other one where it co
 });
 test('a position that was refused ends the study before it, and what carries over', () => {
   const lines = [
-    'position ' + FEN, 'stipulate white win', 'tag White Kling', 'insert root Kb2', '', '# White was: Léger',
+    'position ' + FEN, 'stipulate white win', 'tag White Kling', 'insert root Kb2', '', '#! White was: Léger',
     'position 8/8 w', 'tag White B', 'insert root Kg3', '', 'position ' + FEN, 'stipulate white draw'
   ];
   const sent = lines.map((text, line) => ({text, line})).filter(({text}) => text && !text.startsWith('#'));

@@ -18,13 +18,13 @@ import {savedGames} from '../src/notes.js';
 import {readScript, assumeAccepted} from '../src/script.js';
 
 const LINES = [
-  '# game 1, line 1: stipulated by its comment',
-  '# not taken over: comments 9, NAGs 4, tags 1, repeated 1, moves behind 2', '# White was: Троицкий',
+  '#! game 1, line 1: stipulated by its comment',
+  '#! not taken over: comments 9, NAGs 4, tags 1, repeated 1, moves behind 2', '#! White was: Троицкий',
   'position 7K/8/8/8/8/8/8/k7 w - - 0 1', 'stipulate white draw', 'tag White Troickij', 'pgn', '',
-  '# game 2, line 14: left out: 7 men', '', '# game 3, line 31, column 17: NoSuchMove at Kb6', '',
-  '# game 4, line 40: NoStipulation', '', '# game 5, line 52: stipulated by its tag Result',
-  '# not taken over: comments 1', 'position 7K/8/8/8/8/8/8/k7 w - - 0 1', 'stipulate white draw', 'tag White ?', 'pgn',
-  '', '# games 5, studies 2'
+  '#! game 2, line 14: left out: 7 men', '', '#! game 3, line 31, column 17: NoSuchMove at Kb6', '',
+  '#! game 4, line 40: NoStipulation', '', '#! game 5, line 52: stipulated by its tag Result',
+  '#! not taken over: comments 1', 'position 7K/8/8/8/8/8/8/k7 w - - 0 1', 'stipulate white draw', 'tag White ?', 'pgn',
+  '', '#! games 5, studies 2'
 ];
 test('a file in UTF-16 is read by its mark', () => {
   const text = '[White "Réti"]', codes = [...text].map(letter => letter.charCodeAt(0));
@@ -50,31 +50,34 @@ test('games that were left out, and why', () => {
   assert.deepEqual(leftOut(LINES).map(whyLeftOut),
     ['7 men', 'Kb6: no legal move of this position', 'it does not say what is to be done']);
   assert.deepEqual(leftOut(LINES)[1], {game: 3, line: 31, column: 17, author: '', why: 'NoSuchMove', text: 'Kb6'});
-  const named = '# game 5, line 40, column 4 (Kasparyan, G.): NoSuchMove at Kb6';
+  const named = '#! game 5, line 40, column 4 (Kasparyan, G.): NoSuchMove at Kb6';
   assert.deepEqual(
     leftOut([named]), [{game: 5, line: 40, column: 4, author: 'Kasparyan, G.', why: 'NoSuchMove', text: 'Kb6'}]);
   assert.match(
-    importNote([named, '# games 5, studies 4']), /Left out: game 5 \(Kasparyan, G\.\), line 40, column 4: Kb6/);
+    importNote([named, '#! games 5, studies 4']), /Left out: game 5 \(Kasparyan, G\.\), line 40, column 4: Kb6/);
   assert.deepEqual(
-    leftOut(['# game 6, line 60, column 8: NullMove']).map(whyLeftOut), ['a null move in the main line']);
+    leftOut(['#! game 6, line 60, column 8: NullMove']).map(whyLeftOut), ['a null move in the main line']);
   assert.deepEqual(
-    leftOut(['# game 7, line 66, column 17 (Kling, J.): BehindResult']).map(whyLeftOut), ['moves behind the result']);
+    leftOut(['#! game 7, line 66, column 17 (Kling, J.): BehindResult']).map(whyLeftOut), ['moves behind the result']);
   assert.deepEqual(
-    leftOut(['# game 8, line 70, column 8: Numbering at 3']).map(whyLeftOut), ['3: a move number that does not fit']);
+    leftOut(['#! game 8, line 70, column 8: Numbering at 3']).map(whyLeftOut), ['3: a move number that does not fit']);
   assert.equal(withoutAim(LINES), 1);
   assert.equal(importNote(LINES), '5 games, 2 studies. Left out: 3 games, each with its reason in the list.');
-  assert.equal(importNote([...LINES.filter(line => !/^# games/.test(line)), '# games 3, studies 0']),
+  assert.equal(importNote([...LINES.filter(line => !/^#! games/.test(line)), '#! games 3, studies 0']),
     '3 games, 0 studies. Left out: game 2, line 14: 7 men; game 3, line 31, column 17: Kb6: ' +
       'no legal move of this position; game 4, line 40: it does not say what is to be done.');
   assert.equal(
-    importNote(['# game 1, line 1: stipulated by its result', '', '# games 1, studies 1']), '1 game, 1 study.');
+    importNote(['#! game 1, line 1: stipulated by its result', '', '#! games 1, studies 1']), '1 game, 1 study.');
+  const doubted = ['#! game 1, line 1: stipulated by its comment', '#! the stipulation differs from its tag Result'];
+  assert.equal(importNote([...doubted, 'position x', '', '#! games 1, studies 1']),
+    '1 game, 1 study. Sources of the stipulation differ in game 1: see the script.');
 });
 test('what a script has no place for', () => {
   assert.equal(notKept(LINES), 'Not kept of this PGN: 1 repeated move, 2 moves behind null moves.');
-  assert.equal(notKept(['# game 1, line 1: stipulated by its result']), '');
+  assert.equal(notKept(['#! game 1, line 1: stipulated by its result']), '');
   const beside =
-    ['# behind the result: line 14, column 715', '# note Kg3 --: threat', '# note -- Kf6: $6', '# note Kg3: --'];
-  assert.equal(notKept(['# not taken over: null moves 2, moves behind 1', ...beside]),
+    ['#! behind the result: line 14, column 715', '#! note Kg3 --: threat', '#! note -- Kf6: $6', '#! note Kg3: --'];
+  assert.equal(notKept(['#! not taken over: null moves 2, moves behind 1', ...beside]),
     'Not kept of this PGN: 2 null moves, 1 move behind a null move, 2 comments and NAGs there, text behind a result.');
 });
 test('remarks above a position are the study\'s, and names stay in their letters', () => {
@@ -86,7 +89,7 @@ test('remarks above a position are the study\'s, and names stay in their letters
   assert.deepEqual(dropped.studies.map(s => s.originals), [{}]);
   assert.deepEqual(leftOut(dropped.lines), leftOut(lines));
   assert.deepEqual(leftOut(copyStudy(lines, studies, 0).lines), leftOut(lines));
-  assert.deepEqual(originalsIn(['# Site was:  a b ']), {Site: 'a b'});
+  assert.deepEqual(originalsIn(['#! Site was:  a b ']), {Site: 'a b'});
   const game = '[Event "?"]\n[White "Troickij"]\n\n1-0\n\n', sent = lines.map((text, line) => ({text, line}));
   const replies = lines.map(text => (text === 'pgn'            ? game
                                 : text.startsWith('stipulate') ? 'stipulate White to draw'

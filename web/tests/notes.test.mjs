@@ -23,20 +23,20 @@ const OURS = `[Event "Rigaer Tageblatt"]
 
 `;
 test('title and author of a game that is left out', () => {
-  assert.deepEqual(namesOf(GAME), ['# its Event was: Rigaer Tageblatt', '# its White was: Reti']);
-  assert.deepEqual(namesOf('[Event "?"]\n[White "A \\"B\\" C"]\n\n1. e4 *\n'), ['# its White was: A "B" C']);
+  assert.deepEqual(namesOf(GAME), ['#! its Event was: Rigaer Tageblatt', '#! its White was: Reti']);
+  assert.deepEqual(namesOf('[Event "?"]\n[White "A \\"B\\" C"]\n\n1. e4 *\n'), ['#! its White was: A "B" C']);
 });
 test('remarks of a game, at the moves that lead to them', () => {
   assert.deepEqual(remarksOf(GAME), [
-    '# tag Annotator an editor', '# note -: A study for practice.', '# note Kg3: $1', '# note Kg3: The only move',
-    '# note b4: $2', '# note b4: $4', '# note b4 Kf6: draws [%cal Gg5f6]', '# note Kg3 Kf5 Kf3: $1'
+    '#! tag Annotator an editor', '#! note -: A study for practice.', '#! note Kg3: $1', '#! note Kg3: The only move',
+    '#! note b4: $2', '#! note b4: $4', '#! note b4 Kf6: draws [%cal Gg5f6]', '#! note Kg3 Kf5 Kf3: $1'
   ]);
   assert.deepEqual(remarksOf(OURS), []);
 });
 test('a comment at a null move is none of the move before it', () => {
   const game = GAME.replace('(1. b4? $4 Kf6 {draws\n[%cal Gg5f6]})', '{kept} (1. -- {threat} Kf6 $6) (1. Z0 {same})');
   assert.deepEqual(remarksOf(game).filter(line => /kept|--/.test(line)),
-    ['# note Kg3: kept', '# note --: threat', '# note -- Kf6: $6', '# note --: same']);
+    ['#! note Kg3: kept', '#! note --: threat', '#! note -- Kf6: $6', '#! note --: same']);
   const text = withNotes(OURS, remarksOf(game));
   assert.ok(text.includes('{kept}') && !text.includes('threat') && !text.includes('$6'), text);
 });
@@ -45,8 +45,8 @@ test('headers as other programs write them, and braces in a comment to the end o
     GAME.replace('[Annotator "an editor"]', ' [ Annotator  "an \\"editor\\""] [ECO "A00"]\n% [Site "x"]\n; {early}')
       .replace('{The only move}', '; see {1}\n');
   assert.deepEqual(remarksOf(game).slice(0, 6), [
-    '# tag Annotator an \\"editor\\"', '# tag ECO A00', '# note -: (early)', '# note -: A study for practice.',
-    '# note Kg3: $1', '# note Kg3: see (1)'
+    '#! tag Annotator an \\"editor\\"', '#! tag ECO A00', '#! note -: (early)', '#! note -: A study for practice.',
+    '#! note Kg3: $1', '#! note Kg3: see (1)'
   ]);
 });
 test('they are written behind what the program says there', () => {
@@ -58,7 +58,7 @@ test('they are written behind what the program says there', () => {
     words);
   assert.ok(words.includes('Kf6 {draw} {draws [%cal Gg5f6]})'));
   assert.equal(withNotes(OURS, []), OURS);
-  assert.equal(withNotes(OURS, ['# note Kh1: gone']).replace(/\s+/g, ' '), OURS.replace(/\s+/g, ' '));
+  assert.equal(withNotes(OURS, ['#! note Kh1: gone']).replace(/\s+/g, ' '), OURS.replace(/\s+/g, ' '));
 });
 test('a long comment is one comment again', () => {
   for (const word of ['plain', 'größer']) {
@@ -91,20 +91,20 @@ test('a study that was not read to its end says so where it is saved', () => {
   assert.equal(savedGames({...script, refused: []}), OURS);
 });
 test('notes follow their moves', () => {
-  const lines = ['# note Kb2: of another study', '', '# note -: all', '# note Kg3 Kf5: here', 'position x'];
+  const lines = ['#! note Kb2: of another study', '', '#! note -: all', '#! note Kg3 Kf5: here', 'position x'];
   assert.deepEqual(notesMoved(lines, {head: 2, from: 4}, moves => 'Kg2 Kg5 ' + moves),
-    ['# note Kb2: of another study', '', '# note -: all', '# note Kg2 Kg5 Kg3 Kf5: here', 'position x']);
+    ['#! note Kb2: of another study', '', '#! note -: all', '#! note Kg2 Kg5 Kg3 Kf5: here', 'position x']);
 });
 test('arrows and circles follow their squares', () => {
-  const lines = ['# note -: to b2 [%csl Gb2] [%cal Gb2a3,Re5d5]', '# note Kb2: b2', 'position x'],
+  const lines = ['#! note -: to b2 [%csl Gb2] [%cal Gb2a3,Re5d5]', '#! note Kb2: b2', 'position x'],
         mirror = text => text.replace(/[a-h]/g, c => 'hgfedcba'['abcdefgh'.indexOf(c)]);
   assert.deepEqual(notesMoved(lines, {head: 0, from: 2}, mirror, mirror),
-    ['# note -: to b2 [%csl Gg2] [%cal Gg2h3,Rd5e5]', '# note Kg2: b2', 'position x']);
+    ['#! note -: to b2 [%csl Gg2] [%cal Gg2h3,Rd5e5]', '#! note Kg2: b2', 'position x']);
 });
 test('a comment before the first move of a variation is one of that move', () => {
   const game = GAME.replace('(1. b4? $4', '({A try:} 1. b4? $4 {v}').replace('1... Kf5', '{on} 1... Kf5');
-  assert.deepEqual(
-    remarksOf(game).filter(line => /try|v$|on$/.test(line)), ['# note b4: A try:', '# note b4: v', '# note Kg3: on']);
+  assert.deepEqual(remarksOf(game).filter(line => /try|v$|on$/.test(line)),
+    ['#! note b4: A try:', '#! note b4: v', '#! note Kg3: on']);
 });
 test('games are cut as the program cuts them', () => {
   assert.equal(gamesIn(GAME + '\n' + OURS).length, 2);

@@ -136,7 +136,7 @@ test('a study with more than one game', () => {
 });
 test('lines that are reported keep their numbers', () => {
   const block =
-          ['position A', 'stipulate white win', 'insert root Kb2', '# White was: Réti', '# why', '', 'mark 0', ''],
+          ['position A', 'stipulate white win', 'insert root Kb2', '#! White was: Réti', '# why', '', 'mark 0', ''],
         lines = ['# first', '', ...block, ...block.slice(0, 3)],
         script = {lines, studies: [2, 10].map(from => ({aim: {}, last: from + 2, end: from === 2 ? 10 : 13}))};
   assert.deepEqual(reportedLines(script), [...lines.slice(0, 6), 'pgn', ...lines.slice(7), 'pgn']);
@@ -236,7 +236,7 @@ test('stipulation and tags stand in the lines of the study', () => {
     edits.setTag(START, study, 'Event', 'B').lines.slice(0, 4), [START[0], START[1], 'tag Event B', START[2]]);
   assert.deepEqual(edits.setTag(START, study, 'White', '').lines, START.filter(l => !l.startsWith('tag')));
   const own = edits.setTag(START, study, 'White', 'Troickij', 'Троицкий').lines;
-  assert.deepEqual(own.slice(0, 4), ['# White was: Троицкий', START[0], START[1], 'tag White Troickij']);
+  assert.deepEqual(own.slice(0, 4), ['#! White was: Троицкий', START[0], START[1], 'tag White Troickij']);
   const again = {...study, head: 0, from: 1, place: {aim: 2, White: 3}};
   assert.deepEqual(edits.setTag(own, again, 'White', 'Reti').lines.slice(0, 3), [START[0], START[1], 'tag White Reti']);
   const carried = ['tag White B', 'tag Date 1921.??.??', 'tag Site ?'],

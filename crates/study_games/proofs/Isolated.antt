@@ -1,13 +1,13 @@
 -- A game is independent of every other.
-use Rattle.std.proofs.Common.{◌≡◌, ℕ, true, List, [], ◌∷◌, ◌++◌, Option, Some, None, refl, sym, ap, ◌∙◌, append_assoc, inl, inr}
+use Rattle.std.proofs.Common.{◌≡◌, ℕ, Bool, true, false, List, [], ◌∷◌, ◌++◌, Option, Some, None, refl, sym, ap, ◌∙◌, append_assoc, inl, inr}
 use Rattle.std.specs.Prelude.{◌==◌, if◌then◌else◌}
-use Rattle.std.proofs.lemmas.Bool.{cases_Bool}
+use Rattle.std.proofs.lemmas.Bool.{cases_Bool, false≢true}
 use Rattle.study_games.specs.declared.games.LineKind.{LineKind}
 use Rattle.study_games.specs.declared.games.LineKind.TheVariants.{Silent, Tag, EventTag, Moves}
-use Rattle.study_games.specs.Games.{Game, Begun, kind_of, with_byte, lines_behind, one_more, without_byte_order_mark, first_line, taken_to, ends_before}
+use Rattle.study_games.specs.Games.{Game, Begun, kind_of, with_byte, lines_behind, one_more, without_mark, first_line, taken_to, ends_before}
 use Rattle.study_games.specs.Games.{game_at_hand}
 use Rattle.study_games.specs.Games.{games_from, games_of}
-use Rattle.study_games.specs.Laws.{number_behind, EndsWithMoves, IsTag, BeginsWithTag, lines_of, IsIsolated}
+use Rattle.study_games.specs.Laws.{number_behind, after_kind, ends_with_moves, EndsWithMoves, IsTag, BeginsWithTag, lines_of, IsIsolated}
 
 -- ---- lines
 
@@ -23,16 +23,16 @@ lines_cut line (x ∷ xs) b =
 
 abbrev next_begun : ℕ → Option Begun → List ℕ → Option Begun
 next_begun n begun line =
-    if ends_before begun (kind_of (without_byte_order_mark n line)) then first_line n (without_byte_order_mark n line)
-    (kind_of (without_byte_order_mark n line))
-    else taken_to n begun (without_byte_order_mark n line) (kind_of (without_byte_order_mark n line))
+    if ends_before begun (kind_of (without_mark line)) then first_line n (without_mark line)
+    (kind_of (without_mark line))
+    else taken_to n begun (without_mark line) (kind_of (without_mark line))
 
 abbrev begun_behind : ℕ → Option Begun → List (List ℕ) → Option Begun
 begun_behind n begun [] = begun
 begun_behind n begun (line ∷ lines) = begun_behind (one_more n) (next_begun n begun line) lines
 
 abbrev ended_by : ℕ → Option Begun → List ℕ → List Game
-ended_by n begun line = if ends_before begun (kind_of (without_byte_order_mark n line)) then game_at_hand begun else []
+ended_by n begun line = if ends_before begun (kind_of (without_mark line)) then game_at_hand begun else []
 
 abbrev ended_in : ℕ → Option Begun → List (List ℕ) → List Game
 ended_in n begun [] = []
@@ -41,7 +41,7 @@ ended_in n begun (line ∷ lines) = ended_by n begun line ++ ended_in (one_more 
 one_line : (n : ℕ) (begun : Option Begun) (line : List ℕ) (lines : List (List ℕ))
     → games_from n begun (line ∷ lines) ≡ ended_by n begun line ++ games_from (one_more n) (next_begun n begun line) lines
 one_line n begun line lines =
-    elim (cases_Bool (ends_before begun (kind_of (without_byte_order_mark n line)))) [
+    elim (cases_Bool (ends_before begun (kind_of (without_mark line)))) [
       | inl ends ↦ rw ends refl
       | inr goes ↦ rw goes refl
     ]
@@ -61,15 +61,21 @@ abbrev HasMoves : Option Begun → Type 0
 HasMoves None = ⊥
 HasMoves (Some g) = g.seen.moves ≡ true
 
-moves_taken : (n : ℕ) (begun : Option Begun) (line : List ℕ) (kind : LineKind) → kind ≡ Moves
-    → HasMoves (if ends_before begun kind then first_line n line kind else taken_to n begun line kind)
-moves_taken n None line kind is = rw is refl
-moves_taken n (Some g) line kind is = rw is refl
+moves_kept : (moves : Bool) (n : ℕ) (begun : Option Begun) (line : List ℕ) (kind : LineKind) → (moves ≡ true → HasMoves begun)
+    → after_kind moves kind ≡ true → HasMoves (if ends_before begun kind then first_line n line kind else taken_to n begun line kind)
+moves_kept moves n None line Silent had h = had h
+moves_kept moves n (Some g) line Silent had h = had h
+moves_kept moves n None line Moves had h = refl
+moves_kept moves n (Some g) line Moves had h = refl
+moves_kept moves n begun line Tag had h = absurd (false≢true h)
+moves_kept moves n begun line EventTag had h = absurd (false≢true h)
 
-has_moves : (n : ℕ) (begun : Option Begun) (ls : List (List ℕ)) → EndsWithMoves n ls → HasMoves (begun_behind n begun ls)
-has_moves n begun [] h = absurd h
-has_moves n begun (line ∷ []) h = moves_taken n begun (without_byte_order_mark n line) (kind_of (without_byte_order_mark n line)) h
-has_moves n begun (line ∷ next ∷ lines) h = has_moves (one_more n) (next_begun n begun line) (next ∷ lines) h
+has_moves : (moves : Bool) (n : ℕ) (begun : Option Begun) (ls : List (List ℕ)) → (moves ≡ true → HasMoves begun)
+    → ends_with_moves moves n ls ≡ true → HasMoves (begun_behind n begun ls)
+has_moves moves n begun [] had h = had h
+has_moves moves n begun (line ∷ lines) had h =
+    has_moves (after_kind moves (kind_of (without_mark line))) (one_more n) (next_begun n begun line) lines
+    (moves_kept moves n begun (without_mark line) (kind_of (without_mark line)) had) h
 
 -- a line of a tag then begins a game
 tag_begins : (n : ℕ) (begun : Option Begun) (line : List ℕ) (kind : LineKind) → HasMoves begun → IsTag kind → ends_before begun kind ≡ true
@@ -82,7 +88,7 @@ tag_begins n (Some g) line EventTag has is = rw has refl
 games_apart : (n : ℕ) (begun : Option Begun) (ms : List (List ℕ)) → HasMoves begun → BeginsWithTag n ms
     → games_from n begun ms ≡ game_at_hand begun ++ games_from n None ms
 games_apart n begun [] has is = absurd is
-games_apart n begun (line ∷ lines) has is = rw (tag_begins n begun (without_byte_order_mark n line) (kind_of (without_byte_order_mark n line)) has is) refl
+games_apart n begun (line ∷ lines) has is = rw (tag_begins n begun (without_mark line) (kind_of (without_mark line)) has is) refl
 
 whole : (n : ℕ) (begun : Option Begun) (ls : List (List ℕ)) → games_from n begun ls ≡ ended_in n begun ls ++ game_at_hand (begun_behind n begun ls)
 whole n begun [] = refl
@@ -96,7 +102,7 @@ apart : (ls ms : List (List ℕ)) → EndsWithMoves 1 ls → BeginsWithTag (numb
     → games_from 1 None (ls ++ ms) ≡ games_from 1 None ls ++ games_from (number_behind 1 ls) None ms
 apart ls ms moves tags =
     games_cut 1 None ls ms
-    ∙ ap (λ (gs : List Game). ended_in 1 None ls ++ gs) (games_apart (number_behind 1 ls) (begun_behind 1 None ls) ms (has_moves 1 None ls moves) tags)
+    ∙ ap (λ (gs : List Game). ended_in 1 None ls ++ gs) (games_apart (number_behind 1 ls) (begun_behind 1 None ls) ms (has_moves false 1 None ls (λ e. absurd (false≢true e)) moves) tags)
     ∙ sym (append_assoc (ended_in 1 None ls) (game_at_hand (begun_behind 1 None ls)) (games_from (number_behind 1 ls) None ms))
     ∙ ap (λ (gs : List Game). gs ++ games_from (number_behind 1 ls) None ms) (sym (whole 1 None ls))
 

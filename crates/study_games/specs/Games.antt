@@ -22,7 +22,7 @@ abbrev pub lines_behind : List ℕ → List ℕ → List (List ℕ)
 lines_behind line [] = if length line == 0 then [] else line ∷ []
 lines_behind line (b ∷ bs) = if b == 10 then with_byte line b ∷ lines_behind [] bs else lines_behind (with_byte line b) bs
 
--- without a byte order mark in front
+-- without a byte order mark in front: files that were joined have one within the text, too
 abbrev pub without_mark : List ℕ → List ℕ
 without_mark (a ∷ b ∷ c ∷ bs) = if a == 239 && (b == 187 && c == 191) then bs else a ∷ b ∷ c ∷ bs
 without_mark bs = bs
@@ -114,10 +114,6 @@ first_line n line kind = Some (begun_by n line kind)
 abbrev pub one_more : ℕ → ℕ
 one_more n = min (n + 1) (2 ^ 32 - 1)
 
--- a byte order mark in front of the first line is dropped
-abbrev pub without_byte_order_mark : ℕ → List ℕ → List ℕ
-without_byte_order_mark n line = if n == 1 then without_mark line else line
-
 -- a line is added to the current game, or begins the first one
 abbrev pub taken_to : ℕ → Option Begun → List ℕ → LineKind → Option Begun
 taken_to n None line kind = first_line n line kind
@@ -135,9 +131,9 @@ game_at_hand (Some g) = g.game ∷ []
 abbrev pub games_from : ℕ → Option Begun → List (List ℕ) → List Game
 games_from n begun [] = game_at_hand begun
 games_from n begun (line ∷ lines) =
-    if ends_before begun (kind_of (without_byte_order_mark n line))
-    then game_at_hand begun ++ games_from (one_more n) (first_line n (without_byte_order_mark n line) (kind_of (without_byte_order_mark n line))) lines
-    else games_from (one_more n) (taken_to n begun (without_byte_order_mark n line) (kind_of (without_byte_order_mark n line))) lines
+    if ends_before begun (kind_of (without_mark line))
+    then game_at_hand begun ++ games_from (one_more n) (first_line n (without_mark line) (kind_of (without_mark line))) lines
+    else games_from (one_more n) (taken_to n begun (without_mark line) (kind_of (without_mark line))) lines
 
 unfoldable pub games_of : List ℕ → List Game
 games_of text = games_from 1 None (lines_behind [] text)

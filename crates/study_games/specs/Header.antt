@@ -60,6 +60,11 @@ abbrev pub value_of : List ℕ → List Pair → Option (List ℕ)
 value_of name [] = None
 value_of name (t ∷ ts) = if bytes_eq t.0 name then Some t.1 else value_of name ts
 
+-- the number of tags with this name
+abbrev pub named_count : List ℕ → List Pair → ℕ
+named_count name [] = 0
+named_count name (t ∷ ts) = if bytes_eq t.0 name then suc (named_count name ts) else named_count name ts
+
 -- each token has at least one byte, so that the length of a game is enough
 unfoldable pub tags_of : List ℕ → List Pair
 tags_of game = tags_in (length game) true game

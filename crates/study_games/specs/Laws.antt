@@ -1,19 +1,27 @@
 -- A game is independent of every other.
-use Rattle.std.specs.Prelude.{◌≡◌, ℕ, List, [], ◌∷◌, ◌++◌, None}
+use Rattle.std.specs.Prelude.{◌≡◌, ℕ, Bool, true, false, List, [], ◌∷◌, ◌++◌, None}
 use Rattle.study_games.specs.declared.games.LineKind.{LineKind}
-use Rattle.study_games.specs.declared.games.LineKind.TheVariants.{Tag, EventTag, Moves}
-use Rattle.study_games.specs.Games.{kind_of, lines_behind, one_more, without_byte_order_mark, games_from, games_of}
+use Rattle.study_games.specs.declared.games.LineKind.TheVariants.{Silent, Tag, EventTag, Moves}
+use Rattle.study_games.specs.Games.{kind_of, lines_behind, one_more, without_mark, games_from, games_of}
 
 -- the number of the line after so many lines, the first of which has number n
 abbrev pub number_behind : ℕ → List (List ℕ) → ℕ
 number_behind n [] = n
 number_behind n (line ∷ lines) = number_behind (one_more n) lines
 
--- the last of these lines, the first of which has number n, is a line of moves
+-- after a line of this kind: whether the last line that is not silent is one of moves
+abbrev pub after_kind : Bool → LineKind → Bool
+after_kind moves Silent = moves
+after_kind moves Moves = true
+after_kind moves other = false
+
+abbrev pub ends_with_moves : Bool → ℕ → List (List ℕ) → Bool
+ends_with_moves moves n [] = moves
+ends_with_moves moves n (line ∷ lines) = ends_with_moves (after_kind moves (kind_of (without_mark line))) (one_more n) lines
+
+-- of these lines, the first of which has number n, the last that is not silent is a line of moves
 abbrev pub EndsWithMoves : ℕ → List (List ℕ) → Type 0
-EndsWithMoves n [] = ⊥
-EndsWithMoves n (line ∷ []) = kind_of (without_byte_order_mark n line) ≡ Moves
-EndsWithMoves n (line ∷ next ∷ lines) = EndsWithMoves (one_more n) (next ∷ lines)
+EndsWithMoves n lines = ends_with_moves false n lines ≡ true
 
 abbrev pub IsTag : LineKind → Type 0
 IsTag Tag = Unit {0}
@@ -23,7 +31,7 @@ IsTag other = ⊥
 -- the first of these lines, with number n, is a line of a tag
 abbrev pub BeginsWithTag : ℕ → List (List ℕ) → Type 0
 BeginsWithTag n [] = ⊥
-BeginsWithTag n (line ∷ lines) = IsTag (kind_of (without_byte_order_mark n line))
+BeginsWithTag n (line ∷ lines) = IsTag (kind_of (without_mark line))
 
 abbrev pub lines_of : List ℕ → List (List ℕ)
 lines_of text = lines_behind [] text

@@ -3,7 +3,7 @@ ghost use Rattle.std.specs.Prelude.{◌≡◌, true, false};
 ghost use Rattle.std.specs.List.{list_all};
 ghost use Rattle.std.specs.Option.{option_map};
 ghost use Rattle.study_games.specs.Bytes.{is_blank};
-ghost use Rattle.study_games.specs.Games.{without_mark, without_byte_order_mark, begins_value, name_of, name_in_brackets, tag_name, is_remark, kind_of, begins_game, seen_then};
+ghost use Rattle.study_games.specs.Games.{without_mark, begins_value, name_of, name_in_brackets, tag_name, is_remark, kind_of, begins_game, seen_then};
 
 use crate::bytes::{is_blank, is_letter};
 use crate::runs::{Run, cut_run};
@@ -25,24 +25,13 @@ pub struct Seen {
     pub event: bool,
 }
 
-/// The text without a byte order mark in front.
-fn without_mark(text: &[u8]) -> &[u8]
+/// The line without a byte order mark in front, wherever it is in the file: joined files have such marks within the text.
+pub fn without_mark(text: &[u8]) -> &[u8]
     ensures { result.now ≡ without_mark text.now }
 {
     match text {
         [a, b, c, rest @ ..] if *a == 0xef && *b == 0xbb && *c == 0xbf => rest,
         _ => text,
-    }
-}
-
-/// The line with this number, without a byte order mark in front if it is the first.
-pub fn without_byte_order_mark(number: u32, line: &[u8]) -> &[u8]
-    ensures { result.now ≡ without_byte_order_mark number line.now }
-{
-    if number == 1 {
-        without_mark(line)
-    } else {
-        line
     }
 }
 

@@ -1,7 +1,7 @@
 //! The header of a game: its tags.
 ghost use Rattle.std.specs.Prelude.{◌≡◌, Some, None, Ok, Err, length, IfOk};
 ghost use Rattle.std.specs.Option.{option_map};
-ghost use Rattle.study_games.specs.Header.{step_seen, step_at, tags_of, header_fault, value_of, unescaped_at, unescape};
+ghost use Rattle.study_games.specs.Header.{step_seen, step_at, tags_of, header_fault, value_of, named_count, unescaped_at, unescape};
 
 use crate::token::{Token, TokenFault, begins_feed, read_token};
 use std::alloc::{AllocError, Allocator};
@@ -81,6 +81,31 @@ pub fn count_tags(game: &[u8]) -> usize
         };
         if pair.is_some() {
             count += 1;
+        }
+        fresh = begins_feed(rest);
+        rest = behind;
+        fuel -= 1;
+    }
+    count
+}
+
+/// The number of tags in the header of a game that have the name.
+#[tactic(auto, unfolding(crate::specs::Header::tags_of), using(crate::proofs::Fuel::tags_more))]
+pub fn count_named(game: &[u8], name: &[u8]) -> usize
+    ensures { result ≡ named_count name.now (tags_of game.now) }
+{
+    let mut rest = game;
+    let mut fresh = true;
+    let mut fuel = game.len();
+    let mut count: usize = 0;
+    while fuel > 0 {
+        let HeaderStep::On(pair, behind) = step_at(rest, fresh) else {
+            return count;
+        };
+        if let Some((found, _)) = pair {
+            if found == name {
+                count += 1;
+            }
         }
         fresh = begins_feed(rest);
         rest = behind;

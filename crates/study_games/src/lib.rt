@@ -21,9 +21,9 @@ mod words;
 
 pub use ascii::{LONGEST_TAG, short_text, spell_out};
 pub use characters::is_utf8;
-pub use games::{LineKind, Seen, begins_game, kind_of, seen_then, without_byte_order_mark};
+pub use games::{LineKind, Seen, begins_game, kind_of, seen_then, without_mark};
 pub use gathering::{Game, Gathering, LARGEST_GAME, LONGEST_LINE};
-pub use header::{HeaderFault, count_tags, header_fault, tag_value, unescape};
+pub use header::{HeaderFault, count_named, count_tags, header_fault, tag_value, unescape};
 pub use laws::games_are_isolated;
 pub use letters::is_figurine;
 pub use runs::{Run, cut_run};

@@ -5,11 +5,11 @@ use Rattle.std.specs.Str.{bytes_eq}
 use Rattle.std.proofs.lemmas.Bool.{and_parts, leb-true}
 use Rattle.study_board.specs.declared.men.Side.{Side}
 use Rattle.study_marks.specs.declared.stipulation.Goal.{Goal}
-use Rattle.study_marks.specs.declared.stipulation.Goal.TheVariants.{Win, Draw}
+use Rattle.study_marks.specs.declared.stipulation.Goal.TheVariants.{Win, Draw, MateIn}
 use Rattle.study_marks.specs.declared.stipulation.Stipulation.{Stipulation}
 use Rattle.study_command.specs.Paths.{place_parsed}
 use Rattle.study_command.specs.Parser.{few_moves, mate_moves_of}
-use Rattle.study_games.specs.Words.{first_word, trim}
+use Rattle.study_games.specs.Words.{first_word}
 use Rattle.study_games.specs.Header.{Pair, value_of, unescape}
 use Rattle.study_games.specs.Symbols.{said_of}
 use Rattle.study_games.specs.Tokens.{Token, blank, aside, opening, closing, star, tag, comment, rest, sign, symbol}
@@ -21,12 +21,15 @@ use Rattle.study_import.specs.declared.game.aims.Aim.{Aim}
 use Rattle.study_import.specs.declared.game.aims.AimSource.{AimSource}
 use Rattle.study_import.specs.declared.game.aims.AimSource.TheVariants.{Comment, StipulationTag, ResultTag, Result as EndResult, Given}
 use Rattle.study_import.specs.declared.game.notes.Notes.{Notes}
-use Rattle.study_import.specs.Aims.{Found, last_of_phrase, hero_of, goal_named, moves_named, moves_in, moves_behind_in, mate_goal, goal_or_mate}
+use Rattle.study_import.specs.declared.game.aims.Sources.{Sources}
+use Rattle.study_import.specs.Aims.{Found, last_of_phrase, hero_of, goal_named, moves_named, says_moves, moves_counted, or_moves, moves_in}
+use Rattle.study_import.specs.Aims.{moves_behind_in, mate_goal, goal_or_mate}
 use Rattle.study_import.specs.Aims.{goal_in, goal_behind_and, goal_behind_play, or_goal, goal_after_to, goal_behind_to, goal_of_verb, verb_or_mate}
-use Rattle.study_import.specs.Aims.{goal_by_verb, goal_behind_hero, stipulation_by, aim_by, aim_in, mate_by, mate_tag, or_words, says_win, says_draw}
-use Rattle.study_import.specs.Aims.{aim_of_text, aim_of_tag, aim_of_outcome, from_source, or_aim, aim_of_result}
+use Rattle.study_import.specs.Aims.{goal_by_verb, goal_behind_hero, stipulation_by, aim_by, aim_in, says_win, says_draw, mate_sign, goal_of_sign}
+use Rattle.study_import.specs.Aims.{sign_or_mate, goal_signed_by, goal_signed, signed_by, or_stipulation, aim_stated, aim_of_outcome, from_source}
+use Rattle.study_import.specs.Aims.{or_aim, aim_of_result, unless_unread, first_aim, with_doubts, aim_by_sources}
 use Rattle.study_import.specs.Notes.{with_said, with_sign, with_token}
-use Rattle.study_import.specs.Blocks.{tag_aim, result_of, aim_of_game}
+use Rattle.study_import.specs.Blocks.{tag_aim, sources_of, aim_of_game}
 use Rattle.study_import.specs.Laws.{IsCounted, IsGiven}
 
 -- ---- numbers and goals
@@ -50,19 +53,27 @@ few_named : (o : Option (List ℕ)) → Few (moves_named o)
 few_named None = tt
 few_named (Some word) = few_in word
 
-few_behind : (x : Found) → Few (moves_in x)
-few_behind None = tt
-few_behind (Some x) = few_named (last_of_phrase x.0 x.1)
-
 few_if : (b : Bool) (o : Option ℕ) → Few o → Few (if b then o else None)
 few_if true o h = h
 few_if false o h = tt
+
+few_counted : (count : List ℕ) (x : Found) → Few (moves_counted count x)
+few_counted count None = tt
+few_counted count (Some x) = few_if (says_moves (last_of_phrase x.0 x.1)) (mate_moves_of count) (few_in count)
+
+few_or : (o p : Option ℕ) → Few o → Few p → Few (or_moves o p)
+few_or (Some n) p h k = h
+few_or None p h k = k
+
+few_behind : (x : Found) → Few (moves_in x)
+few_behind None = tt
+few_behind (Some x) = few_or _ _ (few_named (last_of_phrase x.0 x.1)) (few_counted x.0 (first_word x.1))
 
 few_mate : (x : Found) → Few (moves_behind_in x)
 few_mate None = tt
 few_mate (Some x) = few_if (bytes_eq x.0 (codes "in")) (moves_in (first_word x.1)) (few_behind (first_word x.1))
 
-abbrev Counted : Option Goal → Type 0
+abbrev pub Counted : Option Goal → Type 0
 Counted None = Unit {0}
 Counted (Some goal) = IsCounted goal
 
@@ -145,35 +156,52 @@ given_in : (text : List ℕ) → IsGiven (aim_in text)
 unfolding aim_in
 given_in text = given_by (first_word text)
 
-given_if : (b : Bool) (o p : Option Stipulation) → IsGiven o → IsGiven p → IsGiven (if b then o else p)
-given_if true o p h k = h
-given_if false o p h k = k
+-- ---- signs
 
-given_mate : (side : Side) (o : Option ℕ) → Few o → IsGiven (mate_by side o)
-given_mate side None h = tt
-given_mate side (Some n) h = h
+counted_sign : (word : List ℕ) → Counted (mate_sign word)
+counted_sign [] = tt
+counted_sign (b ∷ bs) = counted_if (b == 35) (mate_goal (mate_moves_of bs)) None (counted_mate (mate_moves_of bs) (few_in bs)) tt
 
-given_mate_tag : (text : List ℕ) (side : Side) → IsGiven (mate_tag text side)
-given_mate_tag [] side = tt
-given_mate_tag (b ∷ bs) side = given_if (b == 35) (mate_by side (mate_moves_of bs)) None (given_mate side (mate_moves_of bs) (few_in bs)) tt
+sign_by : (win draw : Bool) (o : Option Goal) → Counted o → Counted (if win then Some Win else (if draw then Some Draw else o))
+sign_by true draw o h = tt
+sign_by false true o h = tt
+sign_by false false o h = h
 
-given_words : (o : Option Stipulation) (text : List ℕ) → IsGiven o → IsGiven (or_words o text)
-given_words (Some aim) text h = h
-given_words None text h = given_in text
+counted_of_sign : (o : Option (List ℕ)) → Counted (goal_of_sign o)
+counted_of_sign None = tt
+counted_of_sign (Some word) = sign_by (says_win word) (says_draw word) (mate_sign word) (counted_sign word)
 
-text_by : (win draw : Bool) (o : Option Stipulation) (w d : Stipulation) → IsCounted w.goal → IsCounted d.goal → IsGiven o
-    → IsGiven (if win then Some w else (if draw then Some d else o))
-text_by true draw o w d a b h = a
-text_by false true o w d a b h = b
-text_by false false o w d a b h = h
+counted_sign_or : (o : Option Goal) (word behind : List ℕ) → Counted o → Counted (sign_or_mate o word behind)
+counted_sign_or (Some goal) word behind h = h
+counted_sign_or None word behind h =
+    counted_if (bytes_eq word (codes "Mate") || bytes_eq word (codes "mate")) (mate_goal (moves_behind_in (first_word behind))) None
+    (counted_mate (moves_behind_in (first_word behind)) (few_mate (first_word behind))) tt
 
-given_text : (text : List ℕ) (side : Side) → IsGiven (aim_of_text text side)
-given_text text side =
-    text_by (says_win text) (says_draw text) (or_words (mate_tag text side) text) _ _ tt tt (given_words (mate_tag text side) text (given_mate_tag text side))
+counted_signed_by : (x : Found) → Counted (goal_signed_by x)
+counted_signed_by None = tt
+counted_signed_by (Some x) = counted_sign_or (goal_of_sign (last_of_phrase x.0 x.1)) x.0 x.1 (counted_of_sign (last_of_phrase x.0 x.1))
 
-given_tag : (value : List ℕ) (side : Side) → IsGiven (aim_of_tag value side)
-unfolding aim_of_tag
-given_tag value side = given_text (trim value) side
+counted_signed : (text : List ℕ) → Counted (goal_signed text)
+unfolding goal_signed
+counted_signed text = counted_signed_by (first_word text)
+
+given_signed : (side : Side) (o : Option Goal) → Counted o → IsGiven (signed_by side o)
+given_signed side None h = tt
+given_signed side (Some (MateIn count)) h = h
+given_signed side (Some Win) h = tt
+given_signed side (Some Draw) h = tt
+
+given_or : (o p : Option Stipulation) → IsGiven o → IsGiven p → IsGiven (or_stipulation o p)
+given_or (Some aim) p h k = h
+given_or None p h k = k
+
+given_stated : (text : List ℕ) (side : Side) → IsGiven (aim_stated text side)
+unfolding aim_stated
+given_stated text side = given_or (aim_in text) _ (given_in text) (given_signed side (goal_signed text) (counted_signed text))
+
+given_tag : (side : Side) (value : Option (List ℕ)) → IsGiven (tag_aim side value)
+given_tag side None = tt
+given_tag side (Some value) = given_stated (unescape value) side
 
 -- ---- the first stipulation that is stated
 
@@ -198,46 +226,63 @@ aimed_result : (s : AimSource) (o : Option Outcome) → Aimed (aim_of_result s o
 aimed_result s None = tt
 aimed_result s (Some o) = outcome_counted o
 
-aimed_tag : (side : Side) (value : Option (List ℕ)) → Aimed (tag_aim side value)
-aimed_tag side None = tt
-aimed_tag side (Some value) = aimed_source StipulationTag (aim_of_tag (unescape value) side) (given_tag (unescape value) side)
+aimed_unless : (unread : Bool) (given : Option Stipulation) (o : Option Aim) → IsGiven given → Aimed o → Aimed (unless_unread unread given o)
+aimed_unless true given o g h = aimed_source Given given g
+aimed_unless false given o g h = h
 
-pub game_aimed : (given : Option Stipulation) (tags : List Pair) (side : Side) (n : Notes) → IsGiven given → IsGiven n.opening
+aimed_first : (s : Sources) → IsGiven s.comment → IsGiven s.tag → IsGiven s.given → Aimed (first_aim s)
+aimed_first s c t g =
+    aimed_or (from_source Comment s.comment) _ (aimed_source Comment s.comment c)
+    (aimed_unless s.comment_unread s.given _ g
+    (aimed_or (from_source StipulationTag s.tag) _ (aimed_source StipulationTag s.tag t)
+    (aimed_unless s.tag_unread s.given _ g
+    (aimed_or (aim_of_result ResultTag s.result_tag) _ (aimed_result ResultTag s.result_tag)
+    (aimed_or (aim_of_result EndResult s.result) (from_source Given s.given) (aimed_result EndResult s.result) (aimed_source Given s.given g))))))
+
+aimed_doubts : (s : Sources) (o : Option Aim) → Aimed o → Aimed (with_doubts s o)
+aimed_doubts s None h = tt
+aimed_doubts s (Some aim) h = h
+
+-- what the opening comment states
+abbrev pub IsNoted : Notes → Type 0
+IsNoted n = IsGiven n.opening × Counted n.opening_goal
+
+pub game_aimed : (given : Option Stipulation) (tags : List Pair) (side : Side) (n : Notes) → IsGiven given → IsNoted n
     → (o : Option Aim) → aim_of_game given tags side n ≡ o → Aimed o
-unfolding aim_of_game
+unfolding aim_by_sources sources_of
 game_aimed given tags side n g k o e =
+    let s = sources_of given tags side n in
     subst Aimed e
-    (aimed_or (from_source Comment n.opening) _ (aimed_source Comment n.opening k)
-    (aimed_or (tag_aim side (value_of (codes "Stipulation") tags)) _ (aimed_tag side (value_of (codes "Stipulation") tags))
-    (aimed_or (aim_of_result ResultTag (result_of (value_of (codes "Result") tags))) _ (aimed_result ResultTag (result_of (value_of (codes "Result") tags)))
-    (aimed_or (aim_of_result EndResult n.outcome) (from_source Given given) (aimed_result EndResult n.outcome) (aimed_source Given given g)))))
+    (aimed_doubts s (first_aim s)
+    (aimed_first s (given_or n.opening (signed_by side n.opening_goal) k.0 (given_signed side n.opening_goal k.1))
+    (given_tag side (value_of (codes "Stipulation") tags)) g))
 
-pub aim_counted : (given : Option Stipulation) (tags : List Pair) (side : Side) (n : Notes) (aim : Aim) → IsGiven given → IsGiven n.opening
+pub aim_counted : (given : Option Stipulation) (tags : List Pair) (side : Side) (n : Notes) (aim : Aim) → IsGiven given → IsNoted n
     → aim_of_game given tags side n ≡ Some aim → IsCounted aim.stipulation.goal
 aim_counted given tags side n aim g k e = game_aimed given tags side n g k (Some aim) e
 
 -- ---- the note for a comment
 
-opening_if : (b : Bool) (x y : Notes) → IsGiven x.opening → IsGiven y.opening → IsGiven (if b then x else y).opening
+opening_if : (b : Bool) (x y : Notes) → IsNoted x → IsNoted y → IsNoted (if b then x else y)
 opening_if true x y h k = h
 opening_if false x y h k = k
 
-opening_said : (n : Notes) (cut waits : Bool) (said : Said) → IsGiven n.opening → IsGiven (with_said n cut waits said).opening
+opening_said : (n : Notes) (cut waits : Bool) (said : Said) → IsNoted n → IsNoted (with_said n cut waits said)
 opening_said n cut waits say.Number h = h
 opening_said n cut waits (say.Result outcome) h = h
 opening_said n cut waits say.NullMove h = h
 opening_said n cut waits say.Aside h = h
 opening_said n cut waits say.Move h = h
 
-opening_sign : (n : Notes) (cut is_null : Bool) → IsGiven n.opening → IsGiven (with_sign n cut is_null).opening
+opening_sign : (n : Notes) (cut is_null : Bool) → IsNoted n → IsNoted (with_sign n cut is_null)
 opening_sign n cut true h = h
 opening_sign n cut false h = h
 
-pub opening_noted : (n : Notes) (cut waits : Bool) (token : Token) → IsGiven n.opening → IsGiven (with_token n cut waits token).opening
+pub opening_noted : (n : Notes) (cut waits : Bool) (token : Token) → IsNoted n → IsNoted (with_token n cut waits token)
 opening_noted n cut waits blank h = h
 opening_noted n cut waits (tag name value) h = h
 opening_noted n cut waits (comment text) h =
-    opening_if (n.before_moves && not n.has_comment) _ _ (given_in text) h
+    opening_if (n.before_moves && not n.has_comment) _ _ (given_in text, counted_signed text) h
 opening_noted n cut waits (rest text) h = h
 opening_noted n cut waits aside h = h
 opening_noted n cut waits opening h = h

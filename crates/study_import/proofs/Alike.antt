@@ -8,10 +8,12 @@ use Rattle.study_marks.specs.declared.stipulation.Stipulation.{Stipulation}
 use Rattle.study_games.specs.Header.{tags_of, header_fault, value_of}
 use Rattle.study_games.specs.declared.header.HeaderFault.{HeaderFault}
 use Rattle.study_import.specs.declared.game.aims.Aim.{Aim}
+use Rattle.study_import.specs.declared.game.aims.Sources.{Sources}
+use Rattle.study_import.specs.Aims.{aim_by_sources}
 use Rattle.study_import.specs.declared.game.movetext.MovesFault.{MovesFault}
 use Rattle.study_import.specs.Movetext.{Ended}
-use Rattle.study_import.specs.Blocks.{Block, Reported, reported_of, block_lines, no_study, left_out, aim_of_game, aimed_block, read_block, game_read}
-use Rattle.study_import.specs.Blocks.{fen_in, start_block, fen_block, header_block, block_of, tail_of, tail_line, under_remark, block_or_tail}
+use Rattle.study_import.specs.Blocks.{Block, Reported, reported_of, block_lines, no_study, left_out, sources_of, aimed_block, read_block, game_read}
+use Rattle.study_import.specs.Blocks.{fen_in, start_block, fen_block, repeated_name, single_block, header_block, block_of, tail_of, tail_line, under_remark, block_or_tail}
 use Rattle.study_import.specs.Tails.{Tail, position_text}
 use Rattle.study_import.specs.Laws.{entry_of, remark_above, text_read, AreAlike}
 
@@ -20,15 +22,17 @@ module _ (given : Option Stipulation) (text : List ℕ) where
   Alike make = (start : Start) × (aim : Aim) × (reported : Reported)
       × ((number line : ℕ) → make number line ≡ record { text = block_lines (entry_of number line text) start aim reported; is_study = true })
 
-  aimed_alike : (start : Start) (t : Reported) (aim : Option Aim) (m k : ℕ) → (aimed_block (entry_of m k text) start t aim).is_study ≡ true
-      → Alike (λ number line. aimed_block (entry_of number line text) start t aim)
-  aimed_alike start t None m k e = absurd cc
-  aimed_alike start t (Some aim) m k e = (start, aim, t, λ number line. refl)
+  aimed_alike : (start : Start) (t : Reported) (s : Sources) (aim : Option Aim) (m k : ℕ) → (aimed_block (entry_of m k text) start t s aim).is_study ≡ true
+      → Alike (λ number line. aimed_block (entry_of number line text) start t s aim)
+  aimed_alike start t s None m k e = absurd cc
+  aimed_alike start t s (Some aim) m k e = (start, aim, t, λ number line. refl)
 
   read_alike : (start : Start) (x : Result Ended MovesFault) (m k : ℕ) → (read_block given (entry_of m k text) start x).is_study ≡ true
       → Alike (λ number line. read_block given (entry_of number line text) start x)
   read_alike start (Err fault) m k e = absurd cc
-  read_alike start (Ok x) m k e = aimed_alike start (reported_of x) (aim_of_game given (tags_of text) start.position.to_move x.game.notes) m k e
+  read_alike start (Ok x) m k e =
+      let s = sources_of given (tags_of text) start.position.to_move x.game.notes in
+      aimed_alike start (reported_of x) s (aim_by_sources s) m k e
 
   start_alike : (fen : List ℕ) (x : Result Start FenFault) (m k : ℕ) → (start_block given (entry_of m k text) fen x).is_study ≡ true
       → Alike (λ number line. start_block given (entry_of number line text) fen x)
@@ -40,13 +44,18 @@ module _ (given : Option Stipulation) (text : List ℕ) where
   fen_alike None m k e = absurd cc
   fen_alike (Some value) m k e = start_alike (fen_in value) (start_of (fen_in value)) m k e
 
+  single_alike : (name : Option (List ℕ)) (m k : ℕ) → (single_block given (entry_of m k text) (tags_of text) name).is_study ≡ true
+      → Alike (λ number line. single_block given (entry_of number line text) (tags_of text) name)
+  single_alike (Some name) m k e = absurd cc
+  single_alike None m k e = fen_alike (value_of (codes "FEN") (tags_of text)) m k e
+
   tagged_alike : (none : Bool) (m k : ℕ)
-      → (if none then no_study (left_out (entry_of m k text) (codes "left out: no tags")) else fen_block given (entry_of m k text)
-      (value_of (codes "FEN") (tags_of text))).is_study ≡ true
+      → (if none then no_study (left_out (entry_of m k text) (codes "left out: no tags")) else single_block given (entry_of m k text)
+      (tags_of text) (repeated_name (tags_of text))).is_study ≡ true
       → Alike (λ number line. if none then no_study (left_out (entry_of number line text) (codes "left out: no tags"))
-      else fen_block given (entry_of number line text) (value_of (codes "FEN") (tags_of text)))
+      else single_block given (entry_of number line text) (tags_of text) (repeated_name (tags_of text)))
   tagged_alike true m k e = absurd cc
-  tagged_alike false m k e = fen_alike (value_of (codes "FEN") (tags_of text)) m k e
+  tagged_alike false m k e = single_alike (repeated_name (tags_of text)) m k e
 
   header_alike : (fault : Option HeaderFault) (m k : ℕ) → (header_block given (entry_of m k text) fault).is_study ≡ true
       → Alike (λ number line. header_block given (entry_of number line text) fault)

@@ -28,7 +28,6 @@ use Rattle.study_games.specs.declared.games.LineKind.TheVariants.{Silent, Tag, E
 use Rattle.study_games.specs.declared.games.Seen.{Seen}
 use Rattle.study_games.specs.Games.{Game, Begun, with_byte, lines_behind, begins_value, name_of as name_in, name_in_brackets, tag_name, is_remark, kind_named}
 use Rattle.study_games.specs.Games.{kind_of, begins_game, seen_then, with_bytes, with_line, begun_by, first_line, one_more, without_mark}
-use Rattle.study_games.specs.Games.{without_byte_order_mark}
 use Rattle.study_games.specs.Games.{taken_to, game_at_hand, games_from, games_of}
 use Rattle.study_import.specs.Meant.{study_of_game}
 use Rattle.study_import.specs.Written.{CanBeMade, unmarked_study, AreFilesReadBack}
@@ -74,11 +73,11 @@ plain_drop (suc n) (x ∷ xs) h = plain_drop n xs (and_parts (is_plain x) (list_
 
 no_value : (xs : List ℕ) → list_all is_plain xs ≡ true → begins_value xs ≡ false
 no_value [] h = refl
-no_value (b ∷ bs) h = not_false (b == 34) (and_parts (is_plain b) (list_all is_plain bs) h).0
+no_value (b ∷ bs) h = not_first (b == 34) (b == 239) (and_parts (is_plain b) (list_all is_plain bs) h).0
   where
-    not_false : (x : Bool) → not x ≡ true → x ≡ false
-    not_false true e = absurd cc
-    not_false false e = refl
+    not_first : (x y : Bool) → not (x || y) ≡ true → x ≡ false
+    not_first true y e = absurd cc
+    not_first false y e = refl
 
 no_name : (xs : List ℕ) → list_all is_plain xs ≡ true → name_in xs ≡ None
 no_name [] h = refl
@@ -126,37 +125,53 @@ behind_one n le = at_most (n + 1) 4294967295 (omega (arith, le)) (omega arith)
     at_most : (m k : ℕ) → 2 ≤ m → 2 ≤ k → 2 ≤ min m k
     at_most m k h e = omega (arith, h, e)
 
-no_mark : (n : ℕ) (line : List ℕ) → 2 ≤ n → without_byte_order_mark n line ≡ line
-no_mark n line le = rw (ne_eqb n 1 (λ e. omega (arith, le, e))) refl
+-- a line that does not begin with the first byte of a byte order mark is kept
+unmarked : (b : ℕ) (bs : List ℕ) → (b == 239) ≡ false → without_mark (b ∷ bs) ≡ b ∷ bs
+unmarked b [] e = refl
+unmarked b (c ∷ []) e = refl
+unmarked b (c ∷ d ∷ bs) e = rw e refl
+
+plain_unmarked : (line : List ℕ) → list_all is_plain line ≡ true → without_mark line ≡ line
+plain_unmarked [] h = refl
+plain_unmarked (b ∷ bs) h = unmarked b bs (not_second (b == 34) (b == 239) (and_parts (is_plain b) (list_all is_plain bs) h).0)
+  where
+    not_second : (x y : Bool) → not (x || y) ≡ true → y ≡ false
+    not_second true y e = absurd cc
+    not_second false true e = absurd cc
+    not_second false false e = refl
+
+tag_unmarked : (name t : List ℕ) → without_mark (tag_line name t) ≡ tag_line name t
+unfolding tag_line
+tag_unmarked name t = unmarked 91 (name ++ (codes " \"" ++ (flat_map with_backslash t ++ codes "\"]\n"))) refl
 
 -- a line that does not begin a game is added to the current game
-line_added : (n : ℕ) (g : Begun) (line : List ℕ) (lines : List (List ℕ)) → 2 ≤ n → begins_game g.seen (kind_of line) ≡ false
+line_added : (n : ℕ) (g : Begun) (line : List ℕ) (lines : List (List ℕ)) → without_mark line ≡ line → begins_game g.seen (kind_of line) ≡ false
     → games_from n (Some g) (line ∷ lines) ≡ games_from (one_more n) (Some (with_line g line (kind_of line))) lines
-line_added n g line lines le e =
+line_added n g line lines kept e =
     let next = λ (l : List ℕ). λ (begins : Bool).
     if begins then game_at_hand (Some g) ++ games_from (one_more n) (first_line n l (kind_of l)) lines else games_from (one_more n)
     (taken_to n (Some g) l (kind_of l)) lines in
-    ap (λ (l : List ℕ). next l (begins_game g.seen (kind_of l))) (no_mark n line le) ∙ ap (next line) e
+    ap (λ (l : List ℕ). next l (begins_game g.seen (kind_of l))) kept ∙ ap (next line) e
 
 -- a line of a tag Event begins the first game
-game_begun : (n : ℕ) (line : List ℕ) (lines : List (List ℕ)) → without_byte_order_mark n line ≡ line → kind_of line ≡ EventTag
+game_begun : (n : ℕ) (line : List ℕ) (lines : List (List ℕ)) → without_mark line ≡ line → kind_of line ≡ EventTag
     → games_from n None (line ∷ lines) ≡ games_from (one_more n) (Some (begun_by n line EventTag)) lines
 game_begun n line lines e k =
     ap (λ (l : List ℕ). games_from (one_more n) (first_line n l (kind_of l)) lines) e
     ∙ ap (λ (x : LineKind). games_from (one_more n) (first_line n line x) lines) k
 
 -- and it ends a game that has moves
-game_ended : (n : ℕ) (g : Begun) (line : List ℕ) (lines : List (List ℕ)) → 2 ≤ n → kind_of line ≡ EventTag → g.seen.moves ≡ true
+game_ended : (n : ℕ) (g : Begun) (line : List ℕ) (lines : List (List ℕ)) → without_mark line ≡ line → kind_of line ≡ EventTag → g.seen.moves ≡ true
     → games_from n (Some g) (line ∷ lines) ≡ g.game ∷ games_from n None (line ∷ lines)
-game_ended n g line lines le k moves =
+game_ended n g line lines kept k moves =
     let next = λ (l : List ℕ). λ (x : LineKind).
     if begins_game g.seen x then game_at_hand (Some g) ++ games_from (one_more n) (first_line n l x) lines else games_from (one_more n)
     (taken_to n (Some g) l x) lines in
     let yes : begins_game g.seen EventTag ≡ true = rw moves refl in
-    ap (λ (l : List ℕ). next l (kind_of l)) (no_mark n line le) ∙ ap (next line) k
+    ap (λ (l : List ℕ). next l (kind_of l)) kept ∙ ap (next line) k
     ∙ ap (λ (b : Bool). if b then g.game ∷ games_from (one_more n) (first_line n line EventTag) lines else games_from (one_more n)
     (taken_to n (Some g) line EventTag) lines) yes
-    ∙ ap (λ (gs : List Game). g.game ∷ gs) (sym (game_begun n line lines (no_mark n line le) k))
+    ∙ ap (λ (gs : List Game). g.game ∷ gs) (sym (game_begun n line lines kept k))
 
 -- ---- lines of moves
 
@@ -210,7 +225,7 @@ behind_line n g t line lines u rest late text plain few moves later =
       at_hand = r.at_hand;
       text = r.text;
       seen = r.seen;
-      is = line_added n g line lines late (quiet g.seen line plain)
+      is = line_added n g line lines (plain_unmarked line plain) (quiet g.seen line plain)
           ∙ r.is;
     }
 
@@ -333,7 +348,7 @@ tags_behind (p ∷ ps) n g t rest h late is seen few =
       at_hand = r.at_hand;
       text = r.text ∙ ap (λ (x : List ℕ). Some x) (append_assoc t line (written ps []));
       seen = r.seen;
-      is = ap (games_from n (Some g)) (tag_cut p (written ps rest) h.0.0) ∙ line_added n g line (lines_behind [] (written ps rest)) late kept ∙ r.is;
+      is = ap (games_from n (Some g)) (tag_cut p (written ps rest) h.0.0) ∙ line_added n g line (lines_behind [] (written ps rest)) (tag_unmarked p.0 p.1) kept ∙ r.is;
     }
 
 -- ---- the header of a study
@@ -455,14 +470,6 @@ followed_is s rest =
     ∙ ap (λ (x : List ℕ). tag_line (codes "Event") (event_of s) ++ x)
     (sym (written_append (others s) behind rest) ∙ ap (λ (x : List ℕ). written (others s) (10 ∷ x)) (append_assoc (moves_of s) (10 ∷ []) rest))
 
-mark_kept : (n : ℕ) (t : List ℕ) → without_byte_order_mark n (tag_line (codes "Event") t) ≡ tag_line (codes "Event") t
-unfolding tag_line
-mark_kept n t = by (n == 1)
-  where
-    by : (b : Bool) → (if b then without_mark (tag_line (codes "Event") t) else tag_line (codes "Event") t) ≡ tag_line (codes "Event") t
-    by true = refl
-    by false = refl
-
 -- an empty line
 empty_behind : (n : ℕ) (g : Begun) (t more : List ℕ) (u rest : List ℕ) → 2 ≤ n → g.game.text ≡ Some t → g.seen.moves ≡ false → length t + 1 ≤ 1048576
     → ((next : ℕ) (h : Begun) → 2 ≤ next → h.game.text ≡ Some (t ++ 10 ∷ []) → h.seen.moves ≡ false → Behind next h (lines_behind [] more) u rest true)
@@ -477,7 +484,7 @@ empty_behind n g t more u rest late text seen few later =
       at_hand = r.at_hand;
       text = r.text;
       seen = r.seen;
-      is = line_added n g (10 ∷ []) (lines_behind [] more) late refl
+      is = line_added n g (10 ∷ []) (lines_behind [] more) refl refl
           ∙ r.is;
     }
 
@@ -519,7 +526,7 @@ cut_off s c n rest one =
       seen = moves.seen;
       is = ap (λ (x : List ℕ). games_from n None (lines_behind [] x)) (followed_is s rest)
           ∙ ap (games_from n None) (tag_cut (codes "Event", event_of s) (written (others s) (10 ∷ more)) line)
-          ∙ game_begun n event lines (mark_kept n (event_of s)) (event_kind (event_of s)) ∙ header.is ∙ moves.is;
+          ∙ game_begun n event lines (tag_unmarked (codes "Event") (event_of s)) (event_kind (event_of s)) ∙ header.is ∙ moves.is;
     }
   where
     header_few : (ps : List Named) (t : List ℕ) → AllByRecursion IsOther ps → length t ≤ 140 → length (t ++ written ps []) ≤ 140 + 140 * length ps
@@ -544,7 +551,7 @@ ended_before (s ∷ ss) n g h late seen =
     let lines = lines_behind [] (written (others s) (10 ∷ (moves_of s ++ 10 ∷ rest))) in
     let cut : lines_behind [] (pgn_text s ++ rest) ≡ event ∷ lines =
     ap (lines_behind []) (followed_is s rest) ∙ tag_cut (codes "Event", event_of s) (written (others s) (10 ∷ (moves_of s ++ 10 ∷ rest))) (event_line s h.0) in
-    ap (games_from n (Some g)) cut ∙ game_ended n g event lines late (event_kind (event_of s)) seen
+    ap (games_from n (Some g)) cut ∙ game_ended n g event lines (tag_unmarked (codes "Event") (event_of s)) (event_kind (event_of s)) seen
     ∙ ap (λ (ls : List (List ℕ)). g.game ∷ games_from n None ls) (sym cut)
 
 all_cut : (ss : List (Study Mark)) (n : ℕ) → AllByRecursion CanBeMade ss → 1 ≤ n

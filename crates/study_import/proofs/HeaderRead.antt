@@ -163,10 +163,9 @@ on_fault fresh b bs =
     (within_step (length bs) (lexed_token fresh b bs) (within_lexed fresh b bs))
     (λ rest le. fault_same (length bs) (length rest) (b == 10) rest le (omega arith))
 
-pub tags_step : (fresh : Bool) (b : ℕ) (bs rest : List ℕ) (t : Token) (pair : Option Pair) → lexed_token fresh b bs ≡ Ok (t, rest)
-    → step_of (Ok (t, rest)) ≡ on pair rest
-    → tags_from fresh (b ∷ bs) ≡ with_tags (λ r. tags_from (b == 10) r) (on pair rest)
-tags_step fresh b bs rest t pair e k = on_tags fresh b bs ∙ ap (λ (x : Lexed). with_tags (λ r. tags_from (b == 10) r) (step_of x)) e
+pub tags_step : (fresh : Bool) (b : ℕ) (bs rest : List ℕ) (t : Token) (s : Step) → lexed_token fresh b bs ≡ Ok (t, rest) → step_of (Ok (t, rest)) ≡ s
+    → tags_from fresh (b ∷ bs) ≡ with_tags (λ r. tags_from (b == 10) r) s
+tags_step fresh b bs rest t s e k = on_tags fresh b bs ∙ ap (λ (x : Lexed). with_tags (λ r. tags_from (b == 10) r) (step_of x)) e
     ∙ ap (with_tags (λ r. tags_from (b == 10) r)) k
 
 pub fault_step : (fresh : Bool) (b : ℕ) (bs rest : List ℕ) (t : Token) (s : Step) → lexed_token fresh b bs ≡ Ok (t, rest) → step_of (Ok (t, rest)) ≡ s
@@ -190,8 +189,8 @@ line_read name text rest fresh g is h =
     let bs = name ++ (32 ∷ 34 ∷ (flat_map with_backslash text ++ (34 ∷ 93 ∷ 10 ∷ rest))) in
     let t = tag name (flat_map with_backslash text) in
     record {
-      tags = tags_step fresh 91 bs (10 ∷ rest) t (Some (name, flat_map with_backslash text)) lex refl
-          ∙ ap (λ (ps : List Pair). (name, flat_map with_backslash text) ∷ ps) (tags_step false 10 rest rest blank None (feed_lexed rest false) refl);
+      tags = tags_step fresh 91 bs (10 ∷ rest) t (on (Some (name, flat_map with_backslash text)) (10 ∷ rest)) lex refl
+          ∙ ap (λ (ps : List Pair). (name, flat_map with_backslash text) ∷ ps) (tags_step false 10 rest rest blank (on None rest) (feed_lexed rest false) refl);
       fault = fault_step fresh 91 bs (10 ∷ rest) t (on (Some (name, flat_map with_backslash text)) (10 ∷ rest)) lex refl
           ∙ fault_step false 10 rest rest blank (on None rest) (feed_lexed rest false) refl;
       moves = λ header. on_step fresh 91 bs g t (10 ∷ rest) g lex (λ _ _ _. refl) (header_takes g name (flat_map with_backslash text) header)

@@ -3,7 +3,7 @@ use Rattle.std.proofs.Common.{◌≡◌, ℕ, zero, suc, ◌≤◌, Bool, false,
 use Rattle.std.specs.Prelude.{◌==◌, unwrap_or, if◌then◌else◌}
 use Rattle.study_games.specs.declared.token.TokenFault.{TokenFault}
 use Rattle.study_games.specs.declared.token.TokenFault.TheVariants as token_fault
-use Rattle.study_games.specs.Tokens.{Token, Lexed, lexed_token, token_at, begins_feed, behind, is_in_line}
+use Rattle.study_games.specs.Tokens.{Token, Lexed, lexed_token, token_at, begins_feed, is_in_line}
 use Rattle.study_import.specs.declared.game.lines.LineFault.TheVariants as line_fault
 use Rattle.study_import.specs.declared.game.moves.MoveFault.TheVariants as move_fault
 use Rattle.study_import.specs.declared.game.token_effects.Reason.TheVariants as reason

@@ -1,7 +1,7 @@
 -- The numbers of moves.
 use Rattle.std.proofs.Common.{◌≡◌, ℕ, zero, suc, ◌+◌, ◌%◌, ◌^◌, ◌<◌, ◌≤◌, Bool, true, false, not, List, [], ◌∷◌, ◌++◌, length, Option, Some, None}
 use Rattle.std.proofs.Common.{refl, sym, ap, subst, ◌∙◌, ◌⊎◌, inl, inr, arith}
-use Rattle.std.specs.Prelude.{◌||◌, nat_le, decimal}
+use Rattle.std.specs.Prelude.{◌&&◌, ◌||◌, nat_le, decimal}
 use Rattle.std.specs.List.{list_all}
 use Rattle.std.specs.Char.{digit_value}
 use Rattle.std.specs.Str.Parse.{AllDigits}
@@ -137,6 +137,10 @@ one_dot : (rest : List ℕ) → has_dot rest ≡ false → has_dots (46 ∷ rest
 unfolding has_dots
 one_dot rest h = rw (no_ellipsis 46 rest (λ e. omega arith), h) refl
 
+three_dots : (rest : List ℕ) → has_dots (46 ∷ 46 ∷ 46 ∷ rest) ≡ true
+unfolding has_dots has_dot
+three_dots rest = refl
+
 has_move_dots : (turn : Side) (rest : List ℕ) → has_dot (move_dots turn ++ rest) ≡ true
 has_move_dots White rest = dot_is rest
 has_move_dots Black rest = dot_is (46 ∷ 46 ∷ rest)
@@ -168,27 +172,38 @@ no_dot b c bs (inr e) begins low high = subst (λ (x : ℕ). has_dot (x ∷ c �
 -- ---- the written numbers
 
 -- the first number of a game is that of its start and of Black's moves
-abbrev pub IsFirst : Start → Option MoveNumber → Type 0
-IsFirst start None = Unit {0}
-IsFirst start (Some first) = first.number ≡ start.number + black_moves start.position.to_move first.depth
+abbrev IsOwn : Start → Option MoveNumber → Type 0
+IsOwn start None = Unit {0}
+IsOwn start (Some first) = first.number ≡ start.number + black_moves start.position.to_move first.depth
+
+-- and no pairs are counted
+abbrev pub IsFirst : Start → Numbering → Type 0
+IsFirst start s = IsOwn start s.first × (s.pairs ≡ false)
 
 abbrev pub Fits : Start → ℕ → Numbering → List ℕ → List ℕ → Type 0
-Fits start d s digits rest =
-    (next : Numbering) × (digits_numbered start.position.to_move d s digits rest ≡ Some next) × IsFirst start next.first
+Fits start d s digits rest = (next : Numbering) × (digits_numbered start.position.to_move d s digits rest ≡ Some next) × IsFirst start next
 
 fit_again : (start : Start) (first n : MoveNumber) → first.number ≡ start.number + black_moves start.position.to_move first.depth
-    → n.number ≡ start.number + black_moves start.position.to_move n.depth → numbers_fit start.position.to_move first n ≡ true
+    → n.number ≡ start.number + black_moves start.position.to_move n.depth → numbers_fit start.position.to_move false first n ≡ true
 fit_again start first n h k =
     let side = start.position.to_move in
     rw (eq-eqb (first.number + black_moves side n.depth) (n.number + black_moves side first.depth) (omega (arith, h, k))) refl
 
-numbered_again : (start : Start) (o : Option MoveNumber) (dots : Bool) (n : MoveNumber) → IsFirst start o
+numbered_again : (start : Start) (o : Option MoveNumber) (dots : Bool) (n : MoveNumber) → IsOwn start o
     → n.number ≡ start.number + black_moves start.position.to_move n.depth → (is_black_to_move start.position.to_move n.depth || not dots) ≡ true
-    → (next : Numbering) × (with_number start.position.to_move (record { first = o }) dots n ≡ Some next) × IsFirst start next.first
-numbered_again start None dots n h k marked = (record { first = Some n }, rw marked refl, k)
-numbered_again start (Some first) dots n h k marked = (record { first = Some first }, rw (marked, fit_again start first n h k) refl, h)
+    → (is_black_to_move start.position.to_move n.depth && not dots) ≡ false
+    → (next : Numbering) × (with_number start.position.to_move (record { first = o; pairs = false }) dots n ≡ Some next) × IsFirst start next
+numbered_again start None dots n h k marked single = (record { first = Some n; pairs = false }, rw (marked, single) refl, (k, refl))
+numbered_again start (Some first) dots n h k marked single =
+    (record { first = Some first; pairs = false }, rw (marked, fit_again start first n h k) refl, (h, refl))
 
-pub number_fits : (start : Start) (d : ℕ) (st : Start) (s : Numbering) (rest : List ℕ) → Counted start d st → d < 256 → IsFirst start s.first
+-- a move of Black is written with three dots
+no_pairs : (side turn : Side) (d : ℕ) (rest : List ℕ) → is_black_to_move side d ≡ is_black turn → has_dot rest ≡ false
+    → (is_black_to_move side d && not (has_dots (move_dots turn ++ rest))) ≡ false
+no_pairs side White d rest h dotless = rw h refl
+no_pairs side Black d rest h dotless = rw (h, three_dots rest) refl
+
+pub number_fits : (start : Start) (d : ℕ) (st : Start) (s : Numbering) (rest : List ℕ) → Counted start d st → d < 256 → IsFirst start s
     → has_dot rest ≡ false
     → Fits start d s (decimal st.number) (move_dots st.position.to_move ++ rest)
 unfolding digits_numbered
@@ -198,6 +213,11 @@ number_fits start d st s rest c lt first dotless =
     let is = c.number in
     let few = c.few in
     let le = black_le side d in
-    let a = numbered_again start s.first (has_dots (move_dots turn ++ rest)) (record { number = st.number; depth = d }) first is
-    (dots_mark side turn d rest c.turn dotless) in
-    (a.0, rw (has_move_dots turn rest, reported_again st.number (omega (arith, is, few, le, lt))) a.1, a.2)
+    let a = numbered_again start s.first (has_dots (move_dots turn ++ rest)) (record { number = st.number; depth = d }) first.0 is
+    (dots_mark side turn d rest c.turn dotless) (no_pairs side turn d rest c.turn dotless) in
+    let same : s ≡ record { first = s.first; pairs = false } = ap (λ (b : Bool). record { first = s.first; pairs = b }) first.1 in (
+      a.0,
+      rw (has_move_dots turn rest, reported_again st.number (omega (arith, is, few, le, lt)))
+          (ap (λ (x : Numbering). with_number side x (has_dots (move_dots turn ++ rest)) (record { number = st.number; depth = d })) same ∙ a.1),
+      a.2,
+    )

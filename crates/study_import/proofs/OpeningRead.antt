@@ -1,7 +1,7 @@
 -- The opening comment states the stipulation, however it is cut into lines.
 use Rattle.std.proofs.Common.{◌≡◌, ℕ, ◌-◌, ◌<◌, true, false, List, [], ◌∷◌, ◌++◌, length, take, Some, None, refl, sym, ap, subst, ◌∙◌, inl, inr}
 use Rattle.std.proofs.Common.{arith, length-append, append_assoc}
-use Rattle.std.specs.Prelude.{◌==◌, ◌&&◌, ◌||◌, nat_le, slice_index, codes, decimal}
+use Rattle.std.specs.Prelude.{◌==◌, ◌&&◌, nat_le, slice_index, codes, decimal}
 use Rattle.std.specs.List.{list_all}
 use Rattle.std.specs.Str.{bytes_eq}
 use Rattle.std.proofs.lemmas.Bool.{ne_eqb, le-leb, lt-leb, and_from, and_right, or_from}
@@ -18,7 +18,7 @@ use Rattle.study_games.specs.Bytes.{is_blank}
 use Rattle.study_games.specs.Words.{is_inked, begun_word, first_word}
 use Rattle.study_games.specs.Tokens.{behind}
 use Rattle.study_games.proofs.Lexing.{run_cut}
-use Rattle.study_import.specs.Aims.{ends_phrase, last_of_phrase, hero_of, goal_named, goal_or_mate, goal_in, aim_in}
+use Rattle.study_import.specs.Aims.{ends_clause, ends_phrase, last_of_phrase, hero_of, goal_named, goal_or_mate, goal_in, aim_in}
 use Rattle.study_import.specs.Laws.{IsCounted}
 use Rattle.study_import.proofs.Ink.{Ink, ink_of, ink_append, decimal_ink}
 use Rattle.study_import.proofs.PathAgain.{number_parsed}
@@ -68,9 +68,8 @@ colon_at w =
     let n = length-append w (58 ∷ []) in
     let at : length (w ++ 58 ∷ []) - 1 ≡ length w = omega arith in
     let last : slice_index (w ++ 58 ∷ []) (length (w ++ 58 ∷ []) - 1) ≡ 58 = ap (slice_index (w ++ 58 ∷ [])) at ∙ get_or_at w 58 [] 0 (length w) refl in
-    and_from (nat_le 1 (length (w ++ 58 ∷ []))) (slice_index (w ++ 58 ∷ []) (length (w ++ 58 ∷ []) - 1) == 58 || slice_index (w ++ 58 ∷ [])
-    (length (w ++ 58 ∷ []) - 1) == 46)
-    (le-leb 1 (length (w ++ 58 ∷ [])) (omega arith)) (ap (λ n. n == 58 || n == 46) last)
+    and_from (nat_le 1 (length (w ++ 58 ∷ []))) (ends_clause (slice_index (w ++ 58 ∷ []) (length (w ++ 58 ∷ []) - 1)))
+    (le-leb 1 (length (w ++ 58 ∷ [])) (omega arith)) (ap ends_clause last)
 
 colon_off : (w behind : List ℕ) → last_of_phrase (w ++ 58 ∷ []) behind ≡ Some w
 unfolding last_of_phrase

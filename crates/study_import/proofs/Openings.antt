@@ -7,19 +7,18 @@ use Rattle.study_import.specs.declared.game.notes.Notes.{Notes}
 use Rattle.study_import.specs.Taken.{Taken, after_token}
 use Rattle.study_import.specs.Notes.{GameRead, GameTaken, with_token, noted_on, is_header_tag, game_taken}
 use Rattle.study_import.specs.Movetext.{Ended, read_moves}
-use Rattle.study_import.specs.Laws.{IsGiven}
-use Rattle.study_import.proofs.AimsCounted.{opening_noted}
+use Rattle.study_import.proofs.AimsCounted.{IsNoted, opening_noted}
 use Rattle.study_import.proofs.Kept.{kept}
 
 abbrev HasOpening : GameRead → Type 0
-HasOpening g = IsGiven g.notes.opening
+HasOpening g = IsNoted g.notes
 
-noted_opening : (n : Notes) (x : Result Taken Reason) (t : GameTaken) → IsGiven n.opening → noted_on n x ≡ Ok t → HasOpening t.game
+noted_opening : (n : Notes) (x : Result Taken Reason) (t : GameTaken) → IsNoted n → noted_on n x ≡ Ok t → HasOpening t.game
 noted_opening n (Err why) t h e = absurd cc
 noted_opening n (Ok u) t h e =
     let is : record { game = record { reading = u.reading; notes = n }; ended = u.ended } ≡ t = cc in subst (λ (z : GameTaken). HasOpening z.game) is h
 
-opening_or : (g : GameRead) (n : Notes) (x : Result Taken Reason) (t : GameTaken) (in_header : Bool) → HasOpening g → IsGiven n.opening
+opening_or : (g : GameRead) (n : Notes) (x : Result Taken Reason) (t : GameTaken) (in_header : Bool) → HasOpening g → IsNoted n
     → (if in_header then Ok (record { game = g; ended = false }) else noted_on n x) ≡ Ok t → HasOpening t.game
 opening_or g n x t true h k e = let is : record { game = g; ended = false } ≡ t = cc in subst (λ (z : GameTaken). HasOpening z.game) is h
 opening_or g n x t false h k e = noted_opening n x t k e
@@ -30,6 +29,6 @@ opening_taken g token t h e =
     (is_header_tag g.notes token) h
     (opening_noted g.notes (nat_le 1 g.reading.lines.cut) (not (length g.reading.lines.waiting == 0)) token h) e
 
-pub opening_given : (n : ℕ) (fresh : Bool) (text : List ℕ) (g : GameRead) (x : Ended) → IsGiven g.notes.opening → read_moves n fresh text g ≡ Ok x
-    → IsGiven x.game.notes.opening
+pub opening_given : (n : ℕ) (fresh : Bool) (text : List ℕ) (g : GameRead) (x : Ended) → IsNoted g.notes → read_moves n fresh text g ≡ Ok x
+    → IsNoted x.game.notes
 opening_given n fresh text g x h e = kept HasOpening (λ g s h. h) opening_taken n fresh text g x h e

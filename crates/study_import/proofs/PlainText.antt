@@ -1,7 +1,7 @@
 -- The movetext of a study has no quotation mark, and is shorter than the limit of a game.
 use Rattle.std.proofs.Common.{◌≡◌, ℕ, suc, ◌+◌, ◌/◌, ◌≤◌, Bool, true, false, not, List, [], ◌∷◌, ◌++◌, length, Option, Some, None, refl, sym, ap}
 use Rattle.std.proofs.Common.{subst, ◌∙◌, inl, inr, arith, length-append}
-use Rattle.std.specs.Prelude.{◌*◌, ◌==◌, nat_le, codes, decimal, if◌then◌else◌}
+use Rattle.std.specs.Prelude.{◌*◌, ◌==◌, ◌||◌, nat_le, codes, decimal, if◌then◌else◌}
 use Rattle.std.specs.List.{list_all}
 use Rattle.std.proofs.lemmas.Bool.{and_from, and_parts, leb-true, eqb-true, false≢true, cases_Bool}
 use Rattle.std.proofs.lemmas.List.Folds.{list_all-append}
@@ -39,11 +39,11 @@ use Rattle.study_import.proofs.ReadSteps.{decimal_digits}
 use Rattle.study_import.proofs.SanSymbols.{symbol_is}
 use Rattle.study_import.proofs.Singles.{after_valid, after_playable, movetext_runs}
 
--- no quotation mark
+-- neither a quotation mark nor the first byte of a byte order mark
 abbrev pub is_plain : ℕ → Bool
-is_plain b = not (b == 34)
+is_plain b = not (b == 34 || b == 239)
 
--- a text without quotation marks, of at most so many bytes
+-- a text of such bytes, of at most so many
 pub record Piece (n : ℕ) (t : List ℕ) : Type 0 where
   pub plain : list_all is_plain t ≡ true
   pub few : length t ≤ n
@@ -60,23 +60,26 @@ wider m n t le h = record { plain = h.plain; few = omega (arith, h.few) }
 spelled : (n : ℕ) (t : List ℕ) → list_all is_plain t ≡ true → nat_le (length t) n ≡ true → Piece n t
 spelled n t h k = record { plain = h; few = leb-true (length t) n k }
 
--- bytes of a kind that has no quotation mark
-plain_by : (p : ℕ → Bool) → p 34 ≡ false → (b : ℕ) → p b ≡ true → is_plain b ≡ true
-plain_by p free b h = elim (cases_Bool (b == 34)) [
+-- bytes of a kind that has neither
+plain_by : (p : ℕ → Bool) → p 34 ≡ false → p 239 ≡ false → (b : ℕ) → p b ≡ true → is_plain b ≡ true
+plain_by p free low b h = elim (cases_Bool (b == 34)) [
   | inl mark ↦ absurd (false≢true (sym free ∙ ap p (sym (eqb-true b 34 mark)) ∙ h))
-  | inr other ↦ rw other refl
+  | inr other ↦ elim (cases_Bool (b == 239)) [
+    | inl high ↦ absurd (false≢true (sym low ∙ ap p (sym (eqb-true b 239 high)) ∙ h))
+    | inr low_enough ↦ rw (other, low_enough) refl
+  ]
 ]
 
-all_plain : (p : ℕ → Bool) → p 34 ≡ false → (t : List ℕ) → list_all p t ≡ true → list_all is_plain t ≡ true
-all_plain p free [] h = refl
-all_plain p free (b ∷ bs) h =
+all_plain : (p : ℕ → Bool) → p 34 ≡ false → p 239 ≡ false → (t : List ℕ) → list_all p t ≡ true → list_all is_plain t ≡ true
+all_plain p free low [] h = refl
+all_plain p free low (b ∷ bs) h =
     let a = and_parts (p b) (list_all p bs) h in
-    and_from (is_plain b) (list_all is_plain bs) (plain_by p free b a.0) (all_plain p free bs a.1)
+    and_from (is_plain b) (list_all is_plain bs) (plain_by p free low b a.0) (all_plain p free low bs a.1)
 
 -- ---- words
 
 number_piece : (n : ℕ) → Piece 64 (decimal n)
-number_piece n = record { plain = all_plain is_digit refl (decimal n) (decimal_digits n); few = decimal_few n }
+number_piece n = record { plain = all_plain is_digit refl refl (decimal n) (decimal_digits n); few = decimal_few n }
 
 side_piece : (side : Side) → Piece 5 (side_name side)
 side_piece White = spelled 5 (codes "White") refl refl
@@ -126,7 +129,7 @@ san_piece : (st : Start) (m : Move) → IsValid st.position → is_legal st.posi
 san_piece st m valid legal =
     let s = symbol_is st.position m valid legal in
     record {
-      plain = subst (λ (t : List ℕ). list_all is_plain t ≡ true) (sym s.text) (all_plain is_plain_symbol refl (s.first ∷ s.rest) s.all);
+      plain = subst (λ (t : List ℕ). list_all is_plain t ≡ true) (sym s.text) (all_plain is_plain_symbol refl refl (s.first ∷ s.rest) s.all);
       few = (move_short st.position m valid legal).few;
     }
 

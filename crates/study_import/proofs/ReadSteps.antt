@@ -30,7 +30,6 @@ use Rattle.study_import.specs.Lines.{Lines, begin_line, end_line}
 use Rattle.study_import.specs.Moves.{after_move_text, moved_by}
 use Rattle.study_import.specs.Reading.{Reading, after_move, symbol_played}
 use Rattle.study_import.specs.Taken.{on_line, on_move, taken_symbol}
-use Rattle.study_import.specs.Aims.{aim_in}
 use Rattle.study_import.specs.Notes.{GameRead, GameTaken, after_header, with_aside, with_comment, with_move, with_said, noted_on, game_taken}
 use Rattle.study_import.specs.declared.game.numbering.Numbering.{Numbering}
 use Rattle.study_import.specs.Numbering.{digits_numbered, said_numbered, token_numbered}
@@ -91,7 +90,7 @@ pub record At (s : PlainStudy) (path : List ℕ) (begun : ℕ) (ws : List Waitin
   pub lines : g.reading.lines ≡ record { path = path; begun = begun; waiting = ws; cut = 0 }
   pub opening : g.notes.opening ≡ o
   pub had : g.notes.has_comment ≡ true
-  pub numbers : IsFirst s.start g.notes.numbering.first
+  pub numbers : IsFirst s.start g.notes.numbering
 
 pub record Reached (text rest : List ℕ) (s : PlainStudy) (path : List ℕ) (begun : ℕ) (ws : List Waiting) (o : Option Stipulation) (g : GameRead) : Type 0 where
   pub next : GameRead
@@ -128,7 +127,7 @@ module _ (s : PlainStudy) (path : List ℕ) (from : ℕ) (ws : List Waiting) (o 
       lines = at.lines;
       opening = e ∙ at.opening;
       had = h;
-      numbers = subst (λ (x : Numbering). IsFirst s.start x.first) (sym i)
+      numbers = subst (λ (x : Numbering). IsFirst s.start x) (sym i)
           at.numbers;
     };
   }
@@ -173,7 +172,7 @@ module _ (s : PlainStudy) (path : List ℕ) (from : ℕ) (ws : List Waiting) (o 
   -- a number that fits
   pub number_step : (b : ℕ) (bs rest : List ℕ) → begins_symbol b ≡ true → list_all is_plain_symbol (b ∷ bs) ≡ true → said_of (b ∷ bs) ≡ say.Number
       → Stops is_symbol_byte rest
-      → (next : Numbering) → digits_numbered s.start.position.to_move (length path) g.notes.numbering (b ∷ bs) rest ≡ Some next → IsFirst s.start next.first
+      → (next : Numbering) → digits_numbered s.start.position.to_move (length path) g.notes.numbering (b ∷ bs) rest ≡ Some next → IsFirst s.start next
       → Reached ((b ∷ bs) ++ rest) rest s path from ws o g
   number_step b bs rest begins all said stops next is first =
       let t = symbol (b ∷ bs) in
@@ -207,16 +206,16 @@ module _ (s : PlainStudy) (path : List ℕ) (from : ℕ) (ws : List Waiting) (o 
 
   -- ---- comments
 
-  later_comment : (n : Notes) (aim : Option Stipulation) → n.has_comment ≡ true
-      → ((with_comment n aim).opening ≡ n.opening) × ((with_comment n aim).has_comment ≡ true) × ((with_comment n aim).numbering ≡ n.numbering)
-  later_comment n aim h =
+  later_comment : (n : Notes) (text : List ℕ) → n.has_comment ≡ true
+      → ((with_comment n text).opening ≡ n.opening) × ((with_comment n text).has_comment ≡ true) × ((with_comment n text).numbering ≡ n.numbering)
+  later_comment n text h =
       let second : (n.before_moves && not n.has_comment) ≡ false = and_right n.before_moves (not n.has_comment) (rw h refl) in
       rw second (refl, h, refl)
 
   pub comment_step : (text rest : List ℕ) → list_all is_inside text ≡ true → Reached (123 ∷ (text ++ (125 ∷ rest))) rest s path from ws o g
   comment_step text rest all =
-      let l = later_comment g.notes (aim_in text) at.had in
-      noted_step 123 (text ++ (125 ∷ rest)) rest (comment text) (with_comment g.notes (aim_in text))
+      let l = later_comment g.notes text at.had in
+      noted_step 123 (text ++ (125 ∷ rest)) rest (comment text) (with_comment g.notes text)
       (λ fresh. lexed_brace (text ++ (125 ∷ rest)) fresh ∙ comment_is text rest all) (λ _ _ _. refl) refl l.0 l.1 l.2
 
   -- ---- moves

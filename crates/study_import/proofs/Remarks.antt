@@ -1,6 +1,6 @@
 -- Lines of remarks have no command.
 use Rattle.std.proofs.Common.{◌≡◌, ℕ, zero, suc, ◌+◌, ◌≤◌, Bool, true, false, List, [], ◌∷◌, ◌++◌, length, take, map, Option, Some, None, Ok, refl}
-use Rattle.std.proofs.Common.{sym, ap, ◌∙◌, inl, inr, arith, length-append, append_assoc}
+use Rattle.std.proofs.Common.{sym, ap, subst, ◌∙◌, inl, inr, arith, length-append, append_assoc}
 use Rattle.std.specs.Prelude.{◌==◌, ◌&&◌, ◌||◌, ◌*◌, nat_le, codes, decimal, if◌then◌else◌}
 use Rattle.std.specs.List.{list_all, flat_map, prefix_len, AllByRecursion}
 use Rattle.std.specs.Str.{bytes_eq}
@@ -21,7 +21,7 @@ use Rattle.study_reply.specs.Names.{fen_name, san_name}
 use Rattle.study_games.specs.Bytes.{is_blank, is_digit, is_symbol_byte}
 use Rattle.study_games.specs.Tokens.{front, behind}
 use Rattle.study_games.specs.Words.{first_word, trim}
-use Rattle.study_games.specs.Header.{Pair, tags_of, value_of, unescape}
+use Rattle.study_games.specs.Header.{Pair, tags_of, value_of, named_count, unescape}
 use Rattle.study_games.specs.declared.token.TokenFault.{TokenFault}
 use Rattle.study_games.specs.declared.token.TokenFault.TheVariants as token
 use Rattle.study_import.specs.declared.game.lines.LineFault.{LineFault}
@@ -34,15 +34,17 @@ use Rattle.study_import.specs.declared.game.movetext.MovesFault.{MovesFault}
 use Rattle.study_import.specs.declared.game.movetext.Stop.{Stop}
 use Rattle.study_import.specs.declared.game.movetext.Stop.TheVariants as stop
 use Rattle.study_import.specs.declared.game.aims.Aim.{Aim}
+use Rattle.study_import.specs.declared.game.aims.Doubts.{Doubts}
 use Rattle.study_import.specs.declared.game.aims.AimSource.{AimSource}
 use Rattle.study_import.specs.declared.game.aims.AimSource.TheVariants.{Comment, StipulationTag, ResultTag, Result as EndResult, Given}
 use Rattle.study_import.specs.declared.game.notes.Notes.{Notes}
 use Rattle.study_import.specs.declared.places.Place.{Place}
-use Rattle.study_import.specs.Aims.{source_words}
+use Rattle.study_import.specs.declared.game.aims.Sources.{Sources}
+use Rattle.study_import.specs.Aims.{source_words, unaimed_words}
 use Rattle.study_import.specs.Blocks.{Entry, Reported, place_in, text_at, token_name, move_name, line_name, reason_name, stop_name, run_words}
-use Rattle.study_import.specs.Blocks.{symbol_words, author_of, author_words, no_colon, left_out, place_words, fault_words, counts_words, counts_line}
-use Rattle.study_import.specs.Blocks.{move_counts, counted_words, behind_line, six_names, remark_byte, tag_text, was_of, was_line, head_line, remark_lines}
-use Rattle.study_import.specs.Blocks.{other_tags, stopped_block, men_in, fen_words, at_most, last_line, tail_line}
+use Rattle.study_import.specs.Blocks.{symbol_words, author_of, author_words, no_colon, left_out, place_words, fault_words, counts_words, counts_line, doubt_line, doubt_lines, source_line}
+use Rattle.study_import.specs.Blocks.{move_counts, counted_words, behind_words, behind_line, six_names, remark_byte, tag_text, was_of, was_line, head_line, remark_lines}
+use Rattle.study_import.specs.Blocks.{other_tags, repeated_name, repeated_words, stopped_block, men_in, fen_words, at_most, last_line, tail_line}
 use Rattle.study_import.proofs.Ink.{Ink, decimal_ink, decimal_few}
 use Rattle.study_import.proofs.TagTexts.{short_prints, short_few}
 use Rattle.study_import.proofs.CommandLines.{remark_asked, empty_asked}
@@ -127,10 +129,10 @@ source_part Given = record { shown = refl; few = omega arith }
 abbrev hashed : List ℕ → List ℕ
 hashed t = 35 ∷ t
 
-game_part : (number n : ℕ) (rest : List ℕ) → IsPart n rest → IsPart (70 + n) (codes " game " ++ (decimal number ++ rest))
+game_part : (number n : ℕ) (rest : List ℕ) → IsPart n rest → IsPart (71 + n) (codes "! game " ++ (decimal number ++ rest))
 game_part number n rest h =
-    wider (6 + (64 + n)) (70 + n) _ (omega arith)
-    (joined 6 (64 + n) (codes " game ") (decimal number ++ rest) (record { shown = refl; few = omega arith })
+    wider (7 + (64 + n)) (71 + n) _ (omega arith)
+    (joined 7 (64 + n) (codes "! game ") (decimal number ++ rest) (record { shown = refl; few = omega arith })
     (joined 64 n (decimal number) rest (number_part number) h))
 
 -- ---- the head of a block
@@ -141,17 +143,40 @@ line_part line n rest h =
     (joined 7 (64 + n) (codes ", line ") (decimal line ++ rest) (record { shown = refl; few = omega arith })
     (joined 64 n (decimal line) rest (number_part line) h))
 
-head_is : (a b c : List ℕ) → (codes "# game " ++ a) ++ (codes ", line " ++ (b ++ (codes ": stipulated by " ++ (c ++ codes "\n"))))
-    ≡ hashed (codes " game " ++ (a ++ (codes ", line " ++ (b ++ (codes ": stipulated by " ++ c))))) ++ 10 ∷ []
+head_is : (a b c : List ℕ) → (codes "#! game " ++ a) ++ (codes ", line " ++ (b ++ (codes ": stipulated by " ++ (c ++ codes "\n"))))
+    ≡ hashed (codes "! game " ++ (a ++ (codes ", line " ++ (b ++ (codes ": stipulated by " ++ c))))) ++ 10 ∷ []
 head_is a b c = simp append_assoc
 
-pub head_remark : (e : Entry) (aim : Aim) → AreLines IsRemark (head_line e aim)
-unfolding head_line
-head_remark e aim =
+source_remark : (e : Entry) (aim : Aim) → AreLines IsRemark (source_line e aim)
+unfolding source_line
+source_remark e aim =
     one_line IsRemark _ _ (head_is (decimal e.number) (decimal e.line) (source_words aim.source))
-    (remark_line _ (wider (70 + (71 + (16 + 20))) 1000 _ (omega arith)
+    (remark_line _ (wider (71 + (71 + (16 + 20))) 1000 _ (omega arith)
     (game_part e.number (71 + (16 + 20)) _ (line_part e.line (16 + 20) _
     (joined 16 20 (codes ": stipulated by ") (source_words aim.source) (record { shown = refl; few = omega arith }) (source_part aim.source))))))
+
+doubt_is : (words : List ℕ) → codes "#! the stipulation " ++ (words ++ codes "\n") ≡ hashed (codes "! the stipulation " ++ words) ++ 10 ∷ []
+doubt_is words = simp append_assoc
+
+doubt_remark : (doubted : Bool) (words : List ℕ) → list_all shows words ≡ true → nat_le (length words) 60 ≡ true → AreLines IsRemark (doubt_line doubted words)
+unfolding doubt_line
+doubt_remark false words h k = no_lines IsRemark
+doubt_remark true words h k =
+    one_line IsRemark _ _ (doubt_is words)
+    (remark_line _ (wider (18 + 60) 1000 _ (omega arith)
+    (joined 18 60 (codes "! the stipulation ") words (record { shown = refl; few = omega arith }) (record { shown = h; few = leb-true (length words) 60 k }))))
+
+doubt_remarks : (d : Doubts) → AreLines IsRemark (doubt_lines d)
+unfolding doubt_lines
+doubt_remarks d =
+    more_lines IsRemark _ _ (doubt_remark d.comment_unread (codes "of its comment is not understood") refl refl)
+    (more_lines IsRemark _ _ (doubt_remark d.tag_unread (codes "of its tag Stipulation is not understood") refl refl)
+    (more_lines IsRemark _ _ (doubt_remark d.tag_differs (codes "differs from its tag Stipulation") refl refl)
+    (more_lines IsRemark _ _ (doubt_remark d.result_tag_differs (codes "differs from its tag Result") refl refl)
+    (doubt_remark d.result_differs (codes "differs from its result") refl refl))))
+
+pub head_remark : (e : Entry) (aim : Aim) → AreLines IsRemark (head_line e aim)
+head_remark e aim = more_lines IsRemark (source_line e aim) (doubt_lines aim.doubts) (source_remark e aim) (doubt_remarks aim.doubts)
 
 -- ---- counts
 
@@ -192,14 +217,14 @@ counted_part n tags repeated =
       ),
     )
 
-not_taken_is : (words : List ℕ) → codes "# not taken over:" ++ (words ++ codes "\n") ≡ hashed (codes " not taken over:" ++ words) ++ 10 ∷ []
+not_taken_is : (words : List ℕ) → codes "#! not taken over:" ++ (words ++ codes "\n") ≡ hashed (codes "! not taken over:" ++ words) ++ 10 ∷ []
 not_taken_is words = refl
 
-counts_remark : (words : List ℕ) (none : Bool) → IsPart 480 words → AreLines IsRemark (if none then [] else codes "# not taken over:" ++ (words ++ codes "\n"))
+counts_remark : (words : List ℕ) (none : Bool) → IsPart 480 words → AreLines IsRemark (if none then [] else codes "#! not taken over:" ++ (words ++ codes "\n"))
 counts_remark words true h = no_lines IsRemark
 counts_remark words false h =
     one_line IsRemark _ _ (not_taken_is words)
-    (remark_line _ (wider (16 + 480) 1000 _ (omega arith) (joined 16 480 (codes " not taken over:") words (record { shown = refl; few = omega arith }) h)))
+    (remark_line _ (wider (17 + 480) 1000 _ (omega arith) (joined 17 480 (codes "! not taken over:") words (record { shown = refl; few = omega arith }) h)))
 
 -- ---- places
 
@@ -210,15 +235,16 @@ place_part p =
     (joined 64 73 (decimal p.line) _ (number_part p.line)
     (joined 9 64 (codes ", column ") (decimal p.column) (record { shown = refl; few = omega arith }) (number_part p.column)))
 
-behind_is : (place : List ℕ) → codes "# behind the result: " ++ (place ++ codes "\n") ≡ hashed (codes " behind the result: " ++ place) ++ 10 ∷ []
+behind_is : (place : List ℕ) → codes "#! behind the result: " ++ (place ++ codes "\n") ≡ hashed (codes "! behind the result: " ++ place) ++ 10 ∷ []
 behind_is place = refl
 
-behind_by : (p : Place) (none : Bool) → AreLines IsRemark (if none then [] else codes "# behind the result: " ++ (place_words p ++ codes "\n"))
+behind_by : (p : Place) (none : Bool) → AreLines IsRemark (if none then [] else behind_words p)
+unfolding behind_words
 behind_by p true = no_lines IsRemark
 behind_by p false =
     one_line IsRemark _ _ (behind_is (place_words p))
-    (remark_line _ (wider (20 + 142) 1000 _ (omega arith)
-    (joined 20 142 (codes " behind the result: ") (place_words p) (record { shown = refl; few = omega arith }) (place_part p))))
+    (remark_line _ (wider (21 + 142) 1000 _ (omega arith)
+    (joined 21 142 (codes "! behind the result: ") (place_words p) (record { shown = refl; few = omega arith }) (place_part p))))
 
 behind_remark : (e : Entry) (text : List ℕ) → AreLines IsRemark (behind_line e text)
 unfolding behind_line
@@ -258,17 +284,17 @@ tag_part named.Round = record { shown = refl; few = omega arith }
 tag_part named.White = record { shown = refl; few = omega arith }
 tag_part named.Black = record { shown = refl; few = omega arith }
 
-was_is : (name value : List ℕ) → codes "# " ++ (name ++ (codes " was: " ++ (value ++ codes "\n"))) ≡ hashed (codes " " ++ (name ++ (codes " was: " ++ value)))
+was_is : (name value : List ℕ) → codes "#! " ++ (name ++ (codes " was: " ++ (value ++ codes "\n"))) ≡ hashed (codes "! " ++ (name ++ (codes " was: " ++ value)))
     ++ 10 ∷ []
 was_is name value = simp append_assoc
 
 was_by : (name : TagName) (value : List ℕ) (same : Bool)
-    → AreLines IsRemark (if same then [] else codes "# " ++ (tag_name name ++ (codes " was: " ++ (map remark_byte (take 255 value) ++ codes "\n"))))
+    → AreLines IsRemark (if same then [] else codes "#! " ++ (tag_name name ++ (codes " was: " ++ (map remark_byte (take 255 value) ++ codes "\n"))))
 was_by name value true = no_lines IsRemark
 was_by name value false =
     one_line IsRemark _ _ (was_is (tag_name name) (map remark_byte (take 255 value)))
-    (remark_line _ (wider (1 + (5 + (6 + 255))) 1000 _ (omega arith)
-    (joined 1 (5 + (6 + 255)) (codes " ") _ (record { shown = refl; few = omega arith })
+    (remark_line _ (wider (2 + (5 + (6 + 255))) 1000 _ (omega arith)
+    (joined 2 (5 + (6 + 255)) (codes "! ") _ (record { shown = refl; few = omega arith })
     (joined 5 (6 + 255) (tag_name name) _ (tag_part name)
     (joined 6 255 (codes " was: ") (map remark_byte (take 255 value)) (record { shown = refl; few = omega arith }) (original_part value))))))
 
@@ -296,8 +322,8 @@ remarks_are e t =
 
 -- ---- games without a study
 
-left_is : (a b author words : List ℕ) → (codes "# game " ++ a) ++ (codes ", line " ++ (b ++ (author ++ (codes ": " ++ (words ++ codes "\n\n")))))
-    ≡ (hashed (codes " game " ++ (a ++ (codes ", line " ++ (b ++ (author ++ (codes ": " ++ words)))))) ++ 10 ∷ []) ++ 10 ∷ []
+left_is : (a b author words : List ℕ) → (codes "#! game " ++ a) ++ (codes ", line " ++ (b ++ (author ++ (codes ": " ++ (words ++ codes "\n\n")))))
+    ≡ (hashed (codes "! game " ++ (a ++ (codes ", line " ++ (b ++ (author ++ (codes ": " ++ words)))))) ++ 10 ∷ []) ++ 10 ∷ []
 left_is a b author words = simp append_assoc
 
 two_lines : (t : List ℕ) → IsRemark t → AreLines IsRemark ((t ++ 10 ∷ []) ++ 10 ∷ [])
@@ -339,21 +365,21 @@ pub left_out_is : (e : Entry) (words : List ℕ) → IsPart 100 words → AreLin
 unfolding left_out
 left_out_is e words h =
     as_lines _ _ (left_is (decimal e.number) (decimal e.line) (author_words (tags_of e.text)) words)
-    (two_lines _ (remark_line _ (wider (70 + (71 + (63 + (2 + 100)))) 1000 _ (omega arith)
+    (two_lines _ (remark_line _ (wider (71 + (71 + (63 + (2 + 100)))) 1000 _ (omega arith)
     (game_part e.number (71 + (63 + (2 + 100))) _ (line_part e.line (63 + (2 + 100)) _
     (joined 63 (2 + 100) (author_words (tags_of e.text)) _ (authors (tags_of e.text))
     (joined 2 100 (codes ": ") words (record { shown = refl; few = omega arith }) h)))))))
 
 fault_is : (a place author name symbol : List ℕ)
-    → (codes "# game " ++ a) ++ (codes ", " ++ (place ++ (author ++ (codes ": " ++ (name ++ (symbol ++ codes "\n\n"))))))
-    ≡ (hashed (codes " game " ++ (a ++ (codes ", " ++ (place ++ (author ++ (codes ": " ++ (name ++ symbol))))))) ++ 10 ∷ []) ++ 10 ∷ []
+    → (codes "#! game " ++ a) ++ (codes ", " ++ (place ++ (author ++ (codes ": " ++ (name ++ (symbol ++ codes "\n\n"))))))
+    ≡ (hashed (codes "! game " ++ (a ++ (codes ", " ++ (place ++ (author ++ (codes ": " ++ (name ++ symbol))))))) ++ 10 ∷ []) ++ 10 ∷ []
 fault_is a place author name symbol = simp append_assoc
 
 pub fault_words_are : (e : Entry) (p : Place) (name symbol : List ℕ) → IsPart 20 name → IsPart 44 symbol → AreLines IsRemark (fault_words e p name symbol)
 unfolding fault_words
 fault_words_are e p name symbol h k =
     as_lines _ _ (fault_is (decimal e.number) (place_words p) (author_words (tags_of e.text)) name symbol)
-    (two_lines _ (remark_line _ (wider (70 + (2 + (142 + (63 + (2 + (20 + 44)))))) 1000 _ (omega arith)
+    (two_lines _ (remark_line _ (wider (71 + (2 + (142 + (63 + (2 + (20 + 44)))))) 1000 _ (omega arith)
     (game_part e.number (2 + (142 + (63 + (2 + (20 + 44))))) _
     (joined 2 (142 + (63 + (2 + (20 + 44)))) (codes ", ") _ (record { shown = refl; few = omega arith })
     (joined 142 (63 + (2 + (20 + 44))) (place_words p) _ (place_part p)
@@ -496,7 +522,7 @@ fen_words_part text fen.EnPassantImpossible = fen_part fen.EnPassantImpossible
 fen_words_part text fen.Clock = fen_part fen.Clock
 fen_words_part text fen.MoveNumber = fen_part fen.MoveNumber
 
-last_is_line : (a b : List ℕ) → codes "# games " ++ (a ++ (codes ", studies " ++ (b ++ codes "\n"))) ≡ hashed (codes " games "
+last_is_line : (a b : List ℕ) → codes "#! games " ++ (a ++ (codes ", studies " ++ (b ++ codes "\n"))) ≡ hashed (codes "! games "
     ++ (a ++ (codes ", studies " ++ b))) ++ 10 ∷ []
 last_is_line a b = simp append_assoc
 
@@ -504,19 +530,56 @@ pub last_is : (games studies : ℕ) → AreLines IsRemark (last_line games studi
 unfolding last_line
 last_is games studies =
     one_line IsRemark _ _ (last_is_line (decimal games) (decimal studies))
-    (remark_line _ (wider (7 + (64 + (10 + 64))) 1000 _ (omega arith)
-    (joined 7 (64 + (10 + 64)) (codes " games ") _ (record { shown = refl; few = omega arith })
+    (remark_line _ (wider (8 + (64 + (10 + 64))) 1000 _ (omega arith)
+    (joined 8 (64 + (10 + 64)) (codes "! games ") _ (record { shown = refl; few = omega arith })
     (joined 64 (10 + 64) (decimal games) _ (number_part games)
     (joined 10 64 (codes ", studies ") (decimal studies) (record { shown = refl; few = omega arith }) (number_part studies))))))
 
-tail_is_line : (a : List ℕ) → codes "# a tail: moves before " ++ (a ++ codes "; its position is another program's word\n")
-    ≡ hashed (codes " a tail: moves before " ++ (a ++ codes "; its position is another program's word")) ++ 10 ∷ []
+tail_is_line : (a : List ℕ) → codes "#! a tail: moves before " ++ (a ++ codes "; its position is another program's word\n")
+    ≡ hashed (codes "! a tail: moves before " ++ (a ++ codes "; its position is another program's word")) ++ 10 ∷ []
 tail_is_line a = simp append_assoc
 
 pub tail_is : (skipped : ℕ) → AreLines IsRemark (tail_line skipped)
 unfolding tail_line
 tail_is skipped =
     one_line IsRemark _ _ (tail_is_line (decimal skipped))
-    (remark_line _ (wider (22 + (64 + 40)) 1000 _ (omega arith)
-    (joined 22 (64 + 40) (codes " a tail: moves before ") _ (record { shown = refl; few = omega arith })
+    (remark_line _ (wider (23 + (64 + 40)) 1000 _ (omega arith)
+    (joined 23 (64 + 40) (codes "! a tail: moves before ") _ (record { shown = refl; few = omega arith })
     (joined 64 40 (decimal skipped) (codes "; its position is another program's word") (number_part skipped) (record { shown = refl; few = omega arith })))))
+
+-- ---- games without a stipulation, and with two tags of one name
+
+pub unaimed_is : (e : Entry) (s : Sources) → AreLines IsRemark (left_out e (unaimed_words s))
+unfolding unaimed_words
+unaimed_is e s = left_out_is e _ (by s.comment_unread s.tag_unread)
+  where
+    by : (comment tag : Bool)
+        → IsPart 100 (if comment then codes "StipulationUnread at its comment"
+        else (if tag then codes "StipulationUnread at its tag Stipulation" else codes "NoStipulation"))
+    by true tag = record { shown = refl; few = omega arith }
+    by false true = record { shown = refl; few = omega arith }
+    by false false = record { shown = refl; few = omega arith }
+
+abbrev IsNamePart : Option (List ℕ) → Type 0
+IsNamePart None = Unit {0}
+IsNamePart (Some name) = IsPart 6 name
+
+twice_by : (fen white result : Bool)
+    → IsNamePart (if fen then Some (codes "FEN") else (if white then Some (codes "White") else (if result then Some (codes "Result") else None)))
+twice_by true white result = record { shown = refl; few = omega arith }
+twice_by false true result = record { shown = refl; few = omega arith }
+twice_by false false true = record { shown = refl; few = omega arith }
+twice_by false false false = tt
+
+repeated_part : (tags : List Pair) (name : List ℕ) → repeated_name tags ≡ Some name → IsPart 6 name
+unfolding repeated_name
+repeated_part tags name e =
+    subst IsNamePart e
+    (twice_by (nat_le 2 (named_count (codes "FEN") tags)) (nat_le 2 (named_count (codes "White") tags)) (nat_le 2 (named_count (codes "Result") tags)))
+
+pub repeated_is : (e : Entry) (tags : List Pair) (name : List ℕ) → repeated_name tags ≡ Some name
+    → AreLines IsRemark (left_out e (repeated_words name))
+unfolding repeated_words
+repeated_is e tags name is =
+    left_out_is e _ (wider (12 + 6) 100 _ (omega arith)
+    (joined 12 6 (codes "TagTwice at ") name (record { shown = refl; few = omega arith }) (repeated_part tags name is)))

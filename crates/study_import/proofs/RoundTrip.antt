@@ -40,7 +40,7 @@ use Rattle.study_games.specs.Ascii.{ascii_of, spelled_behind, spelled_in, spelle
 use Rattle.study_games.specs.Words.{is_space as is_blank_space, without_spaces}
 use Rattle.study_games.specs.Symbols.{without_end, said_of}
 use Rattle.study_games.specs.Tokens.{Lexed, lexed_token, is_inside, blank, comment, symbol}
-use Rattle.study_games.specs.Header.{Pair, on, ended as header_ended, tags_of, header_fault, value_of, unescape}
+use Rattle.study_games.specs.Header.{Pair, on, ended as header_ended, tags_of, header_fault, unescape}
 use Rattle.study_games.specs.declared.symbols.Outcome.{Outcome}
 use Rattle.study_games.specs.declared.symbols.Outcome.TheVariants.{WhiteWins, BlackWins, Drawn}
 use Rattle.study_games.specs.declared.symbols.Said.{Said}
@@ -49,7 +49,7 @@ use Rattle.study_games.proofs.Lexing.{Stops, is_plain_symbol, symbol_read}
 use Rattle.study_import.specs.declared.game.token_effects.Reason.{Reason}
 use Rattle.study_import.specs.declared.game.movetext.MovesFault.{MovesFault}
 use Rattle.study_import.specs.declared.game.aims.AimSource.TheVariants.{Comment}
-use Rattle.study_import.specs.Aims.{aim_in}
+use Rattle.study_import.specs.Aims.{aim_in, outcome_wanted, doubts_of, aim_by_sources}
 use Rattle.study_import.specs.Lines.{Lines}
 use Rattle.study_import.specs.declared.game.notes.Notes.{Notes}
 use Rattle.study_import.specs.Taken.{taken_symbol}
@@ -58,8 +58,9 @@ use Rattle.study_import.specs.declared.game.numbering.Numbering.{Numbering}
 use Rattle.study_import.specs.Numbering.{said_numbered}
 use Rattle.study_import.specs.Movetext.{Ended, goes_on, on_numbered, on_token}
 use Rattle.study_import.specs.Behind.{moves_or, moves_left, moves_in, ended_unless, to_the_end}
-use Rattle.study_import.specs.Blocks.{no_moves, game_read, fen_in, printable_byte, tag_text, tag_value_text, text_or_unknown as import_text, aim_of_game}
-use Rattle.study_import.specs.Meant.{tag_texts, study_aimed, study_read, study_begun, study_with_fen, study_behind_header, study_in}
+use Rattle.study_import.specs.Blocks.{no_moves, game_read, fen_in, printable_byte, tag_text, tag_value_text, text_or_unknown as import_text, sources_of, aim_of_game}
+use Rattle.study_import.specs.Blocks.{repeated_name}
+use Rattle.study_import.specs.Meant.{tag_texts, study_aimed, study_read, study_begun, study_unless_repeated, study_behind_header, study_in}
 use Rattle.study_import.specs.Laws.{IsCounted}
 use Rattle.study_import.specs.Written.{without_marks, IsTagged, CanBeMade, unmarked_study, AreReadBack}
 use Rattle.study_import.proofs.Ink.{Ink, ink_of, all_print, decimal_ink}
@@ -74,7 +75,7 @@ use Rattle.study_import.proofs.TreeRead.{on_tree, restated, inside_append, side_
 use Rattle.study_import.proofs.TreeRead.{Node, Limits, follow_read}
 use Rattle.study_import.proofs.Singles.{movetext_runs}
 use Rattle.study_import.proofs.OpeningRead.{aim_read}
-use Rattle.study_import.proofs.HeaderRead.{value_again, Named, written, AllNamed, pairs_of, lines_read, tags_from, fault_from, fault_step, feed_lexed}
+use Rattle.study_import.proofs.HeaderRead.{value_again, Named, written, AllNamed, pairs_of, lines_read, tags_from, fault_from, tags_step, fault_step, feed_lexed}
 
 -- ---- texts of tags
 
@@ -497,9 +498,9 @@ moves_end s c fresh =
     let g = no_moves s.start in
     let t = lines_text (words (movetext s)) ++ 10 ∷ [] in
     let o = opened s c in
-    let next : GameRead = record { reading = g.reading; notes = with_comment none_yet (aim_in o.words) } in
+    let next : GameRead = record { reading = g.reading; notes = with_comment none_yet o.words } in
     let bs = o.words ++ (125 ∷ o.back) in
-    let at : At (start_study s.start) [] 0 [] (Some s.stipulation) next = record { study = refl; lines = refl; opening = o.aim; had = refl; numbers = tt } in
+    let at : At (start_study s.start) [] 0 [] (Some s.stipulation) next = record { study = refl; lines = refl; opening = o.aim; had = refl; numbers = (tt, refl) } in
     let tree = tree_ends s c (Some s.stipulation) o.back o.rest next at false in
     record {
       ended_by = tree.ended_by;
@@ -510,38 +511,45 @@ moves_end s c fresh =
       quiet = tree.quiet;
     }
 
--- ---- no fault of the header
+-- ---- neither a fault nor a tag after the header
 
-symbol_fault : (fresh : Bool) (b : ℕ) (w rest : List ℕ) → begins_symbol b ≡ true → list_all is_plain_symbol (b ∷ w) ≡ true → Stops is_symbol_byte rest
-    → fault_from fresh (b ∷ (w ++ rest)) ≡ None
-symbol_fault fresh b w rest begins all stops = fault_step fresh b (w ++ rest) rest (symbol (b ∷ w)) header_ended
-    (symbol_lexed fresh b w rest begins all stops) refl
+abbrev HasNone : Bool → List ℕ → Type 0
+HasNone fresh t = (fault_from fresh t ≡ None) × (tags_from fresh t ≡ [])
 
-gap_fault : (fresh : Bool) (b : ℕ) (bs : List ℕ) → IsGap b → (f : Bool) × (fault_from fresh (b ∷ bs) ≡ fault_from f bs)
-gap_fault fresh b bs gap = (b == 10, fault_step fresh b bs bs blank (on None bs) (gap_lexed b bs gap fresh) refl)
+symbol_none : (fresh : Bool) (b : ℕ) (w rest : List ℕ) → begins_symbol b ≡ true → list_all is_plain_symbol (b ∷ w) ≡ true → Stops is_symbol_byte rest
+    → HasNone fresh (b ∷ (w ++ rest))
+symbol_none fresh b w rest begins all stops =
+    let lexed = symbol_lexed fresh b w rest begins all stops in (
+      fault_step fresh b (w ++ rest) rest (symbol (b ∷ w)) header_ended lexed refl,
+      tags_step fresh b (w ++ rest) rest (symbol (b ∷ w)) header_ended lexed refl,
+    )
 
-digits_fault : (fresh : Bool) (ds rest : List ℕ) → list_all is_digit ds ≡ true → 0 < length ds → Stops is_symbol_byte rest
-    → fault_from fresh (ds ++ rest) ≡ None
-digits_fault fresh [] rest h some stops = absurd (omega arith)
-digits_fault fresh (d ∷ ds) rest h some stops =
-    symbol_fault fresh d ds rest (begins_digit d (and_parts (is_digit d) (list_all is_digit ds) h).0) (digits_symbol (d ∷ ds) h) stops
+gap_none : (fresh : Bool) (b : ℕ) (bs : List ℕ) → IsGap b → (f : Bool) × (HasNone f bs → HasNone fresh (b ∷ bs))
+gap_none fresh b bs gap =
+    let lexed = gap_lexed b bs gap fresh in
+    (b == 10, λ h. (fault_step fresh b bs bs blank (on None bs) lexed refl ∙ h.0, tags_step fresh b bs bs blank (on None bs) lexed refl ∙ h.1))
+
+digits_none : (fresh : Bool) (ds rest : List ℕ) → list_all is_digit ds ≡ true → 0 < length ds → Stops is_symbol_byte rest → HasNone fresh (ds ++ rest)
+digits_none fresh [] rest h some stops = absurd (omega arith)
+digits_none fresh (d ∷ ds) rest h some stops =
+    symbol_none fresh d ds rest (begins_digit d (and_parts (is_digit d) (list_all is_digit ds) h).0) (digits_symbol (d ∷ ds) h) stops
 
 dots_stop : (side : Side) (rest : List ℕ) → Stops is_symbol_byte (move_dots side ++ rest)
 dots_stop White rest = refl
 dots_stop Black rest = refl
 
 -- the text after the opening comment begins with a number or with the result
-tree_fault : (s : Study Mark) (st : Start) (f : Forest Mark) (t : List ℕ) (fresh : Bool) → Same (continuation_text st f ++ Ending s) t
-    → fault_from fresh t ≡ None
+tree_none : (s : Study Mark) (st : Start) (f : Forest Mark) (t : List ℕ) (fresh : Bool) → Same (continuation_text st f ++ Ending s) t → HasNone fresh t
 unfolding words_of_move
-tree_fault s st none t fresh h =
+tree_none s st none t fresh h =
     let result = result_text s.start.position.to_move s.tree.label.value in
     let r = result_is s.start.position.to_move s.tree.label.value in
     let a = space_cut (result ++ 10 ∷ 10 ∷ []) t h in
     let w = word_cut result (10 ∷ 10 ∷ []) a.back r.ink a.rest in
-    let gap = gap_fault fresh a.byte a.back a.gap in
-    ap (fault_from fresh) a.text ∙ gap.1 ∙ ap (fault_from gap.0) (w.text ∙ ap (λ (x : List ℕ). x ++ w.back) r.text)
-    ∙ symbol_fault gap.0 r.first r.more w.back r.begins r.all (feed_stop w.back w.rest)
+    let gap = gap_none fresh a.byte a.back a.gap in
+    subst (HasNone fresh) (sym a.text)
+    (gap.1 (subst (HasNone gap.0) (sym (w.text ∙ ap (λ (x : List ℕ). x ++ w.back) r.text))
+    (symbol_none gap.0 r.first r.more w.back r.begins r.all (feed_stop w.back w.rest))))
   where
     byte_stop : (y : ℕ) → SameByte 10 y → is_symbol_byte y ≡ false
     byte_stop y (inl e) = rw e refl
@@ -550,7 +558,7 @@ tree_fault s st none t fresh h =
     feed_stop : (t : List ℕ) → Same (10 ∷ 10 ∷ []) t → Stops is_symbol_byte t
     feed_stop [] h = tt
     feed_stop (b ∷ bs) h = byte_stop b h.0
-tree_fault s st (more m mark b r) t fresh h =
+tree_none s st (more m mark b r) t fresh h =
     let n = decimal st.number in
     let rest = codes " " ++ (move_text st.position m ++ (glyph_text mark.on_move ++ (codes " " ++ comment_text (other_side st.position.to_move) mark))) in
     let tail = move_dots st.position.to_move ++ (rest ++ ((variations st r ++ continuation_text (start_after st m) b) ++ Ending s)) in
@@ -559,10 +567,11 @@ tree_fault s st (more m mark b r) t fresh h =
     let w = word_cut n tail a.back (decimal_ink st.number) a.rest in
     let d = word_cut (move_dots st.position.to_move) (rest ++ ((variations st r ++ continuation_text (start_after st m) b) ++ Ending s)) w.back
     (dots_ink st.position.to_move) w.rest in
-    let gap = gap_fault fresh a.byte a.back a.gap in
-    ap (fault_from fresh) a.text ∙ gap.1 ∙ ap (fault_from gap.0) w.text
-    ∙ digits_fault gap.0 n w.back (decimal_digits st.number) (decimal_some st.number)
-    (subst (λ (x : List ℕ). Stops is_symbol_byte x) (sym d.text) (dots_stop st.position.to_move d.back))
+    let gap = gap_none fresh a.byte a.back a.gap in
+    subst (HasNone fresh) (sym a.text)
+    (gap.1 (subst (HasNone gap.0) (sym w.text)
+    (digits_none gap.0 n w.back (decimal_digits st.number) (decimal_some st.number)
+    (subst (λ (x : List ℕ). Stops is_symbol_byte x) (sym d.text) (dots_stop st.position.to_move d.back)))))
   where
     dots_ink : (side : Side) → Ink (move_dots side)
     dots_ink White = ink_of (codes ".") refl
@@ -571,15 +580,21 @@ tree_fault s st (more m mark b r) t fresh h =
     regroup : (a b c d e : List ℕ) → (32 ∷ (((a ++ b) ++ c) ++ d)) ++ e ≡ 32 ∷ (a ++ (b ++ (c ++ (d ++ e))))
     regroup a b c d e = simp append_assoc
 
-lines_fault : (s : Study Mark) → CanBeMade s → (fresh : Bool) → fault_from fresh (text_behind s) ≡ None
+lines_none : (s : Study Mark) → CanBeMade s → (fresh : Bool) → HasNone fresh (text_behind s)
 unfolding text_behind
-lines_fault s c fresh =
+lines_none s c fresh =
     let t = lines_text (words (movetext s)) ++ 10 ∷ [] in
     let o = opened s c in
     let bs = o.words ++ (125 ∷ o.back) in
-    fault_step fresh 10 t t blank (on None t) (feed_lexed t fresh) refl ∙ ap (fault_from true) o.text
-    ∙ fault_step true 123 bs o.back (comment o.words) (on None o.back) (lexed_brace bs true ∙ comment_is o.words o.back o.inside) refl
-    ∙ tree_fault s s.start s.tree.below o.back false o.rest
+    let tree = tree_none s s.start s.tree.below o.back false o.rest in
+    let brace = lexed_brace bs true ∙ comment_is o.words o.back o.inside in
+    let all : HasNone true t = subst (HasNone true) (sym o.text) (
+      fault_step true 123 bs o.back (comment o.words) (on None o.back) brace refl ∙ tree.0,
+      tags_step true 123 bs o.back (comment o.words) (on None o.back) brace refl ∙ tree.1,
+    ) in (
+      fault_step fresh 10 t t blank (on None t) (feed_lexed t fresh) refl ∙ all.0,
+      tags_step fresh 10 t t blank (on None t) (feed_lexed t fresh) refl ∙ all.1,
+    )
 
 -- ---- the whole
 
@@ -588,9 +603,15 @@ printed_same [] h = refl
 printed_same (b ∷ bs) h = let a = and_parts (is_printable b) (list_all is_printable bs) h in rw a.0 (ap (λ (x : List ℕ). b ∷ x) (printed_same bs a.1))
 
 by_comment : (s : Study Mark) (tags : List Pair) (side : Side) (n : Notes) → n.opening ≡ Some s.stipulation
-    → aim_of_game None tags side n ≡ Some (record { stipulation = s.stipulation; source = Comment })
-unfolding aim_of_game
+    → aim_of_game None tags side n
+    ≡ Some (record { stipulation = s.stipulation; source = Comment; doubts = doubts_of (sources_of None tags side n) (outcome_wanted s.stipulation) })
+unfolding aim_by_sources sources_of
 by_comment s tags side n e = rw e refl
+
+-- no name stands twice in the header
+repeated_none : (s : Study Mark) → repeated_name (pairs_of (header_of s) ++ []) ≡ None
+unfolding repeated_name
+repeated_none s = refl
 
 tags_again : (s : Study Mark) → CanBeMade s → (rest : List Pair) → tag_texts (pairs_of (header_of s) ++ rest) ≡ (unmarked_study s).tags
 tags_again s c rest =
@@ -610,22 +631,24 @@ unfolding study_in tags_of header_fault game_read
 read_back s c =
     let lines = lines_read (header_of s) (text_behind s) true (no_moves s.start) (header_named s c) in
     let text = header_is s in
-    let fault : header_fault (pgn_text s) ≡ None = ap (fault_from true) text ∙ lines.fault ∙ lines_fault s c lines.then_fresh in
-    let tags : tags_of (pgn_text s) ≡ pairs_of (header_of s) ++ tags_from lines.then_fresh (text_behind s) = ap (tags_from true) text ∙ lines.tags in
+    let behind = lines_none s c lines.then_fresh in
+    let fault : header_fault (pgn_text s) ≡ None = ap (fault_from true) text ∙ lines.fault ∙ behind.0 in
+    let all = pairs_of (header_of s) ++ [] in
+    let tags : tags_of (pgn_text s) ≡ all = ap (tags_from true) text ∙ lines.tags ∙ ap (λ (ps : List Pair). pairs_of (header_of s) ++ ps) behind.1 in
     let moves = moves_end s c lines.then_fresh in
     let read : game_read (pgn_text s) s.start ≡ Ok moves.ended_by =
     ap (λ (t : List ℕ). to_the_end (reads true t (no_moves s.start))) text ∙ ap to_the_end (lines.moves refl ∙ moves.is)
     ∙ ap (ended_unless moves.ended_by) moves.quiet in
     let start : start_of (fen_in (flat_map with_backslash (fen_text s.start))) ≡ Ok s.start = ap start_of (fen_again s c)
     ∙ start_again s.start c.valid c.clock c.positive c.number in
-    let all = pairs_of (header_of s) ++ tags_from lines.then_fresh (text_behind s) in
     ap (study_behind_header None (pgn_text s)) fault
-    ∙ ap (λ (ps : List Pair). study_with_fen None (pgn_text s) (value_of (codes "FEN") ps)) tags
+    ∙ ap (λ (ps : List Pair). study_unless_repeated None (pgn_text s) ps (repeated_name ps)) tags
+    ∙ ap (study_unless_repeated None (pgn_text s) all) (repeated_none s)
     ∙ ap (study_begun None (pgn_text s)) start
     ∙ ap (λ (ps : List Pair). study_read None ps s.start (game_read (pgn_text s) s.start)) tags
     ∙ ap (study_read None all s.start) read
     ∙ ap (study_aimed s.start all moves.ended_by) (by_comment s all s.start.position.to_move moves.ended_by.game.notes moves.opening)
     ∙ ap (λ (ts : List (Option (List ℕ))). Some
     (record { start = s.start; stipulation = s.stipulation; tags = ts; tree = moves.ended_by.game.reading.study.tree }))
-    (tags_again s c (tags_from lines.then_fresh (text_behind s)))
+    (tags_again s c [])
     ∙ ap (λ (p : PlainStudy). Some (record { start = s.start; stipulation = s.stipulation; tags = (unmarked_study s).tags; tree = p.tree })) moves.study

@@ -41,14 +41,14 @@ use Rattle.study_import.specs.Movetext.{Ended, read_moves}
 use Rattle.study_import.specs.Reading.{insert_line}
 use Rattle.study_import.specs.Insertions.{Insertion, made_by, AllAccepted, AllReadAgain, lines_for}
 use Rattle.study_import.specs.Blocks.{Entry, Block, no_study, left_out, token_name, Reported, reported_of, head_line, remark_lines, position_line}
-use Rattle.study_import.specs.Blocks.{stipulation_line, tag_line, tag_value_text, six_names, study_lines, block_lines, aim_of_game, aimed_block}
-use Rattle.study_import.specs.Blocks.{stopped_block, read_block, no_moves, game_read, fen_in, start_block, fen_block, header_block, sized_block}
+use Rattle.study_import.specs.Blocks.{stipulation_line, tag_line, tag_value_text, six_names, study_lines, block_lines, sources_of, aim_of_game, aimed_block}
+use Rattle.study_import.specs.Blocks.{stopped_block, read_block, no_moves, game_read, fen_in, start_block, fen_block, repeated_name, single_block, header_block, sized_block}
 use Rattle.study_import.specs.Blocks.{block_of, tail_of, tail_line, under_remark, block_or_tail, block_by, place_in, last_line, is_chosen, Tally}
 use Rattle.study_import.specs.Blocks.{tally_with_game, reported_text, blocks}
 use Rattle.study_import.specs.Tails.{Tail, position_text}
 use Rattle.study_import.specs.Documents.{Document, empty, placed, composed, with_start, after_position, new_study, after_stipulate, unless_refused}
 use Rattle.study_import.specs.Documents.{after_move, after_line, after_lines}
-use Rattle.study_import.specs.Meant.{tag_texts, study_aimed, study_read, study_begun, study_with_fen, study_behind_header, study_in, study_of_game}
+use Rattle.study_import.specs.Meant.{tag_texts, study_aimed, study_read, study_begun, study_with_fen, study_unless_repeated, study_behind_header, study_in, study_of_game}
 use Rattle.study_import.specs.Meant.{study_of_tail, study_by}
 use Rattle.study_import.specs.Laws.{IsCounted, IsGiven, asks_pgn, IsNoPgn, IsWritten, HasSixTags, document_then, document_behind}
 use Rattle.study_import.specs.Laws.{IsShort as IsShortLine, AreRead, AreScriptsRead}
@@ -67,7 +67,7 @@ use Rattle.study_import.proofs.CommandLines.{side_words, goal_words, stipulate_w
 use Rattle.study_import.proofs.CommandLines.{stipulate_prints, insert_asked, insert_prints, tag_asked, tag_prints, pgn_asked, empty_asked}
 use Rattle.study_import.proofs.CommandLines.{position_prints}
 use Rattle.study_import.proofs.Remarks.{shows, IsLine, IsRemark, fed, AreLines, each_append, IsPart, number_part, joined, tag_part, head_remark}
-use Rattle.study_import.proofs.Remarks.{remarks_are, left_out_is, fault_words_are, token_part, stopped_lines, fen_words_part, last_is, tail_is}
+use Rattle.study_import.proofs.Remarks.{remarks_are, left_out_is, unaimed_is, repeated_is, fault_words_are, token_part, stopped_lines, fen_words_part, last_is, tail_is}
 
 -- ---- lines are found as they were written
 
@@ -493,15 +493,15 @@ block_reads e start aim t is tree r counted h k made inserts =
 module _ (given : Option Stipulation) (g : IsGiven given) (e : Entry) where
   aimed_reads : (start : Start) (x : Ended) (aim : Option Aim) → IsStart start → game_read e.text start ≡ Ok x
       → aim_of_game given (tags_of e.text) start.position.to_move x.game.notes ≡ aim
-      → Reads (aimed_block e start (reported_of x) aim) (study_aimed start (tags_of e.text) x aim)
+      → Reads (aimed_block e start (reported_of x) (sources_of given (tags_of e.text) start.position.to_move x.game.notes) aim)
+      (study_aimed start (tags_of e.text) x aim)
   unfolding game_read
-  aimed_reads start x None r is a = remarks_read (left_out e (codes "NoStipulation"))
-      (left_out_is e (codes "NoStipulation") (record { shown = refl; few = omega arith }))
+  aimed_reads start x None r is a = remarks_read _ (unaimed_is e (sources_of given (tags_of e.text) start.position.to_move x.game.notes))
   aimed_reads start x (Some aim) r is a =
       let read = end_is (read_moves (length e.text) true e.text (no_moves start)) x is in
       let l = moves_lead (Unit {0}) (length e.text) true e.text (no_moves start) x read in
       let counted = aim_counted given (tags_of e.text) start.position.to_move x.game.notes aim g
-      (opening_given (length e.text) true e.text (no_moves start) x tt read) a in
+      (opening_given (length e.text) true e.text (no_moves start) x (tt, tt) read) a in
       block_reads e start aim (reported_of x) l.insertions x.game.reading.study r counted l.accepted
       (read_again (Unit {0}) (no_moves start).reading.study l.insertions r.valid tt l.accepted) l.study l.lines
 
@@ -518,16 +518,22 @@ module _ (given : Option Stipulation) (g : IsGiven given) (e : Entry) where
   fen_reads None = remarks_read _ (left_out_is e (codes "left out: no FEN, so 32 men") (record { shown = refl; few = omega arith }))
   fen_reads (Some value) = start_reads (fen_in value) (start_of (fen_in value)) refl
 
+  single_reads : (tags : List Pair) (name : Option (List ℕ)) → repeated_name tags ≡ name
+      → Reads (single_block given e tags name) (study_unless_repeated given e.text tags name)
+  single_reads tags (Some name) is = remarks_read _ (repeated_is e tags name is)
+  single_reads tags None is = fen_reads (value_of (codes "FEN") tags)
+
   no_tag : (tags : List Pair) (none : Bool) → (length tags == 0) ≡ none
-      → Reads (if none then no_study (left_out e (codes "left out: no tags")) else fen_block given e (value_of (codes "FEN") tags))
-      (study_with_fen given e.text (value_of (codes "FEN") tags))
+      → Reads (if none then no_study (left_out e (codes "left out: no tags")) else single_block given e tags (repeated_name tags))
+      (study_unless_repeated given e.text tags (repeated_name tags))
+  unfolding repeated_name
   no_tag [] true is = remarks_read _ (left_out_is e (codes "left out: no tags") (record { shown = refl; few = omega arith }))
-  no_tag [] false is = fen_reads None
+  no_tag [] false is = single_reads [] (repeated_name []) refl
   no_tag (t ∷ ts) true is = absurd (ne_length t ts is)
     where
       ne_length : (t : Pair) (ts : List Pair) → (length (t ∷ ts) == 0) ≡ true → ⊥
       ne_length t ts h = absurd (let zero_is = eqb-true (length (t ∷ ts)) 0 h in omega arith)
-  no_tag (t ∷ ts) false is = fen_reads (value_of (codes "FEN") (t ∷ ts))
+  no_tag (t ∷ ts) false is = single_reads (t ∷ ts) (repeated_name (t ∷ ts)) refl
 
   header_reads : (fault : Option HeaderFault) → Reads (header_block given e fault) (study_behind_header given e.text fault)
   header_reads (Some fault) =

@@ -147,7 +147,7 @@ module _ (s : PlainStudy) (path : List ℕ) (from : ℕ) (ws : List Waiting) (o 
   dots_stop Black rest = refl
 
   digits_pass : (ds rest : List ℕ) → list_all is_digit ds ≡ true → 0 < length ds → Stops is_symbol_byte rest
-      → ((n : Numbering) → IsFirst s.start n.first → Fits s.start (length path) n ds rest) → Passes (ds ++ rest) rest
+      → ((n : Numbering) → IsFirst s.start n → Fits s.start (length path) n ds rest) → Passes (ds ++ rest) rest
   digits_pass [] rest h some stops fits = absurd (omega arith)
   digits_pass (d ∷ ds) rest h some stops fits =
       λ g at. let f = fits g.notes.numbering at.numbers in

@@ -25,7 +25,7 @@ use Rattle.study_games.specs.Bytes.{is_blank, is_letter, is_digit, is_symbol_byt
 use Rattle.study_games.specs.Tokens.{front, behind}
 use Rattle.study_games.specs.Words.{first_word, trim}
 use Rattle.study_games.specs.Games.{Game, one_more}
-use Rattle.study_games.specs.Header.{Pair, tags_of, header_fault, value_of, unescape}
+use Rattle.study_games.specs.Header.{Pair, tags_of, header_fault, value_of, named_count, unescape}
 use Rattle.study_games.specs.Ascii.{spelled_out, short_text}
 use Rattle.study_games.specs.declared.header.HeaderFault.{HeaderFault}
 use Rattle.study_games.specs.declared.symbols.Outcome.{Outcome}
@@ -41,14 +41,15 @@ use Rattle.study_import.specs.declared.game.movetext.MovesFault.{MovesFault}
 use Rattle.study_import.specs.declared.game.movetext.Stop.{Stop}
 use Rattle.study_import.specs.declared.game.movetext.Stop.TheVariants as stop
 use Rattle.study_import.specs.declared.game.aims.Aim.{Aim}
-use Rattle.study_import.specs.declared.game.aims.AimSource.TheVariants.{Comment, StipulationTag, ResultTag, Result as EndResult, Given}
+use Rattle.study_import.specs.declared.game.aims.Doubts.{Doubts}
+use Rattle.study_import.specs.declared.game.aims.Sources.{Sources}
 use Rattle.study_import.specs.declared.game.notes.Notes.{Notes}
 use Rattle.study_import.specs.declared.block.Reported.{Reported as ReportedRead}
 use Rattle.study_import.specs.declared.counts.Count.{Count}
 use Rattle.study_import.specs.declared.importer.Choice.{Choice}
 use Rattle.study_import.specs.declared.places.Place.{Place}
 use Rattle.study_import.specs.declared.places.Entry.{Entry as EntryRead}
-use Rattle.study_import.specs.Aims.{from_source, or_aim, aim_of_result, aim_of_tag, outcome_of_tag, source_words}
+use Rattle.study_import.specs.Aims.{or_stipulation, signed_by, aim_stated, is_unread_tag, outcome_of_tag, aim_by_sources, unaimed_words, source_words}
 use Rattle.study_import.specs.Notes.{GameRead, none_yet}
 use Rattle.study_import.specs.Taken.{reading_of}
 use Rattle.study_import.specs.Movetext.{Ended, read_moves}
@@ -128,7 +129,7 @@ symbol_words other text = []
 -- ---- lines of remarks
 
 abbrev pub game_words : ℕ → List ℕ
-game_words number = codes "# game " ++ decimal number
+game_words number = codes "#! game " ++ decimal number
 
 -- the text of a tag in the script
 abbrev pub tag_text : List ℕ → List ℕ
@@ -150,7 +151,7 @@ author_of (Some value) = name_words (tag_text (unescape value))
 unfoldable pub author_words : List Pair → List ℕ
 author_words tags = author_of (value_of (tag_name tag_named.White) tags)
 
--- `# game N, line L (AUTHOR): WORDS`, and an empty line
+-- `#! game N, line L (AUTHOR): WORDS`, and an empty line
 unfoldable pub left_out : Entry → List ℕ → List ℕ
 left_out e words =
     game_words e.number ++ (codes ", line " ++ (decimal e.line ++ (author_words (tags_of e.text) ++ (codes ": " ++ (words ++ codes "\n\n")))))
@@ -159,7 +160,7 @@ left_out e words =
 unfoldable pub place_words : Place → List ℕ
 place_words p = codes "line " ++ (decimal p.line ++ (codes ", column " ++ decimal p.column))
 
--- `# game N, line L, column C (AUTHOR): NAME at SYMBOL`, and an empty line
+-- `#! game N, line L, column C (AUTHOR): NAME at SYMBOL`, and an empty line
 unfoldable pub fault_words : Entry → Place → List ℕ → List ℕ → List ℕ
 fault_words e p name symbol =
     game_words e.number ++ (codes ", " ++ (place_words p ++ (author_words (tags_of e.text) ++ (codes ": " ++ (name ++ (symbol ++ codes "\n\n"))))))
@@ -190,7 +191,7 @@ counts_words first [] = []
 counts_words first (c ∷ cs) = count_words first c.0 c.1 ++ counts_words (first && c.1 == 0) cs
 
 abbrev pub counts_line : List ℕ → List ℕ
-counts_line words = if length words == 0 then [] else codes "# not taken over:" ++ (words ++ codes "\n")
+counts_line words = if length words == 0 then [] else codes "#! not taken over:" ++ (words ++ codes "\n")
 
 -- tags that a study does not have, and repeated tags
 abbrev pub known_names : List (List ℕ)
@@ -223,11 +224,13 @@ unfoldable pub counted_words : Notes → ℕ → ℕ → List ℕ
 counted_words n tags repeated =
     counts_words true ((codes "comments", n.comments) ∷ (codes "NAGs", n.asides) ∷ (codes "tags", tags) ∷ move_counts n repeated)
 
+-- `#! behind the result: line L, column C`
+unfoldable pub behind_words : Place → List ℕ
+behind_words p = codes "#! behind the result: " ++ (place_words p ++ codes "\n")
+
 -- text after the result, if it has no moves, is ignored, and reported by its place
 unfoldable pub behind_line : Entry → List ℕ → List ℕ
-behind_line e text =
-    if length (behind is_blank text) == 0 then []
-    else codes "# behind the result: " ++ (place_words (place_in e (length (behind is_blank text))) ++ codes "\n")
+behind_line e text = if length (behind is_blank text) == 0 then [] else behind_words (place_in e (length (behind is_blank text)))
 
 -- ---- tags
 
@@ -238,11 +241,11 @@ six_names = tag_named.Event ∷ tag_named.Site ∷ tag_named.Date ∷ tag_named.
 abbrev pub remark_byte : ℕ → ℕ
 remark_byte b = if nat_le b 31 || b == 127 then 32 else b
 
--- `# NAME was: VALUE`, if the text differs from the value without spaces at its ends; at most 255 bytes of it
+-- `#! NAME was: VALUE`, if the text differs from the value without spaces at its ends; at most 255 bytes of it
 abbrev pub was_words : TagName → List ℕ → List ℕ → List ℕ
 was_words name value text =
     if bytes_eq text (trim value) then []
-    else codes "# " ++ (tag_name name ++ (codes " was: " ++ (map remark_byte (take 255 value) ++ codes "\n")))
+    else codes "#! " ++ (tag_name name ++ (codes " was: " ++ (map remark_byte (take 255 value) ++ codes "\n")))
 
 abbrev pub was_text : TagName → List ℕ → List ℕ
 was_text name value = was_words name value (tag_text value)
@@ -283,8 +286,23 @@ goal_text (MateIn count) = codes "mate " ++ (decimal count ++ codes "\n")
 unfoldable pub stipulation_line : Stipulation → List ℕ
 stipulation_line s = codes "stipulate " ++ (side_text s.hero ++ goal_text s.goal)
 
-unfoldable pub head_line : Entry → Aim → List ℕ
-head_line e aim = game_words e.number ++ (codes ", line " ++ (decimal e.line ++ (codes ": stipulated by " ++ (source_words aim.source ++ codes "\n"))))
+unfoldable pub doubt_line : Bool → List ℕ → List ℕ
+doubt_line doubted words = if doubted then codes "#! the stipulation " ++ (words ++ codes "\n") else []
+
+-- a line for each source that is not understood, or states another result
+unfoldable pub doubt_lines : Doubts → List ℕ
+doubt_lines d =
+    doubt_line d.comment_unread (codes "of its comment is not understood")
+    ++ (doubt_line d.tag_unread (codes "of its tag Stipulation is not understood")
+    ++ (doubt_line d.tag_differs (codes "differs from its tag Stipulation")
+    ++ (doubt_line d.result_tag_differs (codes "differs from its tag Result")
+    ++ doubt_line d.result_differs (codes "differs from its result"))))
+
+unfoldable pub source_line : Entry → Aim → List ℕ
+source_line e aim = game_words e.number ++ (codes ", line " ++ (decimal e.line ++ (codes ": stipulated by " ++ (source_words aim.source ++ codes "\n"))))
+
+abbrev pub head_line : Entry → Aim → List ℕ
+head_line e aim = source_line e aim ++ doubt_lines aim.doubts
 
 unfoldable pub position_line : Start → List ℕ
 position_line start = codes "position " ++ (fen_text start ++ codes "\n")
@@ -322,33 +340,47 @@ block_lines e start aim t = head_line e aim ++ (remark_lines e t ++ study_lines 
 
 -- ---- a game
 
-abbrev pub tag_aim : Side → Option (List ℕ) → Option Aim
+abbrev pub tag_aim : Side → Option (List ℕ) → Option Stipulation
 tag_aim to_move None = None
-tag_aim to_move (Some value) = from_source StipulationTag (aim_of_tag (unescape value) to_move)
+tag_aim to_move (Some value) = aim_stated (unescape value) to_move
+
+abbrev pub tag_unread : Option (List ℕ) → Bool
+tag_unread None = false
+tag_unread (Some value) = is_unread_tag (unescape value)
 
 abbrev pub result_of : Option (List ℕ) → Option Outcome
 result_of None = None
 result_of (Some value) = outcome_of_tag value
 
--- the first stated stipulation: in the opening comment, the tag Stipulation, the tag Result, the result, or by the caller
-unfoldable pub aim_of_game : Option Stipulation → List Pair → Side → Notes → Option Aim
-aim_of_game given tags to_move n =
-    or_aim (from_source Comment n.opening)
-    (or_aim (tag_aim to_move (value_of (codes "Stipulation") tags))
-    (or_aim (aim_of_result ResultTag (result_of (value_of (codes "Result") tags)))
-    (or_aim (aim_of_result EndResult n.outcome)
-    (from_source Given given))))
+-- what the opening comment, the tags Stipulation and Result, the result and the caller state
+unfoldable pub sources_of : Option Stipulation → List Pair → Side → Notes → Sources
+sources_of given tags to_move n = record {
+  comment = or_stipulation n.opening (signed_by to_move n.opening_goal);
+  comment_unread = n.opening_unread;
+  tag = tag_aim to_move (value_of (codes "Stipulation") tags);
+  tag_unread = tag_unread (value_of (codes "Stipulation") tags);
+  result_tag = result_of (value_of (codes "Result") tags);
+  result = n.outcome;
+  given = given;
+}
 
-abbrev pub aimed_block : Entry → Start → Reported → Option Aim → Block
-aimed_block e start t None = no_study (left_out e (codes "NoStipulation"))
-aimed_block e start t (Some aim) = record { text = block_lines e start aim t; is_study = true }
+abbrev pub aim_of_game : Option Stipulation → List Pair → Side → Notes → Option Aim
+aim_of_game given tags to_move n = aim_by_sources (sources_of given tags to_move n)
+
+-- a game that states no stipulation is left out, with the source that is not understood
+abbrev pub aimed_block : Entry → Start → Reported → Sources → Option Aim → Block
+aimed_block e start t s None = no_study (left_out e (unaimed_words s))
+aimed_block e start t s (Some aim) = record { text = block_lines e start aim t; is_study = true }
+
+abbrev pub sourced_block : Entry → Start → Reported → Sources → Block
+sourced_block e start t s = aimed_block e start t s (aim_by_sources s)
 
 abbrev pub stopped_block : Entry → MovesFault → Block
 stopped_block e fault = no_study (fault_words e (place_in e fault.left) (stop_name fault.why) (symbol_words fault.why (text_at e fault.left)))
 
 abbrev pub read_block : Option Stipulation → Entry → Start → Result Ended MovesFault → Block
 read_block given e start (Err fault) = stopped_block e fault
-read_block given e start (Ok x) = aimed_block e start (reported_of x) (aim_of_game given (tags_of e.text) start.position.to_move x.game.notes)
+read_block given e start (Ok x) = sourced_block e start (reported_of x) (sources_of given (tags_of e.text) start.position.to_move x.game.notes)
 
 -- before the first move. The stipulation has no effect here
 abbrev pub no_moves : Start → GameRead
@@ -390,8 +422,23 @@ abbrev pub fen_block : Option Stipulation → Entry → Option (List ℕ) → Bl
 fen_block given e None = no_study (left_out e (codes "left out: no FEN, so 32 men"))
 fen_block given e (Some value) = start_block given e (fen_in value) (start_of (fen_in value))
 
+-- two games that run together have a second tag of a name that each game has once
+unfoldable pub repeated_name : List Pair → Option (List ℕ)
+repeated_name tags =
+    if nat_le 2 (named_count (codes "FEN") tags) then Some (codes "FEN")
+    else (if nat_le 2 (named_count (codes "White") tags) then Some (codes "White")
+    else (if nat_le 2 (named_count (codes "Result") tags) then Some (codes "Result") else None))
+
+unfoldable pub repeated_words : List ℕ → List ℕ
+repeated_words name = codes "TagTwice at " ++ name
+
+abbrev pub single_block : Option Stipulation → Entry → List Pair → Option (List ℕ) → Block
+single_block given e tags (Some name) = no_study (left_out e (repeated_words name))
+single_block given e tags None = fen_block given e (value_of (codes "FEN") tags)
+
 abbrev pub tagged_block : Option Stipulation → Entry → List Pair → Block
-tagged_block given e tags = if length tags == 0 then no_study (left_out e (codes "left out: no tags")) else fen_block given e (value_of (codes "FEN") tags)
+tagged_block given e tags =
+    if length tags == 0 then no_study (left_out e (codes "left out: no tags")) else single_block given e tags (repeated_name tags)
 
 abbrev pub header_block : Option Stipulation → Entry → Option HeaderFault → Block
 header_block given e (Some fault) = no_study (fault_words e (place_in e fault.left) (token_name fault.why) [])
@@ -429,7 +476,7 @@ tail_of tails text = None
 
 -- the remark above a tail: the number of moves before it, and that its position is taken from the comment
 unfoldable pub tail_line : ℕ → List ℕ
-tail_line skipped = codes "# a tail: moves before " ++ (decimal skipped ++ codes "; its position is another program's word\n")
+tail_line skipped = codes "#! a tail: moves before " ++ (decimal skipped ++ codes "; its position is another program's word\n")
 
 abbrev pub under_remark : List ℕ → Block → Block
 under_remark remark block = record { text = remark ++ block.text; is_study = block.is_study }
@@ -451,7 +498,7 @@ abbrev pub block_by : Choice → ℕ → Game → Block
 block_by c number game = block_or_tail c.given number game (tail_of c.tails game.text)
 
 unfoldable pub last_line : ℕ → ℕ → List ℕ
-last_line games studies = codes "# games " ++ (decimal games ++ (codes ", studies " ++ (decimal studies ++ codes "\n")))
+last_line games studies = codes "#! games " ++ (decimal games ++ (codes ", studies " ++ (decimal studies ++ codes "\n")))
 
 abbrev pub one_if : Bool → ℕ → ℕ
 one_if is_study n = if is_study then one_more n else n

@@ -13,7 +13,7 @@ use Rattle.study_import.specs.declared.game.movetext.MovesFault.{MovesFault}
 use Rattle.study_import.specs.Movetext.{Ended}
 use Rattle.study_import.specs.declared.importer.Choice.{Choice}
 use Rattle.study_import.specs.Tails.{Tail, position_text}
-use Rattle.study_import.specs.Blocks.{six_names, tag_value_text, aim_of_game, game_read, fen_in, tail_of}
+use Rattle.study_import.specs.Blocks.{six_names, tag_value_text, aim_of_game, repeated_name, game_read, fen_in, tail_of}
 
 -- the texts of the six tags; each is known, if only as `?`
 abbrev pub tag_texts : List Pair → List (Option (List ℕ))
@@ -36,9 +36,13 @@ abbrev pub study_with_fen : Option Stipulation → List ℕ → Option (List ℕ
 study_with_fen given text None = None
 study_with_fen given text (Some value) = study_begun given text (start_of (fen_in value))
 
+abbrev pub study_unless_repeated : Option Stipulation → List ℕ → List Pair → Option (List ℕ) → Option PlainStudy
+study_unless_repeated given text tags (Some name) = None
+study_unless_repeated given text tags None = study_with_fen given text (value_of (codes "FEN") tags)
+
 abbrev pub study_behind_header : Option Stipulation → List ℕ → Option HeaderFault → Option PlainStudy
 study_behind_header given text (Some fault) = None
-study_behind_header given text None = study_with_fen given text (value_of (codes "FEN") (tags_of text))
+study_behind_header given text None = study_unless_repeated given text (tags_of text) (repeated_name (tags_of text))
 
 -- the start of its FEN, its stipulation, its tags and its tree; `None` if the game is left out
 unfoldable pub study_in : Option Stipulation → List ℕ → Option PlainStudy

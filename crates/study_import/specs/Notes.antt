@@ -1,7 +1,6 @@
 -- Counts and notes beside the moves.
-use Rattle.std.specs.Prelude.{ℕ, Bool, true, false, not, ◌&&◌, ◌==◌, nat_le, List, length, codes, Option, Some, None, Result, Ok, Err, if◌then◌else◌}
+use Rattle.std.specs.Prelude.{ℕ, Bool, true, false, not, ◌&&◌, ◌==◌, nat_le, List, length, codes, Some, None, Result, Ok, Err, if◌then◌else◌}
 use Rattle.std.specs.Str.{bytes_eq}
-use Rattle.study_marks.specs.declared.stipulation.Stipulation.{Stipulation}
 use Rattle.study_marks.specs.Edits.{PlainStudy}
 use Rattle.study_games.specs.Games.{one_more}
 use Rattle.study_games.specs.Symbols.{said_of}
@@ -11,7 +10,7 @@ use Rattle.study_games.specs.declared.symbols.Said.TheVariants as say
 use Rattle.study_games.specs.Tokens.{Token, blank, aside, opening, closing, star, tag, comment, rest, sign, symbol}
 use Rattle.study_import.specs.declared.game.notes.Notes.{Notes}
 use Rattle.study_import.specs.declared.game.token_effects.Reason.{Reason}
-use Rattle.study_import.specs.Aims.{aim_in}
+use Rattle.study_import.specs.Aims.{aim_in, goal_signed, is_unread_comment}
 use Rattle.study_import.specs.Reading.{Reading}
 use Rattle.study_import.specs.declared.game.lines.Waiting.{Waiting}
 use Rattle.study_import.specs.Taken.{Taken, reading_of, after_token}
@@ -27,8 +26,10 @@ none_yet = record {
   before_moves = true;
   has_comment = false;
   opening = None;
+  opening_goal = None;
+  opening_unread = false;
   outcome = None;
-  numbering = record { first = None };
+  numbering = record { first = None; pairs = false };
 }
 
 -- a token other than a tag, a blank and a comment ends the header
@@ -39,10 +40,16 @@ abbrev pub with_aside : Notes → Notes
 with_aside n = record n { in_header = false; asides = one_more n.asides }
 
 -- the first comment in braces states the stipulation, if no move precedes it
-abbrev pub with_comment : Notes → Option Stipulation → Notes
-with_comment n aim =
+abbrev pub with_comment : Notes → List ℕ → Notes
+with_comment n text =
     if n.before_moves && not n.has_comment
-    then record n { comments = one_more n.comments; has_comment = true; opening = aim }
+    then record n {
+      comments = one_more n.comments;
+      has_comment = true;
+      opening = aim_in text;
+      opening_goal = goal_signed text;
+      opening_unread = is_unread_comment text;
+    }
     else record n { comments = one_more n.comments }
 
 -- cut: a null move of this line precedes it
@@ -74,7 +81,7 @@ with_sign n cut is_null = if is_null then with_null_move n cut else with_aside n
 abbrev pub with_token : Notes → Bool → Bool → Token → Notes
 with_token n cut waits blank = n
 with_token n cut waits (tag name value) = n
-with_token n cut waits (comment text) = with_comment n (aim_in text)
+with_token n cut waits (comment text) = with_comment n text
 with_token n cut waits (rest text) = record n { comments = one_more n.comments }
 with_token n cut waits aside = with_aside n
 with_token n cut waits opening = after_header n

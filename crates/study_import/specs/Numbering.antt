@@ -39,25 +39,26 @@ abbrev pub is_black_to_move : Side → ℕ → Bool
 is_black_to_move White d = d % 2 == 1
 is_black_to_move Black d = d % 2 == 0
 
--- two numbers of a game fit each other if they differ by Black's moves between them, as the PGN Standard counts; where Black begins, some count pairs of
--- moves (`1. Kd5 Kd3 2. Kd4`), so that numbers may as well differ by the second moves of pairs between them. Where White begins, both are the same
-abbrev pub numbers_fit : Side → MoveNumber → MoveNumber → Bool
-numbers_fit side a b =
-    a.number + black_moves side b.depth == b.number + black_moves side a.depth || a.number + b.depth / 2 == b.number + a.depth / 2
+-- two numbers of a game fit each other if they differ by Black's moves between them, as the PGN Standard counts; if Black begins, some count pairs of
+-- moves (`1. Kd5 Kd3 2. Kd4`), and then the numbers differ by the second moves of pairs between them. If White begins, both are the same
+abbrev pub numbers_fit : Side → Bool → MoveNumber → MoveNumber → Bool
+numbers_fit side true a b = a.number + b.depth / 2 == b.number + a.depth / 2
+numbers_fit side false a b = a.number + black_moves side b.depth == b.number + black_moves side a.depth
 
 -- the first number of a game is as it is, since a game may begin at any number
-abbrev pub fits_first : Side → Option MoveNumber → MoveNumber → Bool
-fits_first side None n = true
-fits_first side (Some first) n = numbers_fit side first n
+abbrev pub fits_first : Side → Bool → Option MoveNumber → MoveNumber → Bool
+fits_first side pairs None n = true
+fits_first side pairs (Some first) n = numbers_fit side pairs first n
 
-abbrev pub first_or : Option MoveNumber → MoveNumber → Option MoveNumber
-first_or None n = Some n
-first_or (Some first) n = Some first
+-- the first number decides how a game counts: one dot before a move of Black begins a count of pairs. dots: two or more
+abbrev pub begun_by : Side → Numbering → Bool → MoveNumber → Option MoveNumber → Numbering
+begun_by side s dots n None = record { first = Some n; pairs = is_black_to_move side n.depth && not dots }
+begun_by side s dots n (Some first) = record { first = Some first; pairs = s.pairs }
 
--- the numbering after a number that fits; dots: it has two or more, so that White's move may not be next
+-- the numbering after a number that fits; with dots White's move may not be next
 abbrev pub with_number : Side → Numbering → Bool → MoveNumber → Option Numbering
 with_number side s dots n =
-    if (is_black_to_move side n.depth || not dots) && fits_first side s.first n then Some (record { first = first_or s.first n }) else None
+    if (is_black_to_move side n.depth || not dots) && fits_first side s.pairs s.first n then Some (begun_by side s dots n s.first) else None
 
 -- ---- numbers in a text, at the node after d half moves
 

@@ -22,7 +22,7 @@ use Rattle.study_import.specs.declared.tails.Act.{Act}
 use Rattle.study_import.specs.declared.tails.Act.TheVariants as act
 use Rattle.study_import.specs.declared.tails.Search.{Search}
 use Rattle.study_import.specs.declared.tails.Named.{Named}
-use Rattle.study_import.specs.Aims.{aim_in, aim_of_tag}
+use Rattle.study_import.specs.Aims.{aim_stated}
 
 -- ---- the kinds of tokens in the search
 
@@ -47,7 +47,7 @@ says_mate None = false
 says_mate (Some aim) = is_mate aim.goal
 
 abbrev pub is_mate_tag : List ℕ → List ℕ → Bool
-is_mate_tag name value = bytes_eq name (codes "Stipulation") && says_mate (aim_of_tag (unescape value) White)
+is_mate_tag name value = bytes_eq name (codes "Stipulation") && says_mate (aim_stated (unescape value) White)
 
 abbrev pub part_said : Said → Part
 part_said say.Number = part.Number
@@ -66,7 +66,7 @@ part_of star = part.End
 part_of (sign text) = if bytes_eq text (codes "--") then part.Move else part.Quiet
 part_of (symbol text) = part_said (said_of text)
 part_of (tag name value) = part.Tag (is_mate_tag name value)
-part_of (comment text) = part.Comment (says_mate (aim_in text)) (is_start (start_of (position_text text)))
+part_of (comment text) = part.Comment (says_mate (aim_stated text White)) (is_start (start_of (position_text text)))
 
 -- ---- the action for a token
 

@@ -11,16 +11,20 @@ ghost use Rattle.study_games.specs.Words.{first_word};
 ghost use Rattle.study_games.specs.Games.{game_seen};
 ghost use Rattle.study_games.specs.Header.{tags_of, header_fault, value_of};
 ghost use Rattle.study_import.specs.Notes.{game_of};
-ghost use Rattle.study_import.specs.Aims.{source_words, from_source, or_aim, aim_of_result};
-ghost use Rattle.study_import.specs.Blocks.{entry_seen, repeated_moves, place_words, behind_line, side_text, goal_text, stipulation_line, head_line};
+ghost use Rattle.study_import.specs.Aims.{or_stipulation, signed_by, source_words};
+ghost use Rattle.study_import.specs.Blocks.{entry_seen, repeated_moves, place_words, behind_words, behind_line, side_text, goal_text, stipulation_line, source_line};
+ghost use Rattle.study_import.specs.Blocks.{doubt_line, doubt_lines, head_line, tag_unread, sources_of, sourced_block, repeated_name, repeated_words, single_block};
 ghost use Rattle.study_import.specs.Blocks.{position_line, counts_line, counted_words, other_tags, remark_lines, study_lines, block_lines};
-ghost use Rattle.study_import.specs.Blocks.{tag_aim, result_of, aim_of_game, reported_seen, aimed_block, stopped_block, read_block, no_moves, game_read};
+ghost use Rattle.study_import.specs.Blocks.{tag_aim, result_of, reported_seen, stopped_block, read_block, no_moves, game_read};
 ghost use Rattle.study_import.specs.Blocks.{at_most, men_in, no_study, left_out, fen_words, start_block, fen_in, fen_block, header_block, block_of};
 ghost use Rattle.study_import.specs.BlocksRead.{is_of_memory, Adds};
 
 use crate::counts::{add_counted, add_counts_line, other_tags};
 use crate::faults::{add_fault, add_left_out, add_stop, is_of_memory, token_name};
-use crate::game::aims::{Aim, AimSource, aim_of_outcome, aim_of_tag, outcome_of_tag, source_words};
+use crate::game::aims::{
+    Aim, Doubts, Sources, aim_by_sources, aim_stated, is_unread_tag, outcome_of_tag, signed_by,
+    source_words, unaimed_words,
+};
 use crate::game::lines::Lines;
 use crate::game::movetext::{GameReading, MovesFault};
 use crate::game::notes::Notes;
@@ -35,7 +39,8 @@ use study_board::Side;
 use study_command::as_text;
 use study_games::bytes::is_letter;
 use study_games::{
-    Game, Outcome, Run, count_tags, cut_run, header_fault, next_word, tag_value, unescape,
+    Game, Outcome, Run, count_named, count_tags, cut_run, header_fault, next_word, tag_value,
+    unescape,
 };
 use study_marks::{Bench, Goal, Stipulation};
 use study_notation::{FenFault, Start, read_fen, write_fen};
@@ -80,18 +85,18 @@ fn add_stipulation<A: Allocator>(
     add_goal(out, stipulation.goal)
 }
 
-#[tactic(auto, unfolding(crate::specs::Blocks::head_line))]
-fn add_head<A: Allocator>(
+#[tactic(auto, unfolding(crate::specs::Blocks::source_line))]
+fn add_source<A: Allocator>(
     out: &mut Text<'_, A>,
     entry: &Entry<'_>,
     aim: &Aim,
 ) -> Result<(), AllocError>
-    ensures { OnOk result (out.new ≡ out.old ++ head_line (entry_seen entry.now) aim.now) }
+    ensures { OnOk result (out.new ≡ out.old ++ source_line (entry_seen entry.now) aim.now) }
 {
     add_pieces(
         out,
         &[
-            Piece::Bytes(b"# game "),
+            Piece::Bytes(b"#! game "),
             Piece::Number(entry.number),
             Piece::Bytes(b", line "),
             Piece::Number(entry.line),
@@ -100,6 +105,63 @@ fn add_head<A: Allocator>(
             Piece::Bytes(b"\n"),
         ],
     )
+}
+
+/// Adds the line of a doubt, if there is this one.
+#[tactic(auto, unfolding(crate::specs::Blocks::doubt_line))]
+fn add_doubt<A: Allocator>(
+    out: &mut Text<'_, A>,
+    doubted: bool,
+    words: &[u8],
+) -> Result<(), AllocError>
+    ensures { OnOk result (out.new ≡ out.old ++ doubt_line doubted words.now) }
+{
+    if !doubted {
+        return Ok(());
+    }
+    add_pieces(
+        out,
+        &[
+            Piece::Bytes(b"#! the stipulation "),
+            Piece::Bytes(words),
+            Piece::Bytes(b"\n"),
+        ],
+    )
+}
+
+/// Adds a line for each source that is not understood, or states another result.
+#[tactic(auto, unfolding(crate::specs::Blocks::doubt_lines))]
+fn add_doubts<A: Allocator>(out: &mut Text<'_, A>, doubts: &Doubts) -> Result<(), AllocError>
+    ensures { OnOk result (out.new ≡ out.old ++ doubt_lines doubts.now) }
+{
+    add_doubt(
+        out,
+        doubts.comment_unread,
+        b"of its comment is not understood",
+    )?;
+    add_doubt(
+        out,
+        doubts.tag_unread,
+        b"of its tag Stipulation is not understood",
+    )?;
+    add_doubt(out, doubts.tag_differs, b"differs from its tag Stipulation")?;
+    add_doubt(
+        out,
+        doubts.result_tag_differs,
+        b"differs from its tag Result",
+    )?;
+    add_doubt(out, doubts.result_differs, b"differs from its result")
+}
+
+fn add_head<A: Allocator>(
+    out: &mut Text<'_, A>,
+    entry: &Entry<'_>,
+    aim: &Aim,
+) -> Result<(), AllocError>
+    ensures { OnOk result (out.new ≡ out.old ++ head_line (entry_seen entry.now) aim.now) }
+{
+    add_source(out, entry, aim)?;
+    add_doubts(out, &aim.doubts)
 }
 
 #[tactic(auto, unfolding(crate::specs::Blocks::position_line))]
@@ -117,22 +179,29 @@ fn add_position<A: Allocator>(out: &mut Text<'_, A>, start: &Start) -> Result<()
     )
 }
 
-/// Adds the line with the place of the text after the result.
 #[tactic(auto, unfolding(crate::specs::Blocks::place_words))]
-fn add_unread<A: Allocator>(out: &mut Text<'_, A>, place: Place) -> Result<(), AllocError>
-    ensures { OnOk result (out.new ≡ out.old
-        ++ (codes "# behind the result: " ++ (place_words place ++ codes "\n"))) }
+fn add_place<A: Allocator>(out: &mut Text<'_, A>, place: Place) -> Result<(), AllocError>
+    ensures { OnOk result (out.new ≡ out.old ++ place_words place) }
 {
     add_pieces(
         out,
         &[
-            Piece::Bytes(b"# behind the result: line "),
+            Piece::Bytes(b"line "),
             Piece::Number(place.line),
             Piece::Bytes(b", column "),
             Piece::Number(place.column),
-            Piece::Bytes(b"\n"),
         ],
     )
+}
+
+/// Adds the line with the place of the text after the result.
+#[tactic(auto, unfolding(crate::specs::Blocks::behind_words))]
+fn add_unread<A: Allocator>(out: &mut Text<'_, A>, place: Place) -> Result<(), AllocError>
+    ensures { OnOk result (out.new ≡ out.old ++ behind_words place) }
+{
+    out.add(b"#! behind the result: ")?;
+    add_place(out, place)?;
+    out.add(b"\n")
 }
 
 /// Adds the place of the text after the result, if there is any.
@@ -232,47 +301,35 @@ fn add_study<'a, A: Allocator>(
     add_pieces(out, &[Piece::Bytes(inserts), Piece::Bytes(b"pgn\n\n")])
 }
 
-/// The stipulation of a tag Stipulation.
+/// What a tag Stipulation states, and whether it is neither read nor unknown.
+#[derive(Clone, Copy)]
+struct TagAim {
+    aim: Option<Stipulation>,
+    unread: bool,
+}
+
 fn tag_aim<'a, A: Allocator>(
     alloc: &'a A,
     to_move: Side,
     raw: Option<&[u8]>,
-) -> Result<Option<Aim>, AllocError>
-    ensures { IfOk result (λ aim. aim ≡ tag_aim to_move (option_map (λ v. v.now) raw.entry)) }
+) -> Result<TagAim, AllocError>
+    ensures aim { IfOk result (λ tag.
+        tag.aim ≡ tag_aim to_move (option_map (λ v. v.now) raw.entry)) }
+    ensures unread { IfOk result (λ tag.
+        tag.unread ≡ tag_unread (option_map (λ v. v.now) raw.entry)) }
 {
     match raw {
-        None => Ok(None),
+        None => Ok(TagAim {
+            aim: None,
+            unread: false,
+        }),
         Some(raw) => {
             let value = unescape(alloc, raw)?;
-            Ok(from_source(
-                AimSource::StipulationTag,
-                aim_of_tag(value.as_slice(), to_move),
-            ))
+            Ok(TagAim {
+                aim: aim_stated(value.as_slice(), to_move),
+                unread: is_unread_tag(value.as_slice()),
+            })
         }
-    }
-}
-
-fn from_source(source: AimSource, stipulation: Option<Stipulation>) -> Option<Aim>
-    ensures { result ≡ from_source source stipulation }
-{
-    match stipulation {
-        Some(stipulation) => Some(Aim {
-            stipulation,
-            source,
-        }),
-        None => None,
-    }
-}
-
-fn aim_of_result(source: AimSource, outcome: Option<Outcome>) -> Option<Aim>
-    ensures { result ≡ aim_of_result source outcome }
-{
-    match outcome {
-        Some(outcome) => Some(Aim {
-            stipulation: aim_of_outcome(outcome),
-            source,
-        }),
-        None => None,
     }
 }
 
@@ -285,34 +342,38 @@ fn result_of(raw: Option<&[u8]>) -> Option<Outcome>
     }
 }
 
-fn or_aim(first: Option<Aim>, later: Option<Aim>) -> Option<Aim>
-    ensures { result ≡ or_aim first later }
+/// The stipulation in the opening comment.
+fn comment_aim(to_move: Side, notes: &Notes) -> Option<Stipulation>
+    ensures { result ≡ or_stipulation notes.now.opening (signed_by to_move notes.now.opening_goal) }
 {
-    match first {
+    match notes.opening {
         Some(aim) => Some(aim),
-        None => later,
+        None => signed_by(to_move, notes.opening_goal),
     }
 }
 
-/// The first stipulation that a game states.
-#[tactic(auto, unfolding(crate::specs::Blocks::aim_of_game))]
-fn aim_of_game<'a, A: Allocator>(
+/// What each source of a game's stipulation states.
+#[tactic(auto, unfolding(crate::specs::Blocks::sources_of))]
+fn sources_of<'a, A: Allocator>(
     alloc: &'a A,
     given: Option<Stipulation>,
     game: &[u8],
     to_move: Side,
     notes: &Notes,
-) -> Result<Option<Aim>, AllocError>
-    ensures { IfOk result (λ aim. aim ≡ aim_of_game given (tags_of game.now) to_move notes.now) }
+) -> Result<Sources, AllocError>
+    ensures { IfOk result (λ sources.
+        sources ≡ sources_of given (tags_of game.now) to_move notes.now) }
 {
-    let by_tag = tag_aim(alloc, to_move, tag_value(game, b"Stipulation"))?;
-    let by_result = aim_of_result(AimSource::ResultTag, result_of(tag_value(game, b"Result")));
-    let by_end = or_aim(
-        aim_of_result(AimSource::Result, notes.outcome),
-        from_source(AimSource::Given, given),
-    );
-    let later = or_aim(by_tag, or_aim(by_result, by_end));
-    Ok(or_aim(from_source(AimSource::Comment, notes.opening), later))
+    let tag = tag_aim(alloc, to_move, tag_value(game, b"Stipulation"))?;
+    Ok(Sources {
+        comment: comment_aim(to_move, notes),
+        comment_unread: notes.opening_unread,
+        tag: tag.aim,
+        tag_unread: tag.unread,
+        result_tag: result_of(tag_value(game, b"Result")),
+        result: notes.outcome,
+        given,
+    })
 }
 
 #[tactic(auto, unfolding(crate::specs::Blocks::block_lines))]
@@ -349,18 +410,19 @@ fn add_aimed<'a, A: Allocator>(
     reported: &Reported<'_>,
 ) -> Result<bool, AllocError>
     ensures { Adds result out.old out.new
-        (aimed_block (entry_seen setting.now.entry) start.now (reported_seen reported.now)
-        (aim_of_game setting.now.given
+        (sourced_block (entry_seen setting.now.entry) start.now (reported_seen reported.now)
+        (sources_of setting.now.given
         (tags_of setting.now.entry.text.now) start.now.position.to_move reported.now.notes)) }
 {
     let entry = &setting.entry;
     let to_move = start.position.to_move();
-    match aim_of_game(alloc, setting.given, entry.text, to_move, &reported.notes)? {
+    let sources = sources_of(alloc, setting.given, entry.text, to_move, &reported.notes)?;
+    match aim_by_sources(&sources) {
         Some(aim) => {
             add_block(alloc, out, entry, start, &aim, reported)?;
             Ok(true)
         }
-        None => add_left_out(alloc, out, entry, b"NoStipulation"),
+        None => add_left_out(alloc, out, entry, unaimed_words(&sources)),
     }
 }
 
@@ -526,8 +588,48 @@ pub fn fen_in<'a, A: Allocator>(alloc: &'a A, raw: &[u8]) -> Result<Text<'a, A>,
     Ok(out)
 }
 
-/// Adds the block of a game that has tags, or why there is none.
-fn add_tagged<'a, A: Allocator>(
+/// A name that each game has once, and this header twice.
+#[tactic(auto, unfolding(crate::specs::Blocks::repeated_name))]
+fn repeated_name(game: &[u8]) -> Option<&'static [u8]>
+    ensures { option_map (λ name. name.now) result ≡ repeated_name (tags_of game.now) }
+{
+    if count_named(game, b"FEN") >= 2 {
+        return Some(b"FEN");
+    }
+    if count_named(game, b"White") >= 2 {
+        return Some(b"White");
+    }
+    if count_named(game, b"Result") >= 2 {
+        return Some(b"Result");
+    }
+    None
+}
+
+#[tactic(auto, unfolding(crate::specs::Blocks::repeated_words))]
+fn add_repeated_words<A: Allocator>(out: &mut Text<'_, A>, name: &[u8]) -> Result<(), AllocError>
+    ensures { OnOk result (out.new ≡ out.old ++ repeated_words name.now) }
+{
+    out.add(b"TagTwice at ")?;
+    out.add(name)
+}
+
+/// Adds the line that a game's header has two tags of this name.
+fn add_repeated<'a, A: Allocator>(
+    alloc: &'a A,
+    out: &mut Text<'_, A>,
+    entry: &Entry<'_>,
+    name: &[u8],
+) -> Result<bool, AllocError>
+    ensures { Adds result out.old out.new
+        (no_study (left_out (entry_seen entry.now) (repeated_words name.now))) }
+{
+    let mut words = Text::new(alloc);
+    add_repeated_words(&mut words, name)?;
+    add_left_out(alloc, out, entry, words.as_slice())
+}
+
+/// Adds the block of a game by its FEN, or why there is none.
+fn add_by_fen<'a, A: Allocator>(
     alloc: &'a A,
     out: &mut Text<'_, A>,
     setting: &Setting<'_>,
@@ -542,6 +644,23 @@ fn add_tagged<'a, A: Allocator>(
             let fen = fen_in(alloc, raw)?;
             add_start(alloc, out, setting, fen.as_slice())
         }
+    }
+}
+
+/// Adds the block of a game that has tags, or why there is none.
+fn add_tagged<'a, A: Allocator>(
+    alloc: &'a A,
+    out: &mut Text<'_, A>,
+    setting: &Setting<'_>,
+) -> Result<bool, AllocError>
+    ensures { Adds result out.old out.new
+        (single_block setting.now.given (entry_seen setting.now.entry)
+        (tags_of setting.now.entry.text.now)
+        (repeated_name (tags_of setting.now.entry.text.now))) }
+{
+    match repeated_name(setting.entry.text) {
+        Some(name) => add_repeated(alloc, out, &setting.entry, name),
+        None => add_by_fen(alloc, out, setting),
     }
 }
 

@@ -145,7 +145,7 @@ pub fn add_counts_line<A: Allocator>(out: &mut Text<'_, A>, words: &[u8]) -> Res
     add_pieces(
         out,
         &[
-            Piece::Bytes(b"# not taken over:"),
+            Piece::Bytes(b"#! not taken over:"),
             Piece::Bytes(words),
             Piece::Bytes(b"\n"),
         ],

@@ -113,7 +113,7 @@ pub fn add_left_out<'a, A: Allocator>(
     add_pieces(
         out,
         &[
-            Piece::Bytes(b"# game "),
+            Piece::Bytes(b"#! game "),
             Piece::Number(entry.number),
             Piece::Bytes(b", line "),
             Piece::Number(entry.line),
@@ -147,7 +147,7 @@ pub fn add_fault<'a, 't, A: Allocator>(
     add_pieces(
         out,
         &[
-            Piece::Bytes(b"# game "),
+            Piece::Bytes(b"#! game "),
             Piece::Number(entry.number),
             Piece::Bytes(b", line "),
             Piece::Number(place.line),

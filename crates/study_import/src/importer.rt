@@ -1,6 +1,6 @@
 //! A file of games, read byte by byte.
 ghost use Rattle.std.specs.Prelude.{◌≡◌, ◌++◌, [], ◌==◌, length, OnOk, IfOk};
-ghost use Rattle.study_games.specs.Games.{without_byte_order_mark, kind_of, with_byte, with_next, game_seen};
+ghost use Rattle.study_games.specs.Games.{without_mark, kind_of, with_byte, with_next, game_seen};
 ghost use Rattle.study_import.specs.Blocks.{tally_with_game, reported_text, last_line};
 ghost use Rattle.study_import.specs.Imported.{script_of, all_games, nothing_held, still_written, still_tallied, written_of, tally_ahead, put_away};
 ghost use Rattle.study_import.specs.Imported.{text_at_hand, TakesByte, KeepsTally, EndsLine, EndsLineTallied};
@@ -10,7 +10,7 @@ use crate::pieces::{Piece, add_pieces};
 use crate::tail_block::add_chosen;
 use std::alloc::{AllocError, Allocator};
 use std::marker::Model;
-use study_games::{Game, Gathering, LONGEST_LINE, LineKind, kind_of, without_byte_order_mark};
+use study_games::{Game, Gathering, LONGEST_LINE, LineKind, kind_of, without_mark};
 use study_marks::Stipulation;
 use study_text::Text;
 
@@ -130,9 +130,9 @@ impl<'a, A: Allocator> Importer<'a, A> {
     }
 
     fn kind(&self) -> LineKind
-        ensures { result ≡ kind_of (without_byte_order_mark self.now.gathered.next self.now.line) }
+        ensures { result ≡ kind_of (without_mark self.now.line) }
     {
-        kind_of(without_byte_order_mark(self.gathering.next(), self.line.as_slice()))
+        kind_of(without_mark(self.line.as_slice()))
     }
 
     /// The current line is whole.
@@ -153,10 +153,10 @@ impl<'a, A: Allocator> Importer<'a, A> {
         ensures { OnOk result (self.new ≡ record self.old {
           line = [];
           gathered = with_next self.old.gathered
-              (without_byte_order_mark self.old.gathered.next self.old.line) kind;
+              (without_mark self.old.line) kind;
         }) }
     {
-        let line = without_byte_order_mark(self.gathering.next(), self.line.as_slice());
+        let line = without_mark(self.line.as_slice());
         self.gathering.add_line(line, kind)?;
         self.line.clear();
         Ok(())
@@ -217,7 +217,7 @@ fn add_last_line<A: Allocator>(out: &mut Text<'_, A>, tally: &Imported) -> Resul
     add_pieces(
         out,
         &[
-            Piece::Bytes(b"# games "),
+            Piece::Bytes(b"#! games "),
             Piece::Number(tally.reported),
             Piece::Bytes(b", studies "),
             Piece::Number(tally.studies),

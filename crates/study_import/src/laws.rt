@@ -2,8 +2,8 @@
 ghost use Rattle.study_import.specs.Laws.{IsIsolated, AreAlike, AreAccepted, AreTaken, AreRead, AreScriptsRead, AreListed, AreWhole};
 ghost use Rattle.study_import.specs.Written.{AreReadBack, AreFilesReadBack};
 
-/// If a text ends with a line of moves, its blocks are the same whatever file follows it; and the text written for that file depends on the text
-/// before it only by numbers of games and of lines.
+/// If the last line of a text that is neither blank nor a remark is one of moves, its blocks are the same whatever file follows it that begins with a
+/// tag; and the text written for that file depends on the text before it only by numbers of games and of lines.
 pub fn blocks_are_isolated()
     ensures { IsIsolated }
 {}

@@ -61,7 +61,7 @@ fn add_was<A: Allocator>(
     add_pieces(
         out,
         &[
-            Piece::Bytes(b"# "),
+            Piece::Bytes(b"#! "),
             Piece::Bytes(tag_name(name)),
             Piece::Bytes(b" was: "),
         ],

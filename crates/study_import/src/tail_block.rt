@@ -74,7 +74,7 @@ fn add_tail_line<A: Allocator>(out: &mut Text<'_, A>, skipped: u32) -> Result<()
     add_pieces(
         out,
         &[
-            Piece::Bytes(b"# a tail: moves before "),
+            Piece::Bytes(b"#! a tail: moves before "),
             Piece::Number(skipped),
             Piece::Bytes(b"; its position is another program's word\n"),
         ],

@@ -7,7 +7,7 @@ ghost use Rattle.study_games.specs.Tokens.{token_seen};
 ghost use Rattle.study_import.specs.Tails.{position_text, is_start, says_mate, is_mate_tag, part_said, part_of, act_before, act_among, act_behind, act_of};
 ghost use Rattle.study_import.specs.Tails.{bytes_then, search_then, position_then, tail_from, not_begun, named_seen, EndsNamed};
 
-use crate::game::aims::{aim_in, aim_of_tag};
+use crate::game::aims::aim_stated;
 use crate::masks::{Mask, add_masked};
 use std::alloc::{AllocError, Allocator};
 use study_board::Side;
@@ -118,7 +118,7 @@ fn is_mate_tag<'a, A: Allocator>(
         return Ok(false);
     }
     let text = unescape(alloc, value)?;
-    Ok(says_mate(aim_of_tag(text.as_slice(), Side::White)))
+    Ok(says_mate(aim_stated(text.as_slice(), Side::White)))
 }
 
 fn part_said(said: Said) -> Part
@@ -150,7 +150,10 @@ fn part_of<'a, A: Allocator>(alloc: &'a A, token: Token<'_>) -> Result<Part, All
         Token::Symbol(text) => part_said(say(text)),
         Token::Tag(name, value) => Part::Tag(is_mate_tag(alloc, name, value)?),
         Token::Comment(text) => {
-            Part::Comment(says_mate(aim_in(text)), is_position(alloc, text)?)
+            Part::Comment(
+                says_mate(aim_stated(text, Side::White)),
+                is_position(alloc, text)?,
+            )
         }
     })
 }

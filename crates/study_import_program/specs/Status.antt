@@ -1,5 +1,5 @@
 -- The exit status of the program, and the message when a run stops.
-use Rattle.std.specs.Prelude.{ℕ, Bool, true, false, ◌==◌, ◌⊎◌, List, Option, Result, Ok, Err, if◌then◌else◌, codes}
+use Rattle.std.specs.Prelude.{ℕ, Bool, true, false, nat_lt, ◌&&◌, ◌==◌, ◌⊎◌, List, Option, Result, Ok, Err, if◌then◌else◌, codes}
 use Rattle.std.specs.Io.KnownBytes.{Appends, Keeps}
 use Rattle.clap.specs.declared.error.kind.ErrorKind.{ErrorKind}
 use Rattle.clap.specs.declared.error.kind.ErrorKind.TheVariants as word
@@ -8,9 +8,9 @@ use Rattle.study_import.specs.declared.importer.Imported.{Imported}
 use Rattle.study_import_program.specs.declared.streaming.ImportFault.{ImportFault}
 use Rattle.study_import_program.specs.declared.streaming.ImportFault.TheVariants.{ReadDevice, WriteDevice, OutOfMemory}
 
--- 0 if each game that was written is a study, 1 if some game is not, 3 if the run stopped at a fault
+-- 0 if some game was written, and each of these is a study; 1 if some is not, or no game was chosen; 3 if the run stopped at a fault
 abbrev pub status_reported : Result Imported ImportFault → ℕ
-status_reported (Ok imported) = if imported.reported == imported.studies then 0 else 1
+status_reported (Ok imported) = if nat_lt 0 imported.reported && imported.reported == imported.studies then 0 else 1
 status_reported (Err fault) = 3
 
 -- help or the version was requested: 0 if it was printed; elsewhere the words were refused

@@ -15,8 +15,8 @@ use study_import::Imported;
 
 /// Reads games of PGN from standard input and writes their script to standard output.
 ///
-/// The exit status is 0 if each game has its block, 1 if some game has none, 2 if the command line was refused, and 3 if the run stopped at a fault,
-/// whose name then goes to standard error.
+/// The exit status is 0 if each game has its block, 1 if some game has none or none was chosen, 2 if the command line was refused, and 3 if the run
+/// stopped at a fault, whose name then goes to standard error.
 ///
 /// No contract: no clause can name the content of the streams and the words of a process. `import_stream` has one.
 pub fn studyimport(rt: &HostRuntime) -> ExitCode {

@@ -26,7 +26,7 @@ use Rattle.study_page.specs.Page.{IsEntry}
 use Rattle.study_page.specs.Lists.{refusal_part, summary_part, two_heads, three_heads}
 use Rattle.study_print.specs.declared.pages.EntryCount.{EntryCount}
 use Rattle.study_print.specs.declared.pages.EntryCount.TheVariants.{Nothing, One, Several}
-use Rattle.study_print.specs.Remarks.{left_out_part, original_part, remark_text}
+use Rattle.study_print.specs.Remarks.{left_out_words, left_out_part, original_part, remark_text}
 use Rattle.study_print.specs.Pages.{refusal_text, summary_text, end_text, writer_failed, IsEndedIf, IsEnded, IsBody, IsWholeFile, IsWholeUnlessCut}
 use Rattle.study_print.proofs.BodyGrows.{none_body, both_bodies, nested_body, original_body}
 
@@ -52,7 +52,7 @@ explained_nested true reason = none_nested
 explained_nested false reason = both_nested _ _ (word _) (word _)
 
 left_out_nested : (line : List ℕ) → IsWellNested (left_out_part line)
-unfolding left_out_part
+unfolding left_out_part left_out_words
 left_out_nested line =
     within Warning _ (both_nested _ _ (word _) (both_nested _ _ (word _) (explained_nested (begins (statement line) (codes "left out: ")) _)))
 

@@ -28,7 +28,9 @@ game_reason why =
     else (if begins why (codes "TagForm") then codes "a tag that is not a name and a text in quotation marks"
     else (if begins why (codes "OpenString") then codes "a tag whose text is not closed in its line"
     else (if begins why (codes "NoStipulation") then codes "it does not say what is to be done"
-    else moves_reason why)))
+    else (if begins why (codes "StipulationUnread") then codes "a stipulation that is not understood"
+    else (if begins why (codes "TagTwice") then codes "a second tag of this name, so perhaps two games that run together"
+    else moves_reason why)))))
 
 -- ---- the words
 

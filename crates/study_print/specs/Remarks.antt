@@ -9,8 +9,11 @@ use Rattle.study_report.specs.Remarks.{is_left_out, statement}
 use Rattle.study_print.specs.LeftOut.{explanation}
 
 -- `No page for game 3, line 31: left out: 7 men`, `No page for game 4, line 52, column 17: NoSuchMove at Kb6: no legal move of this position`
+unfoldable pub left_out_words : List ℕ → List ℕ
+left_out_words line = escaped_text (drop 3 line) ++ explanation (statement line)
+
 unfoldable pub left_out_part : List ℕ → List ℕ
-left_out_part line = element_text Warning (escaped_text (codes "No page for ") ++ (escaped_text (drop 2 line) ++ explanation (statement line)))
+left_out_part line = element_text Warning (escaped_text (codes "No page for ") ++ left_out_words line)
 
 -- a byte of a text in UTF-8: ASCII as in all words, and other letters as they are
 abbrev pub letter : ℕ → List ℕ
@@ -26,7 +29,7 @@ printed_text text = if is_utf8 text then flat_map letter text else flat_map lati
 
 -- `White was: Réti, Richard`
 unfoldable pub original_part : List ℕ → List ℕ
-original_part line = codes "<p class=\"note\">" ++ (printed_text (drop 2 line) ++ codes "</p>")
+original_part line = codes "<p class=\"note\">" ++ (printed_text (drop 3 line) ++ codes "</p>")
 
 -- the paragraph of a remark
 abbrev pub remark_text : List ℕ → List ℕ

@@ -50,6 +50,10 @@ fn game_reason(why: &[u8]) -> &'static [u8]
         b"a tag whose text is not closed in its line"
     } else if begins(why, b"NoStipulation") {
         b"it does not say what is to be done"
+    } else if begins(why, b"StipulationUnread") {
+        b"a stipulation that is not understood"
+    } else if begins(why, b"TagTwice") {
+        b"a second tag of this name, so perhaps two games that run together"
     } else {
         moves_reason(why)
     }

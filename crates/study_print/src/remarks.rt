@@ -1,12 +1,10 @@
 //! The remarks of an imported script as paragraphs.
-ghost use Rattle.std.specs.Prelude.{◌≡◌, ◌∷◌, ◌++◌, [], Err, OnOk, IfOk, drop};
+ghost use Rattle.std.specs.Prelude.{◌≡◌, ◌∷◌, ◌++◌, [], Err, OnOk, IfOk};
 ghost use Rattle.std.specs.List.{flat_map};
 ghost use Rattle.std.specs.Io.KnownBytes.{Appends};
 ghost use Rattle.study_text.specs.Taken.{TakesPrefix};
 ghost use Rattle.study_html.specs.Escape.{escaped_text};
-ghost use Rattle.study_report.specs.Remarks.{statement};
-ghost use Rattle.study_print.specs.LeftOut.{explanation};
-ghost use Rattle.study_print.specs.Remarks.{left_out_part, letter, latin_letter, printed_text, original_part, remark_text};
+ghost use Rattle.study_print.specs.Remarks.{left_out_words, left_out_part, letter, latin_letter, printed_text, original_part, remark_text};
 
 use crate::left_out::say_explanation;
 use std::alloc::{AllocError, Allocator};
@@ -17,11 +15,11 @@ use study_report::{WriteFault, behind, is_left_out, statement};
 use study_text::{Text, write_text};
 
 /// Adds which game was left out, and why, by the line of its remark.
+#[tactic(auto, unfolding(crate::specs::Remarks::left_out_words))]
 fn say_left_out<A: Allocator>(part: &mut Html<'_, A>, line: &[u8]) -> Result<(), AllocError>
-    ensures { OnOk result (part.new ≡ part.old
-        ++ (escaped_text (drop 2 line.now) ++ explanation (statement line.now))) }
+    ensures { OnOk result (part.new ≡ part.old ++ left_out_words line.now) }
 {
-    part.say(behind(line, 2))?;
+    part.say(behind(line, 3))?;
     say_explanation(part, statement(line))
 }
 
@@ -147,7 +145,7 @@ fn add_original<'a, A: Allocator>(
     ensures { OnOk result (text.new ≡ text.old ++ original_part line.now) }
 {
     text.add(b"<p class=\"note\">")?;
-    add_spelled(alloc, text, behind(line, 2))?;
+    add_spelled(alloc, text, behind(line, 3))?;
     text.add(b"</p>")
 }
 

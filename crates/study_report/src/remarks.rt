@@ -47,14 +47,14 @@ fn colon_in(line: &[u8]) -> usize
     line.iter().take_while(|b| **b != b':').count()
 }
 
-/// Of `# game 3, line 31: left out: 7 men` the words `game 3, line 31`.
+/// Of `#! game 3, line 31: left out: 7 men` the words `game 3, line 31`.
 pub fn subject(line: &[u8]) -> &[u8]
     ensures { result.now ≡ subject line.now }
 {
-    behind(&line[..colon_in(line)], 2)
+    behind(&line[..colon_in(line)], 3)
 }
 
-/// Of `# game 3, line 31: left out: 7 men` the words `left out: 7 men`.
+/// Of `#! game 3, line 31: left out: 7 men` the words `left out: 7 men`.
 pub fn statement(line: &[u8]) -> &[u8]
     ensures { result.now ≡ statement line.now }
 {
@@ -66,8 +66,8 @@ pub fn statement(line: &[u8]) -> &[u8]
 pub fn is_left_out(line: &[u8]) -> bool
     ensures { result ≡ is_left_out line.now }
 {
-    begins(line, b"# game ")
-        && begins(behind_digits(behind(line, 7)), b", line ")
+    begins(line, b"#! game ")
+        && begins(behind_digits(behind(line, 8)), b", line ")
         && !begins(statement(line), b"stipulated by ")
 }
 
@@ -76,20 +76,21 @@ pub fn is_left_out(line: &[u8]) -> bool
 pub fn is_original(line: &[u8]) -> bool
     ensures { result ≡ is_original line.now }
 {
-    begins(line, b"# Event was: ")
-        || begins(line, b"# Site was: ")
-        || begins(line, b"# Date was: ")
-        || begins(line, b"# Round was: ")
-        || begins(line, b"# White was: ")
-        || begins(line, b"# Black was: ")
+    begins(line, b"#! Event was: ")
+        || begins(line, b"#! Site was: ")
+        || begins(line, b"#! Date was: ")
+        || begins(line, b"#! Round was: ")
+        || begins(line, b"#! White was: ")
+        || begins(line, b"#! Black was: ")
 }
 
-/// Whether the line is a remark on what of a game its block does not have.
+/// Whether the line is a remark on what of a game its block does not have, or on what speaks against its stipulation.
 #[tactic(auto, unfolding(crate::specs::Remarks::is_omission))]
 pub fn is_omission(line: &[u8]) -> bool
     ensures { result ≡ is_omission line.now }
 {
-    begins(line, b"# not taken over: ")
-        || begins(line, b"# behind the result: ")
-        || begins(line, b"# a tail: ")
+    begins(line, b"#! not taken over: ")
+        || begins(line, b"#! behind the result: ")
+        || begins(line, b"#! a tail: ")
+        || begins(line, b"#! the stipulation ")
 }

@@ -26,9 +26,9 @@ const TWO: &[u8] = b"[Event \"A \"first\" one\"]
 1. Kd3 (1. Kb6 *
 ";
 
-const TWO_REPORTED: &[u8] = b"# game 1, line 1: stipulated by its comment
-# not taken over: comments 1, NAGs 1, repeated 1
-# White was: R\xe9ti
+const TWO_REPORTED: &[u8] = b"#! game 1, line 1: stipulated by its comment
+#! not taken over: comments 1, NAGs 1, repeated 1
+#! White was: R\xe9ti
 position 8/8/8/4k3/8/4K3/4P3/8 w - - 0 1
 stipulate black draw
 tag Event A \"first\" one
@@ -44,13 +44,13 @@ insert 0 Kd5
 insert 0 Kf5
 pgn
 
-# game 2, line 11, column 12: NoSuchMove at Kb6
+#! game 2, line 11, column 12: NoSuchMove at Kb6
 
-# games 2, studies 1
+#! games 2, studies 1
 ";
 
-/// Compares the script of a text.
-fn check<A: Allocator>(
+/// Compares the script of a text. No contract: only tests call it.
+pub fn check<A: Allocator>(
     alloc: &A,
     text: &[u8],
     given: Option<Stipulation>,
@@ -65,7 +65,7 @@ fn check<A: Allocator>(
 fn games_come_to_their_blocks(rt: HostRuntime) -> Result<(), Fail> {
     let alloc = rt.alloc();
     assert!(rt; check(&alloc, TWO, None, TWO_REPORTED)?);
-    assert!(rt; check(&alloc, b"", None, b"# games 0, studies 0\n")?);
+    assert!(rt; check(&alloc, b"", None, b"#! games 0, studies 0\n")?);
     Ok(())
 }
 
@@ -107,7 +107,7 @@ fn games_may_be_chosen(rt: HostRuntime) -> Result<(), Fail> {
         importer.take(*byte, &mut script)?;
     }
     let imported = importer.finish(&mut script)?;
-    let reported = b"# game 2, line 11, column 12: NoSuchMove at Kb6\n\n# games 1, studies 0\n";
+    let reported = b"#! game 2, line 11, column 12: NoSuchMove at Kb6\n\n#! games 1, studies 0\n";
     assert!(rt; script.as_slice() == reported.as_slice());
     assert!(rt; imported.met == 2 && imported.reported == 1 && imported.studies == 0);
     Ok(())
@@ -134,13 +134,13 @@ fn laws_are_called(_rt: HostRuntime) -> Result<(), Fail> {
 fn the_stipulation_may_be_given(rt: HostRuntime) -> Result<(), Fail> {
     let alloc = rt.alloc();
     let text = b"[FEN \"8/8/8/4k3/8/4K3/4P3/8 w - - 0 1\"]\n\n*\n";
-    let none = b"# game 1, line 1: NoStipulation\n\n# games 1, studies 0\n";
+    let none = b"#! game 1, line 1: NoStipulation\n\n#! games 1, studies 0\n";
     assert!(rt; check(&alloc, text.as_slice(), None, none.as_slice())?);
     let given = Some(Stipulation {
         hero: Side::White,
         goal: Goal::Win,
     });
-    let reported = b"# game 1, line 1: stipulated by the option
+    let reported = b"#! game 1, line 1: stipulated by the option
 position 8/8/8/4k3/8/4K3/4P3/8 w - - 0 1
 stipulate white win
 tag Event ?
@@ -151,13 +151,13 @@ tag White ?
 tag Black ?
 pgn
 
-# games 1, studies 1
+#! games 1, studies 1
 ";
     assert!(rt; check(&alloc, text.as_slice(), given, reported.as_slice())?);
     Ok(())
 }
 
-/// Six games whose comments state what is to be done, in the words of collections; the last two state nothing.
+/// Six games whose comments state what is to be done, in the words of collections; the last two in words that are not read.
 const PHRASES: &[u8] = b"[FEN \"8/8/8/4k3/8/4K3/4P3/8 w - - 0 1\"]
 
 {White to play and draw} *
@@ -183,8 +183,8 @@ const PHRASES: &[u8] = b"[FEN \"8/8/8/4k3/8/4K3/4P3/8 w - - 0 1\"]
 {White to move and play} *
 ";
 
-const PHRASES_REPORTED: &[u8] = b"# game 1, line 1: stipulated by its comment
-# not taken over: comments 1
+const PHRASES_REPORTED: &[u8] = b"#! game 1, line 1: stipulated by its comment
+#! not taken over: comments 1
 position 8/8/8/4k3/8/4K3/4P3/8 w - - 0 1
 stipulate white draw
 tag Event ?
@@ -195,8 +195,8 @@ tag White ?
 tag Black ?
 pgn
 
-# game 2, line 5: stipulated by its comment
-# not taken over: comments 1
+#! game 2, line 5: stipulated by its comment
+#! not taken over: comments 1
 position 8/8/8/4k3/8/4K3/4P3/8 w - - 0 1
 stipulate black win
 tag Event ?
@@ -207,8 +207,8 @@ tag White ?
 tag Black ?
 pgn
 
-# game 3, line 9: stipulated by its comment
-# not taken over: comments 1
+#! game 3, line 9: stipulated by its comment
+#! not taken over: comments 1
 position 8/8/8/4k3/8/4K3/4P3/8 w - - 0 1
 stipulate white win
 tag Event ?
@@ -219,8 +219,8 @@ tag White ?
 tag Black ?
 pgn
 
-# game 4, line 13: stipulated by its comment
-# not taken over: comments 1
+#! game 4, line 13: stipulated by its comment
+#! not taken over: comments 1
 position 8/8/8/4k3/8/4K3/4P3/8 w - - 0 1
 stipulate white mate 3
 tag Event ?
@@ -231,14 +231,14 @@ tag White ?
 tag Black ?
 pgn
 
-# game 5, line 17: NoStipulation
+#! game 5, line 17: StipulationUnread at its comment
 
-# game 6, line 21: NoStipulation
+#! game 6, line 21: StipulationUnread at its comment
 
-# games 6, studies 4
+#! games 6, studies 4
 ";
 
-/// `White to play and draw` states a draw, up to a colon or a full stop.
+/// `White to play and draw` states a draw, up to a mark; other words after `White to` are said to be not understood.
 #[test]
 fn a_comment_states_what_is_to_be_done(rt: HostRuntime) -> Result<(), Fail> {
     let alloc = rt.alloc();
@@ -268,8 +268,8 @@ const NULL_MOVES: &[u8] = b"[FEN \"8/8/8/4k3/8/4K3/4P3/8 w - - 0 1\"]
 1. Kd3 \xe2\x80\x93 2. Kc4 1-0
 ";
 
-const NULL_MOVES_REPORTED: &[u8] = b"# game 1, line 1: stipulated by its tag Result
-# not taken over: null moves 2, moves behind 3
+const NULL_MOVES_REPORTED: &[u8] = b"#! game 1, line 1: stipulated by its tag Result
+#! not taken over: null moves 2, moves behind 3
 position 8/8/8/4k3/8/4K3/4P3/8 w - - 0 1
 stipulate white win
 tag Event ?
@@ -283,13 +283,13 @@ insert root Kf3
 insert 0 Kd5
 pgn
 
-# game 2, line 9, column 8: NullMove
+#! game 2, line 9, column 8: NullMove
 
-# game 3, line 14, column 17: NullMove
+#! game 3, line 14, column 17: NullMove
 
-# game 4, line 19, column 8: NullMove
+#! game 4, line 19, column 8: NullMove
 
-# games 4, studies 1
+#! games 4, studies 1
 ";
 
 /// A null move ends its variation; with one in its main line a game is left out.
@@ -325,14 +325,14 @@ $1 & (
 [x {an open comment (Kd5
 ";
 
-const BEHIND_REPORTED: &[u8] = b"# game 1, line 4, column 17: BehindResult
+const BEHIND_REPORTED: &[u8] = b"#! game 1, line 4, column 17: BehindResult
 
-# game 2, line 11, column 6 (Horwitz, B.): BehindResult
+#! game 2, line 11, column 6 (Horwitz, B.): BehindResult
 
-# game 3, line 16, column 10: BehindResult
+#! game 3, line 16, column 10: BehindResult
 
-# game 4, line 18: stipulated by its tag Result
-# behind the result: line 21, column 12
+#! game 4, line 18: stipulated by its tag Result
+#! behind the result: line 21, column 12
 position 8/8/8/4k3/8/4K3/4P3/8 w - - 0 1
 stipulate white win
 tag Event ?
@@ -344,7 +344,7 @@ tag Black ?
 insert root Kd3
 pgn
 
-# games 4, studies 1
+#! games 4, studies 1
 ";
 
 /// With a move or a parenthesis behind its result a game is left out; other text there is reported by its place.
@@ -396,13 +396,13 @@ const AUTHORS: &[u8] = b"[Event \"a\"]
 1. Kd3 *
 ";
 
-const AUTHORS_REPORTED: &[u8] = b"# game 1, line 1 (Kasparyan, G.): left out: 5 men
+const AUTHORS_REPORTED: &[u8] = b"#! game 1, line 1 (Kasparyan, G.): left out: 5 men
 
-# game 2, line 13, column 4 (Sokolov, M.): NoSuchMove at Kb6
+#! game 2, line 13, column 4 (Sokolov, M.): NoSuchMove at Kb6
 
-# game 3, line 15: NoStipulation
+#! game 3, line 15: NoStipulation
 
-# games 3, studies 0
+#! games 3, studies 0
 ";
 
 /// The remark on a game that is left out has the author's name as the script would have it, with a comma for a colon.

@@ -8,6 +8,8 @@ mod numbering;
 #[cfg(test)]
 mod program;
 #[cfg(test)]
+mod stipulations;
+#[cfg(test)]
 mod tails;
 #[cfg(test)]
 mod typeset;

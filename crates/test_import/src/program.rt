@@ -17,7 +17,7 @@ const GAMES: &[u8] = b"[FEN \"8/8/8/4k3/8/4K3/4P3/8 w - - 0 1\"]
 1. Kb6 1-0
 ";
 
-const BLOCK: &[u8] = b"# game 1, line 1: stipulated by its tag Result
+const BLOCK: &[u8] = b"#! game 1, line 1: stipulated by its tag Result
 position 8/8/8/4k3/8/4K3/4P3/8 w - - 0 1
 stipulate white win
 tag Event ?
@@ -31,7 +31,7 @@ pgn
 
 ";
 
-const FAULT: &[u8] = b"# game 2, line 9, column 4: NoSuchMove at Kb6
+const FAULT: &[u8] = b"#! game 2, line 9, column 4: NoSuchMove at Kb6
 
 ";
 
@@ -82,9 +82,9 @@ fn join(rt: &HostRuntime, parts: &[&[u8]]) -> Result<Vec<u8>, Fail> {
 /// The exit status shows whether each game that was used has its block.
 #[test]
 fn games_are_chosen_and_counted(rt: HostRuntime) -> Result<(), Fail> {
-    let both = join(&rt, &[BLOCK, FAULT, b"# games 2, studies 1\n"])?;
-    let first = join(&rt, &[BLOCK, b"# games 1, studies 1\n"])?;
-    let second = join(&rt, &[FAULT, b"# games 1, studies 0\n"])?;
+    let both = join(&rt, &[BLOCK, FAULT, b"#! games 2, studies 1\n"])?;
+    let first = join(&rt, &[BLOCK, b"#! games 1, studies 1\n"])?;
+    let second = join(&rt, &[FAULT, b"#! games 1, studies 0\n"])?;
     let mut games = MemoryReader::new(GAMES);
     check_ends(
         &rt,
@@ -103,8 +103,8 @@ fn games_are_chosen_and_counted(rt: HostRuntime) -> Result<(), Fail> {
         &rt,
         options_of(3, 7),
         &mut games,
-        b"# games 0, studies 0\n",
-        0,
+        b"#! games 0, studies 0\n",
+        1,
         b"",
     )
 }
@@ -130,7 +130,7 @@ fn each_read_may_fail(rt: HostRuntime) -> Result<(), Fail> {
 #[test]
 fn each_write_may_fail(rt: HostRuntime) -> Result<(), Fail> {
     let alloc = rt.alloc();
-    let whole = join(&rt, &[BLOCK, FAULT, b"# games 2, studies 1\n"])?;
+    let whole = join(&rt, &[BLOCK, FAULT, b"#! games 2, studies 1\n"])?;
     for room in 0..whole.len() {
         let mut games = MemoryReader::new(GAMES);
         let mut out = MemoryWriter::with_room(&alloc, room, WhenFull::Fail);
@@ -153,7 +153,7 @@ fn each_write_may_fail(rt: HostRuntime) -> Result<(), Fail> {
 #[test]
 fn each_growth_of_a_run_may_be_refused(rt: HostRuntime) -> Result<(), Fail> {
     let alloc = rt.alloc();
-    let whole = join(&rt, &[BLOCK, FAULT, b"# games 2, studies 1\n"])?;
+    let whole = join(&rt, &[BLOCK, FAULT, b"#! games 2, studies 1\n"])?;
     let mut refused = 0usize;
     let mut done = false;
     for step in 0..2000usize {

@@ -34,9 +34,9 @@ const GAMES: &[u8] = b"[Event \"five\"]
 1. Bg4 Rxg4 (1... Kb6 {7K/8/1kP5/8/8/8/8/8 w - - 0 2}) 2. Kh7 1/2-1/2
 ";
 
-const TAILS: &[u8] = b"# a tail: moves before 7; its position is another program's word
-# game 1, line 1: stipulated by its comment
-# not taken over: comments 2, NAGs 1
+const TAILS: &[u8] = b"#! a tail: moves before 7; its position is another program's word
+#! game 1, line 1: stipulated by its comment
+#! not taken over: comments 2, NAGs 1
 position 7K/8/k1P5/8/6r1/8/8/8 w - - 0 2
 stipulate white draw
 tag Event five
@@ -51,8 +51,8 @@ insert 0.0 c7
 insert 0.0.0 Kxc7
 pgn
 
-# a tail: moves before 3; its position is another program's word
-# game 2, line 9: stipulated by its tag Result
+#! a tail: moves before 3; its position is another program's word
+#! game 2, line 9: stipulated by its tag Result
 position 7K/8/k1P5/8/6r1/8/8/8 w - - 0 2
 stipulate black win
 tag Event mate
@@ -64,23 +64,23 @@ tag Black ?
 insert root Kh7
 pgn
 
-# a tail: moves before 2; its position is another program's word
-# game 3, line 21, column 42: NoSuchMove at Kc6
+#! a tail: moves before 2; its position is another program's word
+#! game 3, line 21, column 42: NoSuchMove at Kc6
 
-# game 4, line 23: left out: 5 men
+#! game 4, line 23: left out: 5 men
 
-# games 4, studies 2
+#! games 4, studies 2
 ";
 
-const LEFT_OUT: &[u8] = b"# game 1, line 1: left out: 5 men
+const LEFT_OUT: &[u8] = b"#! game 1, line 1: left out: 5 men
 
-# game 2, line 9: left out: 5 men
+#! game 2, line 9: left out: 5 men
 
-# game 3, line 16: left out: 5 men
+#! game 3, line 16: left out: 5 men
 
-# game 4, line 23: left out: 5 men
+#! game 4, line 23: left out: 5 men
 
-# games 4, studies 0
+#! games 4, studies 0
 ";
 
 /// A game with more than four men leads to its tail with `tails`, and is left out without.

@@ -63,8 +63,8 @@ const TYPESET: &[u8] = b"[FEN \"8/8/8/4k3/8/4K3/4P3/8 w - - 0 1\"]
 {White wins by a tempo} *
 ";
 
-const TYPESET_REPORTED: &[u8] = b"# game 1, line 1: stipulated by its comment
-# not taken over: comments 1, NAGs 2
+const TYPESET_REPORTED: &[u8] = b"#! game 1, line 1: stipulated by its comment
+#! not taken over: comments 1, NAGs 2
 position 8/8/8/4k3/8/4K3/4P3/8 w - - 0 1
 stipulate white win
 tag Event ?
@@ -80,7 +80,7 @@ insert 0.0.0 Kf4
 insert 0.0.0.0 e3+
 pgn
 
-# game 2, line 5: stipulated by its tag Result
+#! game 2, line 5: stipulated by its tag Result
 position 8/8/8/4k3/8/4K3/4P3/8 w - - 0 1
 stipulate white draw
 tag Event ?
@@ -98,8 +98,8 @@ insert 0.0 e3
 insert 0.0.0 Ke5
 pgn
 
-# game 3, line 10: stipulated by its comment
-# not taken over: comments 1
+#! game 3, line 10: stipulated by its comment
+#! not taken over: comments 1
 position 8/8/8/4k3/8/4K3/4P3/8 w - - 0 1
 stipulate black win
 tag Event ?
@@ -110,8 +110,8 @@ tag White ?
 tag Black ?
 pgn
 
-# game 4, line 14: stipulated by its comment
-# not taken over: comments 1
+#! game 4, line 14: stipulated by its comment
+#! not taken over: comments 1
 position 8/8/8/4k3/8/4K3/4P3/8 w - - 0 1
 stipulate white mate 3
 tag Event ?
@@ -122,7 +122,7 @@ tag White ?
 tag Black ?
 pgn
 
-# game 5, line 18: stipulated by its tag Stipulation
+#! game 5, line 18: stipulated by its tag Stipulation
 position 8/8/8/4k3/8/4K3/4P3/8 w - - 0 1
 stipulate white draw
 tag Event ?
@@ -133,9 +133,9 @@ tag White ?
 tag Black ?
 pgn
 
-# game 6, line 26, column 3: NullMove
+#! game 6, line 26, column 3: NullMove
 
-# game 7, line 28: stipulated by its result
+#! game 7, line 28: stipulated by its result
 position 8/8/8/4k3/8/4K3/4P3/8 w - - 0 1
 stipulate black win
 tag Event ?
@@ -147,7 +147,7 @@ tag Black ?
 insert root Kd3
 pgn
 
-# game 8, line 32: stipulated by its result
+#! game 8, line 32: stipulated by its result
 position 8/8/8/4k3/8/4K3/4P3/8 w - - 0 1
 stipulate white draw
 tag Event ?
@@ -159,15 +159,15 @@ tag Black ?
 insert root Kd3
 pgn
 
-# game 9, line 39, column 8: Numbering at 3
+#! game 9, line 39, column 8: Numbering at 3
 
-# game 10, line 44, column 1: Numbering at 1
+#! game 10, line 44, column 1: Numbering at 1
 
-# game 11, line 49, column 4: CastlingLeftOut at 0\xe2\x80\x930
+#! game 11, line 49, column 4: CastlingLeftOut at 0\xe2\x80\x930
 
-# game 12, line 51: NoStipulation
+#! game 12, line 51: NoStipulation
 
-# games 12, studies 7
+#! games 12, studies 7
 ";
 
 /// Compares the script of a text.

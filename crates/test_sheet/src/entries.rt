@@ -6,17 +6,17 @@ use study_script::Summary;
 use study_text::MemoryWriter;
 
 /// A game that was left out, a study, and another such game, whose remark has markup in it; other comments and a refused line are no entries.
-const SCRIPT: &[u8] = b"# game 1, line 1 (Kasparyan, G.): left out: 7 men
+const SCRIPT: &[u8] = b"#! game 1, line 1 (Kasparyan, G.): left out: 7 men
 
-# game 2, line 9: stipulated by its comment
-# White was: Kasparyan
+#! game 2, line 9: stipulated by its comment
+#! White was: Kasparyan
 position k7/8/8/8/8/8/8/K7 w - - 0 1
 stipulate white draw
 tag Event R & D
 pgn
 delete 7
 
-# game 3, line 52, column 17: NoSuchMove at <Kb6>
+#! game 3, line 52, column 17: NoSuchMove at <Kb6>
 ";
 
 const LIST: &str =
@@ -44,7 +44,7 @@ fn each_game_has_its_row(rt: HostRuntime) -> Result<(), Fail> {
 #[test]
 fn one_entry_has_no_list(rt: HostRuntime) -> Result<(), Fail> {
     let alloc = rt.alloc();
-    let script = b"# game 1, line 1: left out: 7 men\n";
+    let script = b"#! game 1, line 1: left out: 7 men\n";
     let (text, _) = pages_to(&rt, &alloc, script, MemoryWriter::new(&alloc));
     let end = b"<p class=\"warn\">No page for game 1, line 1: left out: 7 men</p></body></html>\n";
     assert!(rt; text.ends_with(end));

@@ -20,12 +20,12 @@ tag Event ?
 tag White ?
 pgn
 
-# game 3, line 31 (Kasparyan, G.): left out: 7 men
+#! game 3, line 31 (Kasparyan, G.): left out: 7 men
 
-# game 4, line 52, column 17: NoSuchMove at \"Kb6\"
+#! game 4, line 52, column 17: NoSuchMove at \"Kb6\"
 
-# game 5, line 60: stipulated by its comment
-# White was: \"R\"
+#! game 5, line 60: stipulated by its comment
+#! White was: \"R\"
 ";
 
 const LIST: &str = "Number,Title,Author,FEN,Stipulation,Verdict\r

@@ -8,38 +8,46 @@ use study_script::{RunFault, Summary};
 use study_text::{MemoryReader, MemoryWriter, WhenFull};
 
 /// Each remark that is shown, comments that are not, and a refused line.
-const SCRIPT: &str = "# game 1, line 1: stipulated by its tag Result
-# not taken over: comments 2
-# behind the result: line 9, column 4
-# White was: Réti, Richard
-# Event was: <b> & \"Ж\"
- # Site was: Prague
-# Whites was: R
+const SCRIPT: &str = "#! game 1, line 1: stipulated by its tag Result
+#! not taken over: comments 2
+#! behind the result: line 9, column 4
+#! White was: Réti, Richard
+#! Event was: <b> & \"Ж\"
+#! the stipulation differs from its tag Result
+ #! Site was: Prague
+#! Whites was: R
+# Black was: lost long before, says my friend
+# game 7, line 3: I like this one
 delete 7
 
-# game 2, line 31: left out: 7 men
+#! game 2, line 31: left out: 7 men
 
-# game 3, line 52, column 17: NoSuchMove at Kb6
+#! game 3, line 52, column 17: NoSuchMove at Kb6
 
-# game 4, line 60: NoStipulation
+#! game 4, line 60: StipulationUnread at its comment
 
-# game plan: none
-# games 4, studies 0
+#! game 5, line 71: TagTwice at White
+
+#! game plan: none
+#! games 4, studies 0
 ";
 
 /// The text between the opening and the closing.
 const REMARKS: &str =
     "<p class=\"note\">not taken over: comments 2</p><p class=\"note\">behind the result: line 9, column 4</p>\
 <p class=\"note\">White was: Réti, Richard</p><p class=\"note\">Event was: &lt;b&gt; &amp; &quot;Ж&quot;</p>\
-<p class=\"warn\">Line 8 was refused: <code>delete 7</code> <b>NoStudy</b>: no stipulation yet</p>\
+<p class=\"note\">the stipulation differs from its tag Result</p>\
+<p class=\"warn\">Line 11 was refused: <code>delete 7</code> <b>NoStudy</b>: no stipulation yet</p>\
 <p class=\"warn\">No page for game 2, line 31: left out: 7 men</p>\
 <p class=\"warn\">No page for game 3, line 52, column 17: NoSuchMove at Kb6: no legal move of this position</p>\
-<p class=\"warn\">No page for game 4, line 60: NoStipulation: it does not say what is to be done</p>\
+<p class=\"warn\">No page for game 4, line 60: StipulationUnread at its comment: a stipulation that is not understood</p>\
+<p class=\"warn\">No page for game 5, line 71: TagTwice at White: a second tag of this name, so perhaps two games that run together</p>\
 <article class=\"sum\"><header><h1>Entries and verdicts</h1></header><table><thead><tr><th>No.</th><th>Title</th><th>Author</th>\
 <th>Stipulation</th><th>Verdict</th></tr></thead><tbody>\
 <tr><td></td><td>game 2, line 31</td><td></td><td></td><td>left out: 7 men</td></tr>\
 <tr><td></td><td>game 3, line 52, column 17</td><td></td><td></td><td>NoSuchMove at Kb6: no legal move of this position</td></tr>\
-<tr><td></td><td>game 4, line 60</td><td></td><td></td><td>NoStipulation: it does not say what is to be done</td></tr>\
+<tr><td></td><td>game 4, line 60</td><td></td><td></td><td>StipulationUnread at its comment: a stipulation that is not understood</td></tr>\
+<tr><td></td><td>game 5, line 71</td><td></td><td></td><td>TagTwice at White: a second tag of this name, so perhaps two games that run together</td></tr>\
 </tbody></table></article></body></html>\n";
 
 /// The pages that are written to this writer, and the result.
@@ -68,7 +76,7 @@ fn remarks_are_printed(rt: HostRuntime) -> Result<(), Fail> {
     let (_, pages) = text.split_once("</defs></svg>\n").unwrap_or(("", ""));
     assert!(rt; pages == REMARKS);
     let wanted = Summary {
-        lines: 17,
+        lines: 22,
         refused: 1,
     };
     assert_eq!(rt; answer, Ok(wanted));
@@ -80,7 +88,7 @@ fn remarks_are_printed(rt: HostRuntime) -> Result<(), Fail> {
 fn an_original_may_be_latin_1(rt: HostRuntime) -> Result<(), Fail> {
     let alloc = rt.alloc();
     let writer = MemoryWriter::new(&alloc);
-    let (text, _) = pages_to(&rt, &alloc, b"# White was: R\xE9ti \x80\xFF\n", writer);
+    let (text, _) = pages_to(&rt, &alloc, b"#! White was: R\xE9ti \x80\xFF\n", writer);
     let text = std::str::from_utf8(text.as_slice()).unwrap_or("no text");
     let (_, pages) = text.split_once("</defs></svg>\n").unwrap_or(("", ""));
     assert!(rt; pages == "<p class=\"note\">White was: Réti \\x80ÿ</p></body></html>\n");

@@ -23,10 +23,10 @@ tag White ?
 insert root Kb8
 pgn
 position k7/8/8/8/8/8/8/K7 b - - 0 1
-# White was: R
+#! White was: R
 stipulate white draw
 pgn
-# game 3, line 31: left out: 7 men
+#! game 3, line 31: left out: 7 men
 ";
 
 /// The text between the opening and the closing.

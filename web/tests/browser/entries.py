@@ -153,7 +153,7 @@ def test_letters_of_another_code(user):
     assert "Léger" in user.text("head") and "Réti" in user.text("head") and "tag White Reti" in script(user)
     user.fill("tagWhite", "Л. Каспарян")
     user.until("document.getElementById('head').innerText.includes('Л. Каспарян')", 20)
-    assert re.search(r"^tag White [ -~]+$", script(user), re.M) and "# White was: Л. Каспарян" in script(user)
+    assert re.search(r"^tag White [ -~]+$", script(user), re.M) and "#! White was: Л. Каспарян" in script(user)
     user.d.refresh()
     user.idle()
     assert "Л. Каспарян" in user.text("head")

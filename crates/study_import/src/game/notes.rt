@@ -6,10 +6,10 @@ ghost use Rattle.study_games.specs.Symbols.{said_of};
 ghost use Rattle.study_games.specs.Tokens.{token_seen};
 ghost use Rattle.study_import.specs.Notes.{none_yet, after_header, with_aside, with_comment, with_null_move, with_move, with_result, with_said, with_sign, with_token};
 
-use crate::game::aims::aim_in;
+use crate::game::aims::{aim_in, goal_signed, is_unread_comment};
 use crate::game::numbering::Numbering;
 use study_games::{Outcome, Said, Token, say};
-use study_marks::Stipulation;
+use study_marks::{Goal, Stipulation};
 
 /// Counts of what the script omits, the stipulation that the game states, and its first number. Counts saturate.
 #[derive(Clone, Copy)]
@@ -26,8 +26,12 @@ pub struct Notes {
     pub in_header: bool,
     pub before_moves: bool,
     pub has_comment: bool,
-    /// The stipulation in the first comment before the moves.
+    /// The stipulation in the first comment before the moves, if it names the hero.
     pub opening: Option<Stipulation>,
+    /// The goal in this comment, if it names no hero.
+    pub opening_goal: Option<Goal>,
+    /// This comment has the form of a stipulation, and states none that is read.
+    pub opening_unread: bool,
     /// The result after the moves.
     pub outcome: Option<Outcome>,
     pub numbering: Numbering,
@@ -48,8 +52,13 @@ impl Notes {
             before_moves: true,
             has_comment: false,
             opening: None,
+            opening_goal: None,
+            opening_unread: false,
             outcome: None,
-            numbering: Numbering { first: None },
+            numbering: Numbering {
+                first: None,
+                pairs: false,
+            },
         }
     }
 
@@ -72,15 +81,17 @@ impl Notes {
         }
     }
 
-    fn with_comment(self, aim: Option<Stipulation>) -> Notes
-        ensures { result ≡ with_comment self aim }
+    fn with_comment(self, text: &[u8]) -> Notes
+        ensures { result ≡ with_comment self text.now }
     {
         let comments = self.comments.saturating_add(1);
         if self.before_moves && !self.has_comment {
             Notes {
                 comments,
                 has_comment: true,
-                opening: aim,
+                opening: aim_in(text),
+                opening_goal: goal_signed(text),
+                opening_unread: is_unread_comment(text),
                 ..self
             }
         } else {
@@ -173,7 +184,7 @@ impl Notes {
     {
         match token {
             Token::Blank | Token::Tag(_, _) => self,
-            Token::Comment(text) => self.with_comment(aim_in(text)),
+            Token::Comment(text) => self.with_comment(text),
             Token::Rest(_) => self.with_rest(),
             Token::Aside => self.with_aside(),
             Token::Open | Token::Close | Token::Star => self.after_header(),

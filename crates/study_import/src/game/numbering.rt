@@ -20,6 +20,8 @@ pub struct MoveNumber {
 #[derive(Clone, Copy)]
 pub struct Numbering {
     pub first: Option<MoveNumber>,
+    /// Whether the numbers count pairs of moves that Black begins.
+    pub pairs: bool,
 }
 
 fn begins_dot(text: &[u8]) -> bool
@@ -83,29 +85,33 @@ fn is_black_to_move(side: Side, depth: usize) -> bool
 }
 
 /// Whether two numbers of a game may be in one text.
-fn numbers_fit(side: Side, a: MoveNumber, b: MoveNumber) -> bool
-    ensures { result ≡ numbers_fit side a b }
+fn numbers_fit(side: Side, pairs: bool, a: MoveNumber, b: MoveNumber) -> bool
+    ensures { result ≡ numbers_fit side pairs a b }
 {
     let first = a.number as usize;
     let second = b.number as usize;
-    first + black_moves(side, b.depth) == second + black_moves(side, a.depth)
-        || first + b.depth / 2 == second + a.depth / 2
+    if pairs {
+        first + b.depth / 2 == second + a.depth / 2
+    } else {
+        first + black_moves(side, b.depth) == second + black_moves(side, a.depth)
+    }
 }
 
 impl Numbering {
     fn fits(self, side: Side, number: MoveNumber) -> bool
-        ensures { result ≡ fits_first side self.first number }
+        ensures { result ≡ fits_first side self.pairs self.first number }
     {
         match self.first {
             None => true,
-            Some(first) => numbers_fit(side, first, number),
+            Some(first) => numbers_fit(side, self.pairs, first, number),
         }
     }
 
     fn with_number(self, side: Side, dots: bool, number: MoveNumber) -> Option<Numbering>
         ensures { result ≡ with_number side self dots number }
     {
-        if dots && !is_black_to_move(side, number.depth) {
+        let black = is_black_to_move(side, number.depth);
+        if dots && !black {
             return None;
         }
         if !self.fits(side, number) {
@@ -114,6 +120,7 @@ impl Numbering {
         match self.first {
             None => Some(Numbering {
                 first: Some(number),
+                pairs: black && !dots,
             }),
             Some(_) => Some(self),
         }

@@ -1,4 +1,4 @@
-use Rattle.std.proofs.Common.{◌-◌, Bool, Some, false, sym, ap, ◌∙◌, arith}
+use Rattle.std.proofs.Common.{◌-◌, Bool, Some, sym, ap, ◌∙◌, arith}
 use Rattle.std.specs.Option.{option_map}
 use Rattle.study_games.specs.Tokens.{token_seen, lexed_seen}
 use Rattle.study_import.specs.Behind.{moves_left}
