@@ -16,7 +16,7 @@ for folder in "$top/examples/import" "$@"; do
         [ -f "$script" ] || continue
         words=(); [ -f "${pgn%.pgn}.args" ] && mapfile -t words < "${pgn%.pgn}.args"
         "$program" "${words[@]}" < "$pgn" > "$work/script"; status=$?
-        wanted=0; tail -1 "$script" | grep -q '^# games \([0-9]*\), studies \1$' || wanted=1
+        wanted=0; tail -1 "$script" | grep -q '^#! games \([1-9][0-9]*\), studies \1$' || wanted=1
         if cmp -s "$work/script" "$script" && [ "$status" = "$wanted" ]; then
             equal=$((equal + 1))
         else

@@ -194,7 +194,7 @@ def test_a_fen_and_pictures(user):
     user.click("savePng")
     for _ in range(500):
         names = [name for name in os.listdir(folder) if name.endswith(".png")]
-        if names:
+        if names and os.path.getsize(os.path.join(folder, names[0])) > 5000:
             break
         time.sleep(0.02)
     with open(os.path.join(folder, names[0]), "rb") as file:
