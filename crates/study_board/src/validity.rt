@@ -2,6 +2,7 @@
 ghost use Rattle.std.specs.Prelude.{◌≡◌, ◌≤◌, ◌&&◌, true, length, is_some};
 ghost use Rattle.study_board.specs.declared.men.Side.TheVariants.{White, Black};
 ghost use Rattle.study_board.specs.Position.{is_occupied, has_man, has_square_twice, has_one_king, is_end_pawn};
+ghost use Rattle.study_board.specs.Sound.{fault_among};
 ghost use Rattle.study_board.specs.Position.{has_end_pawn, in_check, could_be_passed, passed_possible, first_fault};
 
 use crate::men::is_attacked;
@@ -124,6 +125,26 @@ pub fn first_fault(men: &[Man], to_move: Side, passed: Option<Square>) -> Option
     if men.len() > 4 {
         Some(PositionFault::TooManyMen)
     } else if has_square_twice(men) {
+        Some(PositionFault::SquareTwice)
+    } else if !(has_one_king(men, Side::White) && has_one_king(men, Side::Black)) {
+        Some(PositionFault::KingCount)
+    } else if has_end_pawn(men) {
+        Some(PositionFault::PawnOnEndRank)
+    } else if in_check(men, to_move.other()) {
+        Some(PositionFault::OpponentInCheck)
+    } else if !passed_possible(men, to_move, passed) {
+        Some(PositionFault::EnPassantImpossible)
+    } else {
+        None
+    }
+}
+
+/// The first reason, apart from their number, why these men, in any order, are not a position.
+#[tactic(auto, unfolding(crate::specs::Sound::fault_among))]
+pub fn fault_among(men: &[Man], to_move: Side, passed: Option<Square>) -> Option<PositionFault>
+    ensures { result ≡ fault_among men.now to_move passed }
+{
+    if has_square_twice(men) {
         Some(PositionFault::SquareTwice)
     } else if !(has_one_king(men, Side::White) && has_one_king(men, Side::Black)) {
         Some(PositionFault::KingCount)

@@ -16,14 +16,16 @@ use Rattle.study_board.specs.declared.men.Kind.TheVariants.{King, Pawn}
 use Rattle.study_board.specs.Geometry.{file_of, rank_of, ranks_apart}
 use Rattle.study_board.specs.Men.{same_side, other_side, same_kind, is_man, is_attacked, attacks_square, is_pawn}
 use Rattle.study_board.specs.Position.{Position, IsValid, IsAscending, man_at, is_occupied}
-use Rattle.study_board.specs.Position.{is_empty, has_man, has_one_king, is_end_pawn, has_end_pawn}
+use Rattle.study_board.specs.Position.{is_empty, has_man, has_square_twice, has_one_king, is_end_pawn, has_end_pawn}
 use Rattle.study_board.specs.Position.{in_check, could_be_passed, passed_possible}
 use Rattle.study_board.specs.EqualLaws.{sides_equal}
 use Rattle.study_board.proofs.Lists.{count_by-cons}
 use Rattle.study_board.proofs.Ascending.{IsAscending-filter, IsAscending-insert_man}
 use Rattle.study_board.proofs.MenInOrder.{All-insert_man, IsPermutation-insert_man}
 use Rattle.study_board.proofs.Faults.{has_one_king_same, has_end_pawn_same, passed_possible_same}
-use Rattle.study_board.proofs.Valid.{IsFaultless, IsFaultless-from_first, first_fault-from_IsFaultless}
+use Rattle.study_board.specs.Sound.{IsSound}
+use Rattle.study_board.proofs.SoundMen.{IsSound-from_IsValid, IsValid-from_IsSound}
+use Rattle.study_board.proofs.Valid.{IsFaultless-from_first}
 use Rattle.std.proofs.lemmas.List.Sorted.{length_permutation}
 use Rattle.study_moves.specs.declared.moves.Move.{Move}
 use Rattle.study_moves.specs.Rules.{is_legal, is_legal_for, is_pseudo_legal, has_side, is_square, men_after}
@@ -147,9 +149,9 @@ is_occupied-from_any : (men : List Man) (x : ℕ) → list_any (λ y. y.at == x)
 unfolding is_occupied
 is_occupied-from_any men x e = e
 
--- a move of a man of the mover, in a valid position
+-- a move of a man of the mover, in a position without a fault
 pub record IsMoveFrom (p : Position) (man : Man) (m : Move) : Type 0 where
-  pub valid : IsValid p
+  pub valid : IsSound p
   pub among : IsAmong man p.men
   pub moves : IsMoveOf p man m
   pub free : has_side p.men p.to_move m.target ≡ false
@@ -162,8 +164,8 @@ module _ (p : Position) (man : Man) (m : Move) (h : IsMoveFrom p man m) where
   abbrev pub all_after : List Man
   all_after = moved_man man m ∷ those
 
-  faultless : IsFaultless p.men p.to_move p.passed
-  faultless = IsFaultless-from_first p.men p.to_move p.passed h.valid.faultless
+  faultless : IsSound p
+  faultless = h.valid
 
   mine : man.side ≡ p.to_move
   mine = sides_equal man.side p.to_move h.moves.mine
@@ -380,14 +382,14 @@ module _ (p : Position) (man : Man) (m : Move) (h : IsMoveFrom p man m) where
       ] in
       go (is_pawn man && (ranks_apart man.at m.target == 2)) refl
 
-  few : nat_lt 4 (length (men_after p man m)) ≡ false
-  few =
+  pub few : (n : ℕ) → nat_lt n (length p.men) ≡ false → nat_lt n (length (men_after p man m)) ≡ false
+  few n before =
       let occupied = list_any-from (λ y. y.at == man.at) p.men man h.among (eq-eqb man.at man.at refl) in
       let fewer = fewer_stay p.passed man m.target p.men (is_occupied-from_any p.men man.at occupied) in
-      let most = ltb-false 4 (length p.men) faultless.few in
+      let most = ltb-false n (length p.men) before in
       let same = length_permutation all_after (men_after p man m) permuted in
       let one : length all_after ≡ 1 + length those = omega arith in
-      le-ltb 4 (length (men_after p man m)) (omega arith)
+      le-ltb n (length (men_after p man m)) (omega arith)
 
   none_on_target : list_any (λ y. y.at == m.target) those ≡ false
   unfolding survives
@@ -407,26 +409,25 @@ module _ (p : Position) (man : Man) (m : Move) (h : IsMoveFrom p man m) where
   unfolding men_after
   on_board = All-insert_man (moved_man man m) those h.moves.target (All-filter (survives p.passed man m.target) (λ k. k.at < 64) p.men h.valid.on_board)
 
-  pub IsValid-after_by : IsValid (after_by p man m)
-  IsValid-after_by =
+  pub IsSound-after_by : IsSound (after_by p man m)
+  IsSound-after_by =
       let kings_same : (s : Side) → has_one_king all_after s ≡ has_one_king (men_after p man m) s = has_one_king_same all_after (men_after p man m) permuted in
-      let found : IsFaultless (men_after p man m) (other_side p.to_move) (passed_by man m.target) = record {
-        few = few;
+      record {
+        ordered = ordered;
+        on_board = on_board;
         once = has_square_twice-ascending (men_after p man m) ordered;
         kings = rw (← kings_same White, ← kings_same Black) kings;
         pawns = sym (has_end_pawn_same all_after (men_after p man m) permuted) ∙ no_end_pawn;
         safe = rw (other_twice p.to_move) h.safe;
         possible = sym (passed_possible_same all_after (men_after p man m) permuted (other_side p.to_move) (passed_by man m.target)) ∙ passes;
-      } in
-      record {
-        ordered = ordered;
-        on_board = on_board;
-        faultless = first_fault-from_IsFaultless (men_after p man m) (other_side p.to_move) (passed_by man m.target) found;
       }
 
-pub IsMoveFrom-is_legal : (p : Position) (man : Man) (m : Move) → IsValid p → man_at p.men m.origin ≡ Some man → IsMoveOf p man m → IsMoveFrom p man m
+  pub IsValid-after_by : nat_lt 4 (length p.men) ≡ false → IsValid (after_by p man m)
+  IsValid-after_by before = IsValid-from_IsSound (after_by p man m) IsSound-after_by (few 4 before)
+
+pub IsMoveFrom-sound : (p : Position) (man : Man) (m : Move) → IsSound p → man_at p.men m.origin ≡ Some man → IsMoveOf p man m → IsMoveFrom p man m
 unfolding is_legal_for is_pseudo_legal
-IsMoveFrom-is_legal p man m valid here moves =
+IsMoveFrom-sound p man m valid here moves =
     let a = and_parts (is_pseudo_legal p man m) (not (in_check (men_after p man m) p.to_move)) moves.legal in
     let b = and_parts _ (is_promotion_choice (reaches_last_rank man m.target) m.promoted) a.0 in
     let c = and_parts _ (not (has_side p.men p.to_move m.target)) b.0 in
@@ -438,13 +439,27 @@ IsMoveFrom-is_legal p man m valid here moves =
       safe = not-true _ a.1;
     }
 
+pub IsMoveFrom-is_legal : (p : Position) (man : Man) (m : Move) → IsValid p → man_at p.men m.origin ≡ Some man → IsMoveOf p man m → IsMoveFrom p man m
+IsMoveFrom-is_legal p man m valid here moves = IsMoveFrom-sound p man m (IsSound-from_IsValid p valid) here moves
+
+four : (p : Position) → IsValid p → nat_lt 4 (length p.men) ≡ false
+four p valid = (IsFaultless-from_first p.men p.to_move p.passed valid.faultless).few
+
+-- the position after a legal move is without a fault if the position before is, however many men there are
+pub IsSound-after : (p : Position) (m : Move) → IsSound p → is_legal p m ≡ true → IsSound (after p m)
+unfolding after
+IsSound-after p m sound legal =
+    let h = HasMover-from_is_legal p m legal in
+    let e = h.here in
+    rw e (IsSound-after_by p h.man m (IsMoveFrom-sound p h.man m sound h.here h.moves))
+
 -- the position after a legal move is valid
 pub IsValid-after : (p : Position) (m : Move) → IsValid p → is_legal p m ≡ true → IsValid (after p m)
 unfolding after
 IsValid-after p m valid legal =
     let h = HasMover-from_is_legal p m legal in
     let e = h.here in
-    rw e (IsValid-after_by p h.man m (IsMoveFrom-is_legal p h.man m valid h.here h.moves))
+    rw e (IsValid-after_by p h.man m (IsMoveFrom-is_legal p h.man m valid h.here h.moves) (four p valid))
 
 -- the same, by the man on the move's origin
 pub IsValid-after_man : (p : Position) (man : Man) (m : Move) → IsValid p → man_at p.men m.origin ≡ Some man → is_legal p m ≡ true → IsValid (after_by p man m)
@@ -453,4 +468,4 @@ IsValid-after_man p man m valid here legal =
     let both : Some h.man ≡ Some man = sym h.here ∙ here in
     let same : h.man ≡ man = cc in
     let moves = subst (λ (x : Man). IsMoveOf p x m) same h.moves in
-    IsValid-after_by p man m (IsMoveFrom-is_legal p man m valid here moves)
+    IsValid-after_by p man m (IsMoveFrom-is_legal p man m valid here moves) (four p valid)

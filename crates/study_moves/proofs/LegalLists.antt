@@ -2,7 +2,7 @@
 use Rattle.std.proofs.Common.{◌≡◌, ℕ, ◌+◌, ◌*◌, ◌<◌, ◌≤◌, ◌==◌, zero, suc, Bool, true, false, inl, inr, List}
 use Rattle.std.proofs.Common.{[], ◌∷◌, length, Option, Some, None, refl, sym, ap, ◌∙◌, arith, subst}
 use Rattle.std.specs.Prelude.{◌↔◌, IsTrue}
-use Rattle.std.specs.List.{AllPairs, Contains, flat_map, range_with_len}
+use Rattle.std.specs.List.{All, AllPairs, Contains, flat_map, range_with_len}
 use Rattle.std.proofs.lemmas.Bool.{false≢true, and_parts, and_from, cases_Bool, cases_lt, eqb-true, eq-eqb, false_from_ne_true}
 use Rattle.study_board.specs.declared.men.Kind.{Kind}
 use Rattle.study_board.specs.declared.men.Kind.TheVariants.{King, Queen, Rook, Bishop, Knight, Pawn}
@@ -80,12 +80,12 @@ in_between m b e = go m.promoted e
         none true e = false≢true e
         none false e = false≢true e
 
-in_all : (p : Position) (m : Move) → IsValid p → is_legal p m ≡ true → IsIn m all_moves
+pub in_all : (p : Position) (m : Move) → All (λ x. x.at < 64) p.men → is_legal p m ≡ true → IsIn m all_moves
 unfolding all_moves
-in_all p m valid e =
+in_all p m board e =
     let h = HasMover-from_is_legal p m e in
     let found = found_among p.men m.origin h.man h.here in
-    let on_board : h.man.at < 64 = All-among (λ x. x.at < 64) p.men h.man valid.on_board found.0 in
+    let on_board : h.man.at < 64 = All-among (λ x. x.at < 64) p.men h.man board found.0 in
     let origin : m.origin < 64 = subst (λ a. a < 64) found.1 on_board in
     in_range moves_from m 0 64 m.origin (omega arith) origin
     (in_range (moves_between m.origin) m 0 64 m.target (omega arith) h.moves.target
@@ -93,7 +93,7 @@ in_all p m valid e =
 
 pub in_legal : (p : Position) (m : Move) → IsValid p → is_legal p m ≡ true → IsIn m (legal_list p)
 unfolding legal_list
-in_legal p m valid e = IsIn-kept (is_legal p) all_moves m (in_all p m valid e) e
+in_legal p m valid e = IsIn-kept (is_legal p) all_moves m (in_all p m valid.on_board e) e
 
 pub is_legal-in : (p : Position) (m : Move) → IsIn m (legal_list p) → is_legal p m ≡ true
 unfolding legal_list

@@ -10,7 +10,7 @@ at_end : (q : Man → Bool) (list men all : List Man) (c : Man) (i : ℕ) → le
 at_end q list men all c i l e = (let d = drop_all i men l in rw d at e)
 
 pub push-requires : goal.push-requires
-push-requires c =
+push-requires g c =
     let q = survives c.args.passed c.args.man.now c.args.moved.at in
     let less = fewer_stay c.args.passed c.args.man.now c.args.moved.at c.args.men.now c.requires.here in
     let whole = at_end q c.loop-m.list.items c.args.men.now _ c.loop-m.carried c.loop-m.m-index c.loop-m-test.false c.loop-m.invariant.carried in
@@ -18,7 +18,7 @@ push-requires c =
     (omega arith, omega (arith, long, less, c.requires.few))
 
 pub returns : goal.returns
-returns c =
+returns g c =
     let q = survives c.args.passed c.args.man.now c.args.moved.at in
     c.push.ensures.items
     ∙ at_end q c.loop-m.list.items c.args.men.now _ c.loop-m.carried c.loop-m.m-index c.loop-m-test.false c.loop-m.invariant.carried

@@ -1,4 +1,4 @@
-use Rattle.std.proofs.Common.{◌≡◌, ◌∙◌, sym, refl, subst}
+use Rattle.std.proofs.Common.{◌≡◌, ◌∙◌, sym, refl, subst, arith}
 use Rattle.study_moves.specs.declared.moves.Move.{Move}
 use Rattle.study_moves.specs.Unmoves.{LeadsQuietly, position_before}
 use Rattle.study_moves.proofs.MenFound.{is_occupied-from_man_at}
@@ -11,8 +11,17 @@ unreachable-requires c =
     let none = sym h.1 ∙ sym c.man_at.ensures ∙ c.in-None.is in
     cc none
 
-pub men_with_moved-men-requires-clause-here : goal.men_with_moved-men-requires-clause-here
-men_with_moved-men-requires-clause-here c = rw c.men-now.ensures.value (is_occupied-from_man_at _ _ _ (sym c.man_at.ensures ∙ c.in-Some.is))
+pub men_with_moved-men-requires : goal.men_with_moved-men-requires
+men_with_moved-men-requires c = (
+  omega arith,
+  (
+    c.men-now.ensures.few,
+    (
+      rw c.men-now.ensures.value (is_occupied-from_man_at _ _ _ (sym c.man_at.ensures ∙ c.in-Some.is)),
+      rw c.men-now.ensures.value c.men-now.ensures.valid.ordered,
+    ),
+  ),
+)
 
 pub of-requires : goal.of-requires
 of-requires c =
