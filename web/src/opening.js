@@ -3,15 +3,29 @@
 import {$, h, smallButton} from './dom.js';
 import {change, track, sayOpened, work} from './actions.js';
 import {app, doc, services, say} from './state.js';
-import {decode, documentOf, plainBytes, importNote, leftOutBy, looksLikePgn, notKept, withoutAim} from './imported.js';
+import {
+  decode,
+  documentOf,
+  plainBytes,
+  importNote,
+  leftOut,
+  leftOutBy,
+  looksLikePgn,
+  notKept,
+  withoutAim
+} from './imported.js';
 import {freshId} from './keep.js';
 import {gamesIn, namesOf, remarksOf, savedGames} from './notes.js';
 import {replace} from './history.js';
 import {isCommand, isSilent, linesOf} from './script.js';
 import {aimText, counted, endedReason, readAim} from './words.js';
 
-/** What was opened as a PGN last, so that it can be read again with a stipulation. */
-let source = /** @type {{bytes: Uint8Array, name: string, id: string, waiting: number} | null} */ (null);
+/**
+ * What was opened as a PGN last, so that it can be read again with a stipulation: `id` is the document that came of it,
+ * empty as long as none did, beside the lines that stood there then; `said` is what was left out for other reasons.
+ * @typedef {{bytes: Uint8Array, name: string, id: string, waiting: number, beside: string[], said: string}} Source
+ */
+let source = /** @type {Source | null} */ (null);
 /** Where the games of a document are the PGN that was opened, byte for byte, nothing of it was lost. */
 export function checkWhole() {
   const d = doc();
@@ -92,9 +106,10 @@ async function openPgn(bytes, where, name, aim = '') {
     lines = await importPgn(bytes, aim);
   }, where);
   if (!lines.length) return;
-  source = {bytes, name, id: '', waiting: withoutAim(lines)};
+  const waiting = withoutAim(lines), others = leftOut(lines).length > waiting;
+  source = {bytes, name, id: '', waiting, beside: doc().lines, said: others ? importNote(lines) : ''};
   if (!lines.some(line => line.startsWith('position '))) {
-    say(where, `No study was found in this PGN. ${importNote(lines)} Nothing was changed.`);
+    say(where, waiting ? '' : `No study was found in this PGN. ${importNote(lines)} Nothing was changed.`);
     return services.show();
   }
   const latin = /\ufffd/.test(new TextDecoder().decode(bytes)) && LATIN,
@@ -160,22 +175,31 @@ async function take(lines, where, name, note) {
   if (where !== 'script' && doc() !== before) sayOpened(before);
 }
 const AIMS = ['white win', 'white draw', 'black win', 'black draw'];
-/** What of a PGN was left out and is not kept; and where games only lack a stipulation, the four that they can have. */
-export function importView() {
-  const note = doc().note, again = source && (source.id === doc().id || !source.id) ? source : null;
-  const waiting = again ? again.waiting : 0, mine = again && again.id === doc().id;
-  if (!note && !waiting) return null;
-  const file = doc().name ? `${doc().name}.pgn` : 'a file of another name';
-  const without = / Left out: /.test(note) ? ', without the games that were left out' : '';
+/** @param {Source} again */
+function aimsView({bytes, name, waiting}) {
   const [doNot, them] = waiting === 1 ? ['does not', 'it'] : ['do not', 'them'];
   const aimButton = (/** @type {string} */ words) =>
     smallButton(aimText(readAim(words)), 'read the PGN again, with this stipulation where none is said',
-      () => again && track(openPgn(again.bytes, 'board', again.name, words)), {'data-import': words});
-  return [
-    note && (!again || mine) && h('p', {class: 'note', id: 'notKept'}, `${note} Save PGN writes ${file}${without}.`),
-    again && waiting > 0 &&
-      h('p', {class: 'row', id: 'aims', role: 'group', 'aria-label': 'The stipulation of games that say none'},
-        `${counted(waiting, 'game')} of this PGN ${doNot} say what is to be done. Read ${them} as: `,
-        AIMS.map(aimButton))
-  ];
+      () => track(openPgn(bytes, 'board', name, words)), {'data-import': words});
+  return waiting > 0 &&
+    h('p', {class: 'row', id: 'aims', role: 'group', 'aria-label': 'The stipulation of games that say none'},
+      `${counted(waiting, 'game')} of this PGN ${doNot} say what is to be done. Read ${them} as: `,
+      AIMS.map(aimButton));
+}
+/** @param {string} note */
+function noteView(note) {
+  const file = doc().name ? `${doc().name}.pgn` : 'a file of another name';
+  const without = / Left out: /.test(note) ? ', without the games that were left out' : '';
+  return note && h('p', {class: 'note', id: 'notKept'}, `${note} Save PGN writes ${file}${without}.`);
+}
+/**
+ * What of a PGN was left out and is not kept; and where games only lack a stipulation, the four that they can have,
+ * also beside a set-up where no game was read yet.
+ * @param {boolean} anew      whether a new set-up is shown
+ */
+export function importView(anew) {
+  const tried = source && !source.id && source.beside === doc().lines && source.waiting ? source : null;
+  if (tried) return [tried.said && h('p', {class: 'note', id: 'tried'}, tried.said), aimsView(tried)];
+  if (anew) return null;
+  return [noteView(doc().note), source && source.id === doc().id && source.id && aimsView(source)];
 }

@@ -106,7 +106,7 @@ export function show() {
   $('sayBoard').className = said && said.good ? 'say good' : 'say';
   $('sayBoard').textContent = said ? said.text : '';
   const anew = app.setup && app.setup.anew;
-  put('import', !anew && importView());
+  put('import', importView(Boolean(anew)));
   put('setup', app.setup && setupView());
   put('nav', !app.setup && n && navView(n));
   put('here', !app.setup && s && n && hereView(s, n));

@@ -113,6 +113,32 @@ def test_ten_entries_are_ten_rows(user):
         assert len(rows(user)) == number and sum("left out" in row[4] for row in rows(user)) == 4, rows(user)
 
 
+def test_a_game_without_stipulation_beside_a_set_up(user):
+    """The four buttons stand on the first page, after New, and beside a set-up in a study; without a refusal."""
+    user.open_tables(TABLES, SMALL)
+    star = game("Chapter 1", "Réti", "1. Kg3 Kf5 2. Kf3", "*")
+    for state in ("the first page", "after New"):
+        opened(user, "star.pgn", star, "document.getElementById('aims')")
+        assert user.by("start").is_displayed() and user.by("aims").is_displayed(), state
+        assert not user.by("sayBoard").is_displayed(), user.text("sayBoard")
+        assert user.text("aims").startswith("1 game of this PGN does not say what is to be done. Read it as:")
+        user.picture("aims_" + state.replace(" ", "_"), whole=False)
+        user.d.find_element(By.CSS_SELECTOR, '[data-import="white win"]').click()
+        user.until("document.getElementById('stamp')", 60)
+        user.settle()
+        assert user.text("stamp") == "sound" and "stipulate white win" in script(user)
+        user.click("new")
+    user.click("cancel")
+    opened(user, "both.pgn", star + game("Chapter 2", "B", "1. Kg3"))
+    user.click("setUp")
+    assert user.by("start").is_displayed() and user.by("aims").is_displayed()
+    user.click("new")
+    opened(user, "more.pgn", star + game("Seven", "B", "1. Kg3", fen=BAD), "document.getElementById('tried')")
+    assert "6 men" in user.text("tried") and user.by("aims").is_displayed()
+    user.set_up(FEN, "white win")
+    assert not user.has("aims") and not user.has("tried")
+
+
 def test_numbers_and_what_is_carried(user):
     """A study has one number on the board, in report and list; lines have theirs; what is carried is said."""
     user.open_tables(TABLES, SMALL)
