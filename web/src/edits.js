@@ -1,7 +1,7 @@
 // @ts-check
 // What the user does, as a change of the script's lines. Each function gives the lines to be run; the program takes or
 // refuses them.
-import {originalsIn} from './imported.js';
+import {originalsIn, restated} from './imported.js';
 import {aimWords} from './words.js';
 import {TAGS, isEdit, isGame, oneGame, wordsOf} from './script.js';
 import {squareName} from './fen.js';
@@ -134,7 +134,16 @@ function setLine(lines, study, place, line) {
  * @param {string} words
  * @returns {Change}
  */
-export const stipulate = (lines, study, words) => ({lines: setLine(lines, study, 'aim', 'stipulate ' + words)});
+export function stipulate(lines, study, words) {
+  const set = setLine(lines, study, 'aim', 'stipulate ' + words), same = study.aim && aimWords(study.aim) === words;
+  return {lines: same ? set : [...set.slice(0, study.head), ...headAnew(set, study), ...set.slice(study.from)]};
+}
+/**
+ * The remarks above the position of a study that is to be another, or to do something else.
+ * @param {string[]} lines
+ * @param {Study} study
+ */
+const headAnew = (lines, study) => restated(lines.slice(study.head, study.from));
 /**
  * What the PGN Standard writes where a tag is not known.
  * @param {string} name
@@ -236,8 +245,8 @@ export function withMoves(lines, study, fen, aim, moves) {
   const gap = games < 0 && rest.length && !rest[rest.length - 1].trim() ? 1 : 0;
   return {
     lines: [
-      ...lines.slice(0, study.from), 'position ' + fen, 'stipulate ' + aim, ...rest.slice(0, at - gap), ...moves,
-      ...rest.slice(at - gap), ...lines.slice(study.end)
+      ...lines.slice(0, study.head), ...headAnew(lines, study), 'position ' + fen, 'stipulate ' + aim,
+      ...rest.slice(0, at - gap), ...moves, ...rest.slice(at - gap), ...lines.slice(study.end)
     ]
   };
 }

@@ -32,8 +32,8 @@ export function plainBytes(bytes) {
   const read = code ? new TextEncoder().encode(new TextDecoder(code).decode(bytes)) : bytes;
   return read.includes(10) ? read : read.map(byte => (byte === 13 ? 10 : byte));
 }
-const GAME = /^#!? game (\d+), line (\d+)(?:, column (\d+))?(?: \(([^:]*)\))?: (.*)$/,
-      COUNTS = /^#!? games (\d+), studies (\d+)$/;
+const GAME = /^#!? game (\d+), line (\d+)(?:, column (\d+))?(?: \(([^:]*)\))?: (.*)$/, STIPULATED = 'stipulated by ',
+      AGAINST = /^#! the stipulation (.*)$/, COUNTS = /^#!? games (\d+), studies (\d+)$/;
 /**
  * The game that a remark says was left out.
  * @param {string} line
@@ -41,7 +41,7 @@ const GAME = /^#!? game (\d+), line (\d+)(?:, column (\d+))?(?: \(([^:]*)\))?: (
  */
 export function leftOutBy(line) {
   const m = GAME.exec(line);
-  if (!m || m[5].startsWith('stipulated by ')) return null;
+  if (!m || m[5].startsWith(STIPULATED)) return null;
   const [why, text = ''] = m[5].replace(/^left out: /, '').split(' at ');
   return {game: Number(m[1]), line: Number(m[2]), column: Number(m[3]) || 0, author: m[4] || '', why, text};
 }
@@ -131,6 +131,35 @@ export function documentOf(lines) {
   while (kept.length && kept[kept.length - 1] === '') kept.pop();
   return kept;
 }
+/**
+ * Where a study comes from, as the remarks above its position say: the game of the file and its line, which source its
+ * stipulation is from, as `its tag Result`, and what speaks against it, as `differs from its result`.
+ * @typedef {{game: number, line: number, source: string, against: string[]}} Origin
+ */
+/**
+ * @param {string[]} remarks
+ * @returns {Origin}
+ */
+export function originIn(remarks) {
+  const found = remarks.map(line => GAME.exec(line)).find(m => m && m[5].startsWith(STIPULATED)),
+        against = remarks.map(line => AGAINST.exec(line)).filter(Boolean);
+  return {
+    game: found ? Number(found[1]) : 0,
+    line: found ? Number(found[2]) : 0,
+    source: found ? found[5].slice(STIPULATED.length) : '',
+    against: /** @type {RegExpExecArray[]} */ (against).map(m => m[1])
+  };
+}
+/**
+ * The remarks above a position once the user states another stipulation, or sets up other men: what the file says of
+ * stipulation and result, and the marks in it, are of what stood there before.
+ * @param {string[]} remarks
+ */
+export const restated = remarks =>
+  remarks.filter(line => !AGAINST.test(line) && !/^#!? (tag Result|result|mark) /.test(line)).map(line => {
+    const m = GAME.exec(line);
+    return m && m[5].startsWith(STIPULATED) ? `${line.slice(0, line.length - m[5].length)}${STIPULATED}hand` : line;
+  });
 const ORIGINAL = /^#!? (?:its )?(Event|White|Black|Site|Date|Round) was: (.*)$/;
 /**
  * The texts of tags in their own letters, as remarks above a position have them.

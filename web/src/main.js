@@ -12,7 +12,7 @@ import {close as closeEarlier} from './earlier_view.js';
 import {close as closeFinding, openFinding, startFinding} from './finding_view.js';
 import {makeCore} from './engine.js';
 import {back, forth, listenToKeys} from './keys.js';
-import {savedGames} from './notes.js';
+import {savedGames} from './saved_games.js';
 import {unreadIn} from './entries.js';
 import {fensOf, reportedLines, toText, savedScript} from './script.js';
 import {begin, closeSetup, judgeDraft, openSetup} from './setup.js';
@@ -136,6 +136,10 @@ function sayUnread(how) {
 on('savePgn', () => {
   download(fileName('.pgn'), savedGames(doc()));
   sayUnread('with its verdict');
+});
+on('savePlain', () => {
+  download(fileName('').replace(/\.checked$/, '') + '.unmarked.pgn', savedGames(doc(), false));
+  sayUnread('and its game says so');
 });
 addEventListener('beforeprint', () => {
   for (const more of /** @type {NodeListOf<HTMLElement>} */ (document.querySelectorAll('button.more'))) more.click();

@@ -1,58 +1,65 @@
 // @ts-check
-// What a PGN says beside its moves - comments, NAGs, tags that a script has no place for - kept as remarks of the
-// script, each at the moves that lead to it, and written into the saved PGN again where these moves still stand there.
+// What a PGN says beside its moves - comments, NAGs, its result, tags that a script has no place for - kept as remarks
+// of the script, each at the moves that lead to it; saved_games.js writes it into the saved PGN again.
 import {HOLDS_STAMP} from './core_words.js';
 import {isKnown} from './edits.js';
-import {hasSolution, unreadIn} from './entries.js';
 import {TAGS} from './script.js';
-/** @typedef {import('./types.js').Study} Study @typedef {import('./types.js').Script} Script */
+/** @typedef {import('./types.js').Study} Study */
 
-const OWN_TAGS = new Set([...TAGS, 'Result', 'FEN', 'SetUp']), MOST = 900;
-const TOKEN = /\{([^}]*)\}|;([^\n]*)|(\$\d+)|([()])|([!?]{1,2})|([^\s(){};$!?]+)/g;
+const OWN_TAGS = new Set([...TAGS, 'FEN', 'SetUp']), MOST = 900;
+export const TOKEN = /\{([^}]*)\}|;([^\n]*)|(\$\d+)|([()])|([!?]{1,2})|([^\s(){};$!?]+)/g;
 /** @param {string} text */
-const oneLine = text => text.replace(/\s+/g, ' ').trim();
+export const oneLine = text => text.replace(/\s+/g, ' ').trim();
 /** @param {string} symbol */
 export const plain = symbol =>
   symbol.replace(/^\d+\.+/, '').replace(/[+#]+$/, '').replace(/[x:=]/g, '').replace(/e\.?p\.?$/, '');
-const RESULT = /^(1-0|0-1|1\/2-1\/2|1\/2|\*)$/,
-      SIGNS = /** @type {Record<string, string>} */ (
+export const RESULT =
+  /^(1[-\u2010-\u2013\u2212]0|0[-\u2010-\u2013\u2212]1|(1\/2|\u00bd)([-\u2010-\u2013\u2212]\2)?|\*)$/;
+/**
+ * A result as PGN writes it.
+ * @param {string} symbol
+ */
+const wholeResult = symbol =>
+  (/^(1\/2|\u00bd)/.test(symbol) ? '1/2-1/2' : symbol.replace(/[\u2010-\u2013\u2212]/, '-'));
+const SIGNS = /** @type {Record<string, string>} */ (
         {'!': '$1', '?': '$2', '!!': '$3', '??': '$4', '!?': '$5', '?!': '$6', '=': '$10', '+-': '$18', '-+': '$19'}),
       NULL_MOVE = /^(--|Z0|null|pass|[\u2013\u2014])$/;
 /**
  * The moves of a game, one after the other: for each token the moves from the start that lead to it. A comment before
  * the first move of a variation is one of that move.
  * @param {string} movetext
- * @param {(kind: 'comment' | 'nag' | 'move', text: string, path: string[], end: number) => void} visit
+ * @param {(kind: 'comment' | 'nag' | 'move' | 'result', text: string, path: string[]) => void} visit
  */
-function walk(movetext, visit) {
+export function walk(movetext, visit) {
   const outer = /** @type {[string[], string[]][]} */ ([]);
   let at = /** @type {string[]} */ ([]), before = at, ahead = /** @type {string[] | null} */ (null);
-  const flush = (/** @type {number} */ end) => {
-    for (const text of ahead || []) visit('comment', text, at, end);
+  const flush = () => {
+    for (const text of ahead || []) visit('comment', text, at);
     ahead = null;
   };
-  for (const m of movetext.matchAll(TOKEN)) {
-    const [token, brace, line, nag, bracket, sign, symbol] = m, end = (m.index || 0) + token.length;
+  for (const [, brace, line, nag, bracket, sign, symbol] of movetext.matchAll(TOKEN)) {
     if (bracket === '(') {
       outer.push([at, before]);
       [at, ahead] = [before, []];
     } else if (bracket === ')') {
       [at, before] = outer.pop() || [at, before];
-      flush(end);
-    } else if (nag || sign) visit('nag', nag || SIGNS[sign] || '', at, end);
+      flush();
+    } else if (nag || sign) visit('nag', nag || SIGNS[sign] || '', at);
     else if (brace !== undefined || line !== undefined) {
       if (ahead) ahead.push(oneLine(brace ?? line));
-      else visit('comment', oneLine(brace ?? line), at, end);
-    } else if (symbol && SIGNS[symbol]) visit('nag', SIGNS[symbol], at, end);
+      else visit('comment', oneLine(brace ?? line), at);
+    } else if (symbol && SIGNS[symbol]) visit('nag', SIGNS[symbol], at);
     else if (symbol && RESULT.test(symbol)) {
-      if (!outer.length) return;
-    } else if (symbol && (NULL_MOVE.test(symbol) || /[a-hO0]/.test(plain(symbol)))) {
+      if (!outer.length) return visit('result', wholeResult(symbol), []);
+    } else if (symbol && isMoveText(symbol)) {
       [before, at] = [at, [...at, NULL_MOVE.test(symbol) ? '--' : plain(symbol)]];
-      visit('move', symbol, at, end);
-      flush(end);
+      visit('move', symbol, at);
+      flush();
     }
   }
 }
+/** @param {string} symbol */
+export const isMoveText = symbol => NULL_MOVE.test(symbol) || /[a-hO0]/.test(plain(symbol));
 /** A tag, with the comments before it. */
 const TAG = /^((?:\s|\{[^}]*\}|;[^\n]*(?:\n|$))*)\[[ \t]*([A-Za-z]\w*)[ \t]*"((?:\\.|[^\\\n])*?)"[ \t]*\]/;
 /**
@@ -90,7 +97,7 @@ export function namesOf(game) {
 export function gamesIn(text) {
   const games = /** @type {string[][]} */ ([]);
   let moved = true, event = false;
-  for (const line of text.replace(/^\ufeff/, '').split(/\r*\n/)) {
+  for (const line of text.replace(/^\ufeff/gm, '').split(/\r*\n/)) {
     const remark = /^[%;]/.test(line), silent = remark || /^[ \t\v\f\r]*$/.test(line),
           tag = remark ? null : /^[ \t]*\[[ \t]*([A-Za-z]\w*)[ \t]*"/.exec(line);
     if (!games.length && silent) continue;
@@ -127,46 +134,58 @@ function partsOf(text) {
  * @param {string} text
  */
 const withoutBraces = text => text.replace(/\{/g, '(').replace(/\}/g, ')');
-/** What only some notations say: where a man comes from, figurines, the dash of `Kh2-g3`. */
-const NOTATIONS = /** @type {[RegExp, string][]} */ ([
-  [/[♔♚]/, 'K'], [/[♕♛]/, 'Q'], [/[♖♜]/, 'R'], [/[♗♝]/, 'B'], [/[♘♞]/, 'N'], [/[♙♟P]/, ''],
-  [/^([KQRBN]?)[a-h]?[1-8]?[-–]?([a-h][1-8])/, '$1$2']
-]);
-/** @param {string} san */
-const looseMove = san => NOTATIONS.reduce((text, [from, to]) => text.replace(from, to), san);
 /**
- * The moves of a path without what only some notations say.
- * @param {string} path
- */
-const loose = path => path.split(' ').map(looseMove).join(' ');
-/**
- * What a game says beside its moves, as remarks: `#! tag NAME TEXT`, `#! note MOVES: TEXT`, and
- * `#! note+ MOVES: TEXT` for what is more of a long comment.
+ * What a game says beside its moves, as remarks: `#! tag NAME TEXT`, `#! note MOVES: TEXT`, and `#! note+ MOVES: TEXT`
+ * for what is more of a long comment; `#! result TEXT`, where the result behind the moves is not that of the tag. In a
+ * game that this page saved with its marks `#! mark MOVES: $1` is a glyph of the program or of the author.
  * @param {string} game
  */
 export function remarksOf(game) {
   const [tags, movetext] = parts(game), own = isOwn(movetext), out = /** @type {string[]} */ ([]);
   for (const [name, text] of Object.entries(tags))
     if (!OWN_TAGS.has(name)) out.push(`#! tag ${name} ${text}`);
-  let last = '';
-  walk(movetext, (kind, text, path) => {
-    const behindMove = last === 'move';
-    last = kind;
-    if (kind === 'move' || !text) return;
-    if (own && (kind === 'nag' ? behindMove && /^\$[14]$/.test(text) : isOurs(text))) return;
-    for (const [i, part] of partsOf(withoutBraces(text)).entries())
-      out.push(`#! note${i ? '+' : ''} ${path.join(' ') || '-'}: ${part}`);
-  });
+  const said = saidIn(movetext);
+  for (const {kind, text, key, place} of said) {
+    const first = own && kind === 'nag' && place === 'move' && /^\$[14]$/.test(text);
+    if (kind === 'result') {
+      if (text !== tags.Result) out.push(`#! result ${text}`);
+    } else if (!first) {
+      for (const [i, part] of partsOf(withoutBraces(own && kind === 'comment' ? withoutOurs(text) : text)).entries())
+        if (part) out.push(`#! note${i ? '+' : ''} ${key}: ${part}`);
+    } else if (!said.some(other => other.key === key && other.kind === 'nag' && other.place === 'comment'))
+      out.push(`#! mark ${key}: ${text}`);
+  }
   return out.map(short);
 }
-const VERDICT = /^(White|Black) to (win|draw|mate in \d+): /,
-      OURS = /^(draw|mate|(White|Black) mates in \d+)(; dual \d+)?$/;
+/**
+ * What is said beside the moves, in its order: at which moves, and whether it stands right behind the move, or
+ * somewhere behind a comment there.
+ * @param {string} movetext
+ */
+function saidIn(movetext) {
+  const said = /** @type {{kind: string, text: string, key: string, place: string}[]} */ ([]);
+  let place = '';
+  walk(movetext, (kind, text, path) => {
+    if (kind !== 'move' && text) said.push({kind, text, key: path.join(' ') || '-', place});
+    place = kind === 'move' ? 'move' : kind === 'comment' || place === 'comment' ? 'comment' : '';
+  });
+  return said;
+}
+const VALUE = '(draw|mate|(White|Black) mates in \\d+)',
+      VERDICT = '(White|Black) to (win|draw|mate in \\d+): (wrong|sound|unsound \\d+), ' + VALUE,
+      OPENING = new RegExp(`^${VERDICT}(\\. |$)`), OURS = new RegExp(`(^|(?<=[.!?:;,\\])]) )${VALUE}(; dual \\d+)?$`);
 /** What is said in a game behind `sound`, which is no verdict on a solution then. */
-const NO_MOVE = `${HOLDS_STAMP}: no move of the solution is given`;
-/** @param {string} comment */
-const isOurs = comment => VERDICT.test(comment) || OURS.test(comment) || comment === NO_MOVE;
+export const NO_MOVE = `${HOLDS_STAMP}: no move of the solution is given`;
+/**
+ * What of a comment is not the program's: its words begin the comment before the first move, and end that of a move.
+ * @param {string} comment
+ */
+function withoutOurs(comment) {
+  const rest = comment.replace(OPENING, '');
+  return (rest.startsWith(NO_MOVE) ? rest.slice(NO_MOVE.length).replace(/^\. /, '') : rest).replace(OURS, '');
+}
 /** @param {string} movetext */
-const isOwn = movetext => VERDICT.test(oneLine((/\{([^}]*)\}/.exec(movetext) || [])[1] || ''));
+const isOwn = movetext => OPENING.test(oneLine((/\{([^}]*)\}/.exec(movetext) || [])[1] || ''));
 
 /**
  * The lines of a script with the notes of a study at other moves.
@@ -176,83 +195,7 @@ const isOwn = movetext => VERDICT.test(oneLine((/\{([^}]*)\}/.exec(movetext) || 
  * @param {(squares: string) => string} [marked]      the squares that its arrows and circles have from now on
  */
 export const notesMoved = (lines, study, to, marked = squares => squares) => lines.map((line, at) => {
-  if (at < study.head || at >= study.from || !/^#!? note\+? /.test(line)) return line;
-  return line.replace(/^(#!? note\+? )(\w[^:]*)/, (_, note, moves) => note + to(moves))
+  if (at < study.head || at >= study.from || !/^#!? (note\+?|mark) /.test(line)) return line;
+  return line.replace(/^(#!? (?:note\+?|mark) )(\w[^:]*)/, (_, note, moves) => note + to(moves))
     .replace(/(\[%c[as]l)( [^\]]*)/g, (_, mark, squares) => mark + marked(squares));
 });
-/**
- * A game as the program writes it, with the tags and notes of remarks put in, each behind what the program says there.
- * @param {string} game
- * @param {string[]} remarks
- */
-export function withNotes(game, remarks) {
-  const tags = remarks.map(line => /^#!? tag (\w+) (.*)$/.exec(line)).filter(Boolean),
-        notes = /** @type {Map<string, string[]>} */ (new Map());
-  for (const line of remarks) {
-    const [, more, moves, text] = /^#!? note(\+?) ([^:]*): (.*)$/.exec(line) || [];
-    if (!text) continue;
-    const key = moves === '-' ? '' : moves, list = notes.get(key) || [], last = list[list.length - 1];
-    if (more && last) list[list.length - 1] = `${last.slice(0, -1)} ${text}}`;
-    else list.push(/^\$\d+$/.test(text) ? text : `{${text}}`);
-    notes.set(key, list);
-  }
-  if (!tags.length && !notes.size) return game;
-  const cut = game.indexOf('\n\n') + 1, head = game.slice(0, cut), movetext = game.slice(cut),
-        puts = /** @type {Map<number, string[]>} */ (new Map());
-  let last = '\n';
-  const ends = /** @type {Map<string, number>} */ (new Map()), nags = /** @type {Map<string, string>} */ (new Map());
-  walk(movetext, (kind, text, path, end) => {
-    last = path.join(' ');
-    if (kind === 'move' || ends.has(last) || !last) ends.set(last, end);
-    if (kind === 'nag') nags.set(last, text);
-  });
-  const nearly = new Map([...ends.keys()].reverse().map(key => [loose(key), key]));
-  for (const [key, list] of notes) {
-    const at = ends.has(key) ? key : nearly.get(loose(key)) || '-', end = ends.get(at);
-    const more = list.filter(note => note !== nags.get(at));
-    if (end !== undefined) puts.set(end, [...(puts.get(end) || []), ...more]);
-  }
-  const text = [...puts]
-                 .sort(([x], [y]) => y - x)
-                 .reduce((done, [at, list]) => `${done.slice(0, at)} ${list.join(' ')}${done.slice(at)}`, movetext);
-  const lines = tags.map(m => `[${/** @type {any} */ (m)[1]} "${/** @type {any} */ (m)[2]}"]\n`).join('');
-  return head + lines + '\n' + wrap(text) + '\n\n';
-}
-/**
- * Words in lines of at most 79 letters.
- * @param {string} text
- */
-function wrap(text) {
-  const lines = [''];
-  for (const word of text.trim().split(/\s+/)) {
-    const last = lines[lines.length - 1];
-    if (last && last.length + 1 + word.length > 79) lines.push(word);
-    else lines[lines.length - 1] = last ? `${last} ${word}` : word;
-  }
-  return lines.join('\n');
-}
-
-/**
- * A study's games as they are saved: names in their own letters, what a PGN said beside the moves, and that it was not
- * read to its end, or has no solution.
- * @param {Script} script
- * @param {Study} study
- */
-function gamesOfStudy(script, study) {
-  const unread = unreadIn(script, study).replace(/[{}]/g, ''),
-        empty = study.verdict === 'sound' && !hasSolution(script.lines, study, null),
-        said = unread || (empty ? NO_MOVE : ''),
-        remarks = script.lines.slice(study.head, study.from).concat(said && `#! note -: ${said}`);
-  return study.games.map(game => withNotes(inOwnLetters(study, game), remarks));
-}
-/** @param {Script} script */
-export const savedGames = script => script.studies.flatMap(study => gamesOfStudy(script, study)).join('');
-/**
- * A game with the texts of its tags in their own letters.
- * @param {Study} study
- * @param {string} game
- */
-function inOwnLetters({originals}, game) {
-  const own = (/** @type {string} */ name) => originals[name].replace(/["\\]/g, '\\$&');
-  return game.replace(/^\[(\w+) ".*"\]$/gm, (tag, name) => (originals[name] ? `[${name} "${own(name)}"]` : tag));
-}

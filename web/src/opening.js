@@ -15,8 +15,9 @@ import {
   withoutAim
 } from './imported.js';
 import {freshId} from './keep.js';
-import {gamesIn, namesOf, remarksOf, savedGames} from './notes.js';
+import {gamesIn, namesOf, remarksOf} from './notes.js';
 import {replace} from './history.js';
+import {savedGames} from './saved_games.js';
 import {isCommand, isSilent, linesOf} from './script.js';
 import {aimText, counted, endedReason, readAim} from './words.js';
 

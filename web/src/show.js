@@ -188,7 +188,7 @@ function showBar() {
     });
   if (many) $('studies').value = d.at;
   $('more').disabled = !d.studies.length;
-  for (const id of ['saveScript', 'savePgn', 'saveReport', 'print']) $(id).disabled = !d.lines.length;
+  for (const id of ['saveScript', 'savePgn', 'savePlain', 'saveReport', 'print']) $(id).disabled = !d.lines.length;
 }
 export function showProgress() {
   const p = app.progress;

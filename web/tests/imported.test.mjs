@@ -14,7 +14,7 @@ import {
   withoutAim
 } from '../src/imported.js';
 import {copyStudy, dropStudy} from '../src/study_edits.js';
-import {savedGames} from '../src/notes.js';
+import {savedGames} from '../src/saved_games.js';
 import {readScript, assumeAccepted} from '../src/script.js';
 
 const LINES = [

@@ -169,6 +169,7 @@ const START = [
   'pgn'
 ];
 const study = {
+  head: 0,
   from: 0,
   end: 6,
   last: 4,

@@ -99,7 +99,7 @@ def test_ten_entries_are_ten_rows(user):
     assert table[7][5].startswith("unsound") and int(table[7][6]) + 1 >= 1 and int(table[1][8]) > 0
     name, saved = user.download("savePgn")
     assert name == "entries.checked.pgn" and '[White "Троицкий"]' in saved and '[Annotator "an editor"]' in saved
-    assert "{The only move}" in saved.replace("\n", " ")
+    assert "{The only move. White mates in" in saved.replace("\n", " ")
     user.d.find_element(By.CSS_SELECTOR, '[data-import="white draw"]').click()
     user.settle()
     assert len(rows(user)) == 10 and rows(user)[7][4].startswith(("sound", "wrong", "unsound")), rows(user)
@@ -212,6 +212,32 @@ def test_our_own_pgn_is_kept_whole(user):
     opened(user, "own.pgn", own, "document.getElementById('stamp')")
     user.until("!document.getElementById('notKept')", 20)
     assert user.download("savePgn") == ("own.pgn", own)
+
+
+def test_a_file_goes_back_as_its_authors(user):
+    """Results, comments and glyphs are theirs; what is saved is opened and saved again to the same bytes."""
+    user.open_tables(TABLES, SMALL)
+    black = "8/8/8/3k4/8/3K4/3P4/8 b - - 0 1"
+    pgn = game("One", "A", "{Gewinn} 1. Kg3 $3 {the key} Kf5 (1... Kh5 $1 {und ...Kg5}) 2. Kf3!", "1-0")
+    pgn += game("Two", "B", "{Black to move and draw} 1... Ke5 (1... Kc5 $2 {fails} 2. Kc3)", "1/2-1/2", black)
+    opened(user, "entries.pgn", pgn)
+    name, saved = user.download("savePgn")
+    words = saved.replace("\n", " ")
+    assert name == "entries.checked.pgn" and words.count('[Result "1/2-1/2"]') == 1 and words.count(" 1/2-1/2 ") == 1
+    assert "Gewinn} 1. Kg3 $3 {the key. White mates in" in words, words
+    assert "Kh5 $1 {und ...Kg5. White mates in" in words, words
+    assert "Kc5 $2 {fails. White mates in" in words and not re.search(r"\} \{|\$\d \$\d", words), words
+    name, plain = user.download("savePlain")
+    assert name == "entries.unmarked.pgn" and not re.search("mates in|unsound|sound|wrong", plain), plain
+    moves = [text.replace("\n", " ") for text in re.findall(r"\n\n(\S.*?)\n\n", plain, re.S)]
+    assert moves == [
+        "{Gewinn} 1. Kg3 $3 {the key} 1... Kf5 (1... Kh5 $1 {und ...Kg5}) 2. Kf3 $1 1-0",
+        "{Black to move and draw} 1... Ke5 (1... Kc5 $2 {fails} 2. Kc3) 1/2-1/2",
+    ], moves
+    opened(user, "entries.checked.pgn", saved, "document.getElementById('import').innerText === ''")
+    assert user.download("savePgn") == ("entries.checked.pgn", saved)
+    user.choose("aimGoal", "draw")
+    assert '[Result "1-0"]' in user.download("savePgn")[1] and "stipulated by hand" in script(user)
 
 
 def test_studies_are_copied_and_moved(user):

@@ -1,0 +1,189 @@
+// @ts-check
+// The games as they are saved: those of the program with what is the author's - his names and tags, his result, his
+// comments and glyphs - in them; with the program's marks or without.
+import {hasSolution, unreadIn} from './entries.js';
+import {originIn} from './imported.js';
+import {NO_MOVE, RESULT, TOKEN, isMoveText, oneLine, plain} from './notes.js';
+import {aimText} from './words.js';
+/** @typedef {import('./types.js').Study} Study @typedef {import('./types.js').Script} Script */
+/**
+ * A move of a game with what stands around it, or the start.
+ * @typedef {{key: string, opens: string, number: string, san: string, glyphs: string[], comments: string[],
+ *   closes: string}} Item
+ */
+/** What the author says at a move; `marks` are glyphs that he or the program wrote. */
+/** @typedef {{comments: string[], glyphs: string[], marks: string[]}} Note */
+
+/**
+ * A game of the program, taken apart.
+ * @param {string} movetext
+ */
+function itemsOf(movetext) {
+  const item = (/** @type {string} */ key, opens = '', number = '', san = '') =>
+    /** @type {Item} */ ({key, opens, number, san, glyphs: [], comments: [], closes: ''});
+  const items = [item('')], outer = /** @type {[string[], string[]][]} */ ([]);
+  let at = /** @type {string[]} */ ([]), before = at, opens = '', number = '', result = '';
+  for (const [, brace, , nag, bracket, , symbol] of movetext.matchAll(TOKEN)) {
+    const last = items[items.length - 1];
+    if (bracket === '(') {
+      outer.push([at, before]);
+      [at, opens] = [before, opens + '('];
+    } else if (bracket === ')') {
+      [at, before] = outer.pop() || [at, before];
+      last.closes += ')';
+    } else if (nag) last.glyphs.push(nag);
+    else if (brace !== undefined) last.comments.push(oneLine(brace));
+    else if (symbol && RESULT.test(symbol)) result = symbol;
+    else if (symbol && isMoveText(symbol)) {
+      [before, at] = [at, [...at, plain(symbol)]];
+      items.push(item(at.join(' '), opens, number, symbol));
+      [opens, number] = ['', ''];
+    } else if (symbol) number = symbol;
+  }
+  return {items, result};
+}
+/**
+ * Texts as one: a full stop comes between two where the first has no sign at its end.
+ * @param {string[]} texts
+ */
+export const joined = texts =>
+  texts.filter(Boolean).reduce((all, text) => (all ? all + (/[.!?:;,\])]$/.test(all) ? ' ' : '. ') + text : text), '');
+/** What only some notations say: where a man comes from, figurines, the dash of `Kh2-g3`. */
+const NOTATIONS = /** @type {[RegExp, string][]} */ ([
+  [/[♔♚]/, 'K'], [/[♕♛]/, 'Q'], [/[♖♜]/, 'R'], [/[♗♝]/, 'B'], [/[♘♞]/, 'N'], [/[♙♟P]/, ''],
+  [/^([KQRBN]?)[a-h]?[1-8]?[-–]?([a-h][1-8])/, '$1$2']
+]);
+/** @param {string} san */
+const looseMove = san => NOTATIONS.reduce((text, [from, to]) => text.replace(from, to), san);
+/**
+ * The moves of a path without what only some notations say.
+ * @param {string} path
+ */
+const loose = path => path.split(' ').map(looseMove).join(' ');
+/**
+ * The notes of remarks at the moves of a game; those at moves that are not in it are left out.
+ * @param {string[]} remarks
+ * @param {Item[]} items
+ */
+function notesAt(remarks, items) {
+  const notes = /** @type {Map<string, Note>} */ (new Map()), keys = new Set(items.map(item => item.key)),
+        nearly = new Map([...keys].reverse().map(key => [loose(key), key]));
+  for (const line of remarks) {
+    const [, kind, moves, text] = /^#!? (note\+?|mark) ([^:]*): (.*)$/.exec(line) || [];
+    if (!text) continue;
+    const key = moves === '-' ? '' : moves, at = keys.has(key) ? key : nearly.get(loose(key));
+    if (at === undefined) continue;
+    const note = notes.get(at) || {comments: [], glyphs: [], marks: []}, last = note.comments.length - 1;
+    if (kind === 'mark') note.marks.push(text);
+    else if (/^\$\d+$/.test(text)) note.glyphs.push(text);
+    else if (kind === 'note+' && last >= 0) note.comments[last] += ` ${text}`;
+    else note.comments.push(text);
+    notes.set(at, note);
+  }
+  return notes;
+}
+/** Of the glyphs those up to `$9` judge the move, and a move has one of them; the others judge the position. */
+const judgesMove = (/** @type {string} */ glyph) => Number(glyph.slice(1)) < 10;
+/**
+ * The glyphs of a move: of those that judge it the author's first one, else the program's.
+ * @param {Item} item
+ * @param {Note} note
+ * @param {boolean} marks
+ */
+function glyphsOf(item, note, marks) {
+  const open = marks ? note.marks : note.marks.filter(glyph => !item.glyphs.includes(glyph)),
+        [first] = [...note.glyphs.filter(judgesMove), ...open, ...(marks ? item.glyphs : [])];
+  return [...new Set([first, ...note.glyphs.filter(glyph => !judgesMove(glyph))])].filter(Boolean);
+}
+/**
+ * The words of a game. A number of Black's move only stands where something stands between it and White's.
+ * @param {Item[]} items
+ * @param {Map<string, Note>} notes
+ * @param {boolean} marks
+ * @param {string[]} said      what the page says before the first move
+ */
+function wordsOfGame(items, notes, marks, said) {
+  let follows = false;
+  return items.flatMap(item => {
+    const note = notes.get(item.key) || {comments: [], glyphs: [], marks: []}, ours = marks ? item.comments : [],
+          comment = joined(item.san ? [...note.comments, ...ours] : [...ours, ...said, ...note.comments]),
+          number = follows && !item.opens && /\.\.\.$/.test(item.number) ? '' : item.number;
+    follows = Boolean(item.san && !comment && !item.closes);
+    const words =
+      [item.opens + number, item.san, ...glyphsOf(item, note, marks), comment && `{${comment}}`].filter(Boolean);
+    return words.length ? [...words.slice(0, -1), words[words.length - 1] + item.closes] : [];
+  });
+}
+/**
+ * The result that the author states in the tag and behind the moves; `*` states none, so the program's stands there,
+ * but in a game without its marks.
+ * @param {string[]} remarks
+ * @param {boolean} marks
+ */
+function resultsIn(remarks, marks) {
+  const textOf = (/** @type {RegExp} */ form) => (remarks.map(line => form.exec(line)).find(Boolean) || [])[1] || '',
+        stated = (/** @type {string} */ text) => (text === '*' && marks ? '' : text);
+  const tag = stated(textOf(/^#!? tag Result (.*)$/)), behind = stated(textOf(/^#! result (.*)$/));
+  return {tag: tag || behind, behind: behind || (RESULT.test(tag) ? tag : '')};
+}
+/**
+ * A game as the program writes it, with the tags and notes of remarks put in: one comment at a move, the author's words
+ * first, and before the first move the program's, by which the game is read again.
+ * @param {string} game
+ * @param {string[]} remarks
+ * @param {boolean} [marks]      without them nothing stands in it that the program says
+ * @param {string[]} [said]      before the first move
+ */
+export function withNotes(game, remarks, marks = true, said = []) {
+  const cut = game.indexOf('\n\n') + 1, {items, result} = itemsOf(game.slice(cut)), notes = notesAt(remarks, items),
+        {tag, behind} = resultsIn(remarks, marks);
+  const tags = remarks.map(line => /^#!? tag (\w+) (.*)$/.exec(line) || []).filter(m => m[1] && m[1] !== 'Result');
+  if (marks && !tags.length && !notes.size && !said.length && !tag) return game;
+  const head = tag ? game.slice(0, cut).replace(/^\[Result ".*"\]$/m, () => `[Result "${tag}"]`) : game.slice(0, cut),
+        more = tags.map(([, name, text]) => `[${name} "${text}"]\n`).join(''),
+        words = [...wordsOfGame(items, notes, marks, said), behind || result];
+  return head + more + '\n' + wrap(words.join(' ')) + '\n\n';
+}
+/**
+ * Words in lines of at most 79 letters.
+ * @param {string} text
+ */
+function wrap(text) {
+  const lines = [''];
+  for (const word of text.trim().split(/\s+/)) {
+    const last = lines[lines.length - 1];
+    if (last && last.length + 1 + word.length > 79) lines.push(word);
+    else lines[lines.length - 1] = last ? `${last} ${word}` : word;
+  }
+  return lines.join('\n');
+}
+
+/**
+ * A study's games as they are saved. A study that was not read to its end says so. One without a solution says so with
+ * the program's marks; without them a game says what is to be done, unless the author's file does.
+ * @param {Script} script
+ * @param {Study} study
+ * @param {boolean} marks
+ */
+function gamesOfStudy(script, study, marks) {
+  const remarks = script.lines.slice(study.head, study.from), unread = unreadIn(script, study).replace(/[{}]/g, ''),
+        empty = study.verdict === 'sound' && !hasSolution(script.lines, study, null),
+        stated = originIn(remarks).source.startsWith('its ');
+  const said = marks ? [unread || (empty ? NO_MOVE : '')] : [!stated && study.aim ? aimText(study.aim) : '', unread];
+  return study.games.map(game => withNotes(inOwnLetters(study, game), remarks, marks, said.filter(Boolean)));
+}
+/**
+ * @param {Script} script
+ * @param {boolean} [marks]
+ */
+export const savedGames = (script, marks = true) =>
+  script.studies.flatMap(study => gamesOfStudy(script, study, marks)).join('');
+/**
+ * A game with the texts of its tags in their own letters.
+ * @param {Study} study
+ * @param {string} game
+ */
+function inOwnLetters({originals}, game) {
+  const own = (/** @type {string} */ name) => originals[name].replace(/["\\]/g, '\\$&');
+  return game.replace(/^\[(\w+) ".*"\]$/gm, (tag, name) => (originals[name] ? `[${name} "${own(name)}"]` : tag));
+}
