@@ -1,9 +1,10 @@
 // @ts-check
 // The entries of a script, one a row: its studies with what is said of them, and those that were left out.
-import {HOLDS_STAMP, NOT_READ, TIME_STAMP} from './core_words.js';
+import {HOLDS_STAMP, NOT_READ} from './core_words.js';
 import {isKnown} from './edits.js';
 import {control, sideOf} from './fen.js';
-import {leftOutBy, originalsIn, whyLeftOut} from './imported.js';
+import {mostGames, originalsIn, sourceText} from './imported.js';
+import {leftOutBy, whyLeftOut} from './left_out.js';
 import {isCommand, isEdit, isPosition, wordsOf} from './script.js';
 import {bareTree} from './unmarked.js';
 import {aimText, reason} from './words.js';
@@ -12,9 +13,9 @@ import {aimText, reason} from './words.js';
 /** @typedef {import('./types.js').Aim} Aim */
 /**
  * `kind` is what the list is filtered by; `at` the place of a study, -1 of an entry that was left out; `number` that of
- * its game and page.
+ * its game; `against` what speaks against its stipulation.
  * @typedef {{line: number, at: number, number: string, kind: string, title: string, author: string, fen: string,
- *   aim: string, stamp: string, review: Review | null}} Entry
+ *   aim: string, against: string[], stamp: string, review: Review | null}} Entry
  */
 
 /**
@@ -178,9 +179,11 @@ function leftOutAt(lines, line) {
   if (!game) return [];
   const end = lines.findIndex((text, at) => at > line && !text.startsWith('#'));
   const {Event = '', White = ''} = originalsIn(lines.slice(line, end < 0 ? undefined : end));
-  const place = `line ${game.line}`,
-        title = Event ? `${Event} (game ${game.game}, ${place})` : `game ${game.game} of the PGN, ${place}`;
-  return [missing(line, title, White || game.author, whyLeftOut(game))];
+  const place = `line ${game.line}${game.column ? `, column ${game.column}` : ''}`;
+  return [{
+    ...missing(line, Event || `line ${game.line} of the PGN`, White || game.author, `${whyLeftOut(game)} (${place})`),
+    number: `${game.game}`
+  }];
 }
 /**
  * @param {number} line
@@ -198,21 +201,32 @@ const missing = (line, title, author, why) => ({
   author,
   fen: '',
   aim: '',
+  against: [],
   stamp: `left out: ${why}`,
   review: null
 });
 /**
- * The numbers of each study, as the saved PGN counts its games and the report its pages: `3`; `3\u20134` of a study
+ * The number of each study: that of its game in the PGN that was opened, and further ones for those that were added.
+ * In a script by hand the number of its game in the saved PGN and of its page in the report: `3`; `3\u20134` of a study
  * with two games, and nothing without a stipulation.
- * @param {Study[]} studies
+ * @param {{lines: string[], studies: Study[]}} doc
  */
-export function numbersOf(studies) {
-  let last = 0;
-  return studies.map(({aim, games}) => {
+export function numbersOf({lines, studies}) {
+  let last = mostGames(lines);
+  return studies.map(({aim, games, origin}) => {
+    if (origin && origin.game) return `${origin.game}`;
     const first = last + 1, many = aim ? Math.max(games.length, 1) : 0;
     last += many;
     return many > 1 ? `${first}\u2013${last}` : many ? `${last}` : '';
   });
+}
+/**
+ * The stipulation with where it is from, if that is not the study itself.
+ * @param {Study} s
+ */
+function listedAim(s) {
+  const source = sourceText(s.origin), carried = isAimCarried(s) ? CARRIED : source && ` (${source})`;
+  return s.aim ? aimText(s.aim) + carried : '';
 }
 /**
  * The entries in the order of the script.
@@ -221,7 +235,7 @@ export function numbersOf(studies) {
  * @returns {Entry[]}
  */
 export function entriesOf(doc, reviews = []) {
-  const numbers = numbersOf(doc.studies), studies = doc.studies.map((s, at) => {
+  const numbers = numbersOf(doc), studies = doc.studies.map((s, at) => {
     const {kind, text} = stampOf(doc, s, reviews[at] || null);
     return {
       line: s.from,
@@ -231,7 +245,8 @@ export function entriesOf(doc, reviews = []) {
       title: listedName(s, 'Event') || control(s.fen),
       author: listedName(s, 'White'),
       fen: s.fen,
-      aim: s.aim ? aimText(s.aim) + (isAimCarried(s) ? CARRIED : '') : '',
+      aim: listedAim(s),
+      against: s.origin ? s.origin.against : [],
       stamp: text,
       review: kind === 'not read' ? null : reviews[at] || null
     };
@@ -246,39 +261,4 @@ export function entriesOf(doc, reviews = []) {
   });
   const unread = doc.lines.flatMap((_, line) => leftOutAt(doc.lines, line));
   return [...studies, ...refused, ...unread].sort((x, y) => x.line - y.line);
-}
-const KINDS = ['sound', 'time', 'unsound', 'wrong', 'holds', 'not read', 'left out', 'not judged'];
-/** @type {Record<string, string>} */
-export const KIND_WORDS = {
-  time: TIME_STAMP,
-  unsound: 'unsound'
-};
-/**
- * How many entries there are of each kind, those alone that there are.
- * @param {{kind: string}[]} entries
- * @returns {[string, number][]}
- */
-export const countsOf = entries => /** @type {[string, number][]} */ (
-  KINDS.map(kind => [kind, entries.filter(entry => entry.kind === kind).length]).filter(([, n]) => n));
-
-/**
- * A field of a line of comma-separated values (RFC 4180).
- * @param {string | number} value
- */
-const field = value => (/[",\r\n]/.test(`${value}`) ? `"${`${value}`.replace(/"/g, '""')}"` : `${value}`);
-/**
- * The list as comma-separated values, lines ended by CR LF: numbers of duals, of those that lose time alone, and of
- * defences that are not in the tree, where they are known.
- * @param {Entry[]} entries
- */
-export function csvOf(entries) {
-  const rows = entries.map(({number, title, author, fen, aim, stamp, review}) => {
-    const duals = review ? review.faults.filter(f => f.kind === 'dual') : [],
-          facts =
-            review ? [duals.length, duals.filter(f => f.time === f.duals).length, review.missing.length] : ['', '', ''];
-    return [number, title, author, fen, aim, stamp, ...facts];
-  });
-  const head =
-    ['Number', 'Title', 'Author', 'FEN', 'Stipulation', 'Verdict', 'Duals', 'Duals that lose time', 'Missing defences'];
-  return [head, ...rows].map(row => row.map(field).join(',') + '\r\n').join('');
 }

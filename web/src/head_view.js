@@ -3,9 +3,11 @@
 import {$, h} from './dom.js';
 import {change} from './actions.js';
 import {UNTITLED} from './core_words.js';
-import {app, services, say} from './state.js';
+import {app, doc, services, say} from './state.js';
 import {isDate, isKnown, setTag, stipulate, wholeDate} from './edits.js';
-import {isAimCarried, isCarried, nameOf} from './entries.js';
+import {isAimCarried, isCarried, nameOf, numbersOf} from './entries.js';
+import {againstText, sourceText} from './imported.js';
+import {knownEntries} from './list_facts.js';
 import {plainText} from './opening.js';
 import {guess} from './setup.js';
 import {typedOr} from './node_view.js';
@@ -26,9 +28,10 @@ const open = {
 /** @param {Study} s */
 export function headView(s) {
   const t = s.tags, year = (t.Date || '').replace(/(\.\?\?)+$/, '');
-  const by = [nameOf(s, 'White'), nameOf(s, 'Site'), isKnown(year) && year, isKnown(t.Round) && 'entry ' + t.Round]
-               .filter(Boolean)
-               .join(' · ');
+  const by =
+    [numberText(), nameOf(s, 'White'), nameOf(s, 'Site'), isKnown(year) && year, isKnown(t.Round) && 'entry ' + t.Round]
+      .filter(Boolean)
+      .join(' · ');
   const old = Object.keys(t).filter(name => isCarried(s, name) && isKnown(t[name]));
   return [
     h('h1', {}, nameOf(s, 'Event') || UNTITLED), by && h('p', {class: 'by'}, by),
@@ -37,9 +40,10 @@ export function headView(s) {
         h('button',
           {class: 'chip act', id: 'clearOld', title: 'not known for this study', onclick: () => clearTags(old)},
           'Clear')),
-    h('div', {class: 'row'}, aimView(s.aim, setAim, 'aim'), h('span', {class: 'note'}, app.counts)),
-    s.aim && isAimCarried(s) && carriedAim(s.aim), s.place.Date !== undefined && dateNote(t.Date), lettersNote(s),
-    messageAt('head'),
+    h('div', {class: 'row'}, aimView(s.aim, setAim, 'aim'), s.aim && !isAimCarried(s) && sourceView(s),
+      h('span', {class: 'note'}, app.counts)),
+    s.aim && isAimCarried(s) && carriedAim(s.aim), againstView(s), s.place.Date !== undefined && dateNote(t.Date),
+    lettersNote(s), messageAt('head'),
     h('details', {
       id: 'tags',
       open: open.tags,
@@ -51,6 +55,23 @@ export function headView(s) {
       h('div', {class: 'tags'}, TAGS.map(name => tagView(name, nameOf(s, name)))))
   ];
 }
+/** The number of the study among several entries. */
+export function numberText() {
+  const number = numbersOf(doc())[doc().at];
+  return number && knownEntries(doc()).length > 1 ? `No. ${number}` : '';
+}
+/**
+ * Where the stipulation is from.
+ * @param {Study} s
+ */
+const sourceView = s => sourceText(s.origin) && h('span', {class: 'note', id: 'source'}, `(${sourceText(s.origin)})`);
+/**
+ * What speaks against the stipulation, as long as the user sets none.
+ * @param {Study} s
+ */
+const againstView = ({origin}) => origin && origin.against.length > 0 &&
+  h('p', {class: 'note differs', id: 'against'},
+    `Compare the sources of the stipulation: ${origin.against.map(againstText).join('; ')}.`);
 /** @param {string} words */
 const setAim = words =>
   change(now => (now.studies[now.at] ? stipulate(now.lines, now.studies[now.at], words) : null), 'head');

@@ -1,13 +1,8 @@
 // @ts-check
 // What the program makes of a PGN: blocks of lines with remarks above them, and for each game that has none a remark
 // that says why. A remark begins with `#!`; scripts of version 1.7 have `#`, and are read, too.
-import {GAME_REASONS} from './core_words.js';
-import {counted, reason} from './words.js';
-/**
- * A game that was left out: where in the PGN, its author as far as one is named, why, and at which text.
- * @typedef {{game: number, line: number, column: number, author: string, why: string, text: string}} LeftOut
- */
-
+import {GAME, STIPULATED, leftOut, whyLeftOut} from './left_out.js';
+import {counted} from './words.js';
 /**
  * Whether a text is a PGN: its first line is a tag, or some line is the tag of a position.
  * @param {string} text
@@ -32,30 +27,8 @@ export function plainBytes(bytes) {
   const read = code ? new TextEncoder().encode(new TextDecoder(code).decode(bytes)) : bytes;
   return read.includes(10) ? read : read.map(byte => (byte === 13 ? 10 : byte));
 }
-const GAME = /^#!? game (\d+), line (\d+)(?:, column (\d+))?(?: \(([^:]*)\))?: (.*)$/, STIPULATED = 'stipulated by ',
-      AGAINST = /^#! the stipulation (.*)$/, COUNTS = /^#!? games (\d+), studies (\d+)$/;
-/**
- * The game that a remark says was left out.
- * @param {string} line
- * @returns {LeftOut | null}
- */
-export function leftOutBy(line) {
-  const m = GAME.exec(line);
-  if (!m || m[5].startsWith(STIPULATED)) return null;
-  const [why, text = ''] = m[5].replace(/^left out: /, '').split(' at ');
-  return {game: Number(m[1]), line: Number(m[2]), column: Number(m[3]) || 0, author: m[4] || '', why, text};
-}
-/**
- * Why a game was left out, in words.
- * @param {LeftOut} game
- */
-export function whyLeftOut({why, text}) {
-  const words = why === 'NotSan' && /^[DTSLCFAV][a-h1-8x:]/.test(text)
-    ? 'not a move with the letters K Q R B N, as a PGN has them'
-    : GAME_REASONS[why] || (/^[A-Z]\w+$/.test(why) ? reason('error ' + why) : why);
-  return text ? `${text}: ${words}` : words;
-}
-/** @param {LeftOut} game */
+const AGAINST = /^#! the stipulation (.*)$/, COUNTS = /^#!? games (\d+), studies (\d+)$/;
+/** @param {import('./left_out.js').LeftOut} game */
 const placeOf = ({game, line, column, author}) =>
   `game ${game}${author && ` (${author})`}, line ${line}${column ? `, column ${column}` : ''}`;
 const GONE = /** @type {Record<string, [string, string]>} */ ({
@@ -81,14 +54,12 @@ export function notKept(lines) {
   if (behind) list.push(behind === 1 ? 'text behind a result' : `text behind ${behind} results`);
   return list.length ? `Not kept of this PGN: ${list.join(', ')}.` : '';
 }
-/** @param {string[]} lines */
-export const leftOut = lines => /** @type {LeftOut[]} */ (lines.map(leftOutBy).filter(Boolean));
 /**
  * The games of an import that only lack a stipulation.
  * @param {string[]} lines
  */
 export const withoutAim = lines => leftOut(lines).filter(game => game.why === 'NoStipulation').length;
-/** @param {LeftOut[]} games */
+/** @param {import('./left_out.js').LeftOut[]} games */
 function firstLeftOut(games) {
   const MOST = 5, first = games.slice(0, MOST).map(game => `${placeOf(game)}: ${whyLeftOut(game)}`);
   return first.join('; ') + (games.length > MOST ? `; and ${games.length - MOST} more` : '');
@@ -102,13 +73,15 @@ function doubtedGames(lines) {
   let game = '';
   for (const line of lines) {
     game = (GAME.exec(line) || [])[1] || game;
-    if (line.startsWith('#! the stipulation ')) games.add(game);
+    if (AGAINST.test(line)) games.add(game);
   }
   return [...games];
 }
 /** @param {string[]} games */
 const doubtNote = games =>
-  games.length ? ` Sources of the stipulation differ in game ${games.join(', ')}: see the script.` : '';
+  (games.length > 5 ? ` Sources of the stipulation differ in ${games.length} games: see the list.`
+      : games.length ? ` Sources of the stipulation differ in game ${games.join(', ')}.`
+                     : '');
 /**
  * How many games and studies there were. A game that was left out is named with the reason; of several beside studies
  * only their number, since the list has a row for each.
@@ -160,6 +133,36 @@ export const restated = remarks =>
     const m = GAME.exec(line);
     return m && m[5].startsWith(STIPULATED) ? `${line.slice(0, line.length - m[5].length)}${STIPULATED}hand` : line;
   });
+/**
+ * Whether a remark says which game of the file a study is, which a copy of it is not.
+ * @param {string} line
+ */
+export const isOfGame = line => AGAINST.test(line) || GAME.test(line);
+const SOURCES = /** @type {Record<string, string>} */ ({
+  'its comment': 'from its comment',
+  'its tag Stipulation': 'from its tag Stipulation',
+  'its tag Result': 'from the Result',
+  'its result': 'from the final result',
+  'the option': 'chosen for games that state none'
+});
+/**
+ * Where the stipulation of a study is from, in words; nothing where the user set it.
+ * @param {Origin | undefined} origin
+ */
+export const sourceText = origin => (origin && SOURCES[origin.source]) || '';
+/**
+ * What speaks against a stipulation, by the words of the remark: a source that differs, or is not understood.
+ * @param {string} against
+ */
+export const againstText = against => against.replace(/^differs from (.*)$/, '$1 differs').replace(/^of /, '');
+/**
+ * The greatest number of a game that the remarks of a script name; none where it was written by hand.
+ * @param {string[]} lines
+ */
+export const mostGames = lines => lines.reduce((most, line) => {
+  const m = line.startsWith('#') ? GAME.exec(line) : null;
+  return m ? Math.max(most, Number(m[1])) : most;
+}, 0);
 const ORIGINAL = /^#!? (?:its )?(Event|White|Black|Site|Date|Round) was: (.*)$/;
 /**
  * The texts of tags in their own letters, as remarks above a position have them.
@@ -170,6 +173,11 @@ export function originalsIn(remarks) {
   const found = /** @type {RegExpExecArray[]} */ (remarks.map(line => ORIGINAL.exec(line)).filter(Boolean));
   return Object.fromEntries(found.map(m => [m[1], m[2].trim()]));
 }
+/**
+ * What the remarks above its position say of a study.
+ * @param {string[]} remarks
+ */
+export const headOf = remarks => ({originals: originalsIn(remarks), origin: originIn(remarks)});
 /**
  * A study has the text of its own tag line that was refused, and not what an earlier study left.
  * @param {import('./types.js').Script} script

@@ -4,7 +4,8 @@
 //
 // A document is written by the page that opened it last. Where another page has taken it over, this one goes on at a
 // new place, so that two never write into one. Any page of file:// can write here, so what is read is only ever text.
-import {countsOf, stampOf, studyName} from './entries.js';
+import {stampOf, studyName} from './entries.js';
+import {countsOf} from './entry_list.js';
 import {control} from './fen.js';
 import {counted} from './words.js';
 /** @typedef {import('./types.js').Doc} Doc @typedef {import('./types.js').KeptDraft} KeptDraft */

@@ -2,6 +2,7 @@
 // The facts of all studies of a script, found one after the other while the user rests, and kept by their lines.
 import {track} from './actions.js';
 import {app, doc, services, PAGES} from './state.js';
+import {entriesOf} from './entries.js';
 import {readReview} from './parse_answers.js';
 import {editsTo, fensOf, toText} from './script.js';
 /** @typedef {import('./types.js').Doc} Doc @typedef {import('./types.js').Review} Review */
@@ -22,6 +23,16 @@ export function knownReviews(d) {
   if (last.studies !== d.studies || last.known !== found.size)
     last = {studies: d.studies, known: found.size, reviews: textsOf(d).map(text => found.get(text) || null)};
   return last.reviews;
+}
+let listed = /** @type {{from: any[], entries: import('./entries.js').Entry[]}} */ ({from: [], entries: []});
+/**
+ * The entries of a script, with what is known of them: the same list as long as nothing has changed.
+ * @param {Doc} d
+ */
+export function knownEntries(d) {
+  const from = [d.lines, d.studies, d.refused, knownReviews(d)];
+  if (!from.every((thing, i) => thing === listed.from[i])) listed = {from, entries: entriesOf(d, knownReviews(d))};
+  return listed.entries;
 }
 const pause = (/** @type {number} */ ms) => new Promise(on => setTimeout(on, ms));
 /** @param {string} text */

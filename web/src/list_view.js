@@ -3,9 +3,10 @@
 import {button, download, h} from './dom.js';
 import {goStudy} from './actions.js';
 import {HEADS, TITLES} from './core_words.js';
-import {doc, services} from './state.js';
-import {KIND_WORDS, countsOf, csvOf, entriesOf} from './entries.js';
-import {knownReviews, reviewAll} from './list_facts.js';
+import {doc, say, services} from './state.js';
+import {KIND_WORDS, countsOf, csvOf, isOfKind} from './entry_list.js';
+import {againstText} from './imported.js';
+import {knownEntries, reviewAll} from './list_facts.js';
 import {table} from './review_view.js';
 import {verdictsBefore} from './script.js';
 /** @typedef {import('./entries.js').Entry} Entry */
@@ -17,21 +18,33 @@ function toggleFilter(kind) {
   services.show();
 }
 /** All that the list is drawn from. */
-export const listFrom = () => [doc().studies, doc().refused, doc().at, knownReviews(doc()), filter];
-/** @param {Entry} entry */
+export const listFrom = () => [knownEntries(doc()), doc().at, filter];
+/**
+ * The verdict; of an entry that was left out why, and what to write instead, as wide as the row has room.
+ * @param {Entry} entry
+ */
 function stampView(entry) {
-  const s = doc().studies[entry.at], before = s ? verdictsBefore(s) : [];
+  const s = doc().studies[entry.at], before = s ? verdictsBefore(s) : [],
+        [, stamp, more] = /^(left out: )(.*)$/.exec(entry.stamp) || ['', entry.stamp, ''];
   return [
-    h('b', {class: `stamped ${entry.kind.replace(' ', '-')}`}, entry.stamp),
+    h('b', {class: `stamped ${entry.kind.replace(' ', '-')}`}, stamp), more && h('span', {}, more),
     before.map(text => h('div', {class: 'note'}, text))
   ];
 }
+/**
+ * The stipulation, and in small letters where it is from and which sources differ.
+ * @param {Entry} entry
+ */
+const aimCell = ({aim, against}) => {
+  const [words, ...source] = aim.split(/(?= \(from )/);
+  return [words, [...source, ...against.map(againstText)].map(text => h('div', {class: 'note'}, text.trim()))];
+};
 /** The entries in a table, below the numbers of each kind. */
 export function listView() {
-  const entries = entriesOf(doc(), knownReviews(doc())), counts = countsOf(entries);
+  const entries = knownEntries(doc()), counts = countsOf(entries);
   if (entries.length < 2) return null;
   if (!counts.some(([kind]) => kind === filter)) filter = '';
-  const shown = entries.filter(entry => !filter || entry.kind === filter);
+  const shown = entries.filter(entry => !filter || isOfKind(entry, filter));
   const number = (/** @type {Entry} */ entry) => {
     const text = entry.number || '\u2013', here = entry.at === doc().at && 'true';
     const props = {class: 'link', 'aria-current': here, 'aria-label': !entry.number && `Show ${entry.title}`};
@@ -46,11 +59,20 @@ export function listView() {
       button('Save list', 'as comma-separated values, with the numbers of duals and missing defences', saveList,
         {id: 'saveList'})),
     table(HEADS.list.map(head => head.replace('pul', 'pu\u00adl')), shown,
-      entry => [number(entry), entry.title, entry.author, entry.aim || '–', stampView(entry)])
+      entry => [number(entry), entry.title, entry.author, ...(entry.aim ? [aimCell(entry)] : []), stampView(entry)])
   ];
+}
+/**
+ * Says of an entry why it was left out.
+ * @param {number} line
+ */
+export function showLeftOut(line) {
+  const entry = knownEntries(doc()).find(row => row.at < 0 && row.line === line);
+  if (entry) say('board', `${[entry.number, entry.title, entry.author].filter(Boolean).join(', ')}: ${entry.stamp}.`);
+  services.show();
 }
 /** The facts of all studies are found first. Spreadsheets take the letters for UTF-8 by the mark at the front. */
 async function saveList() {
   await reviewAll(doc(), true);
-  download(`${doc().name || 'studies'}.csv`, '\ufeff' + csvOf(entriesOf(doc(), knownReviews(doc()))));
+  download(`${doc().name || 'studies'}.csv`, '\ufeff' + csvOf(knownEntries(doc())));
 }

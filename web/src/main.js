@@ -19,6 +19,7 @@ import {begin, closeSetup, judgeDraft, openSetup} from './setup.js';
 import {bytesOf} from './packed.js';
 import {makeReaders} from './file_readers.js';
 import {makeTables} from './tables.js';
+import {showLeftOut} from './list_view.js';
 import {show, showFacts, showJudged, showProgress, watch} from './show.js';
 import {makeStore} from './store.js';
 import {openFile, openText} from './opening.js';
@@ -178,7 +179,9 @@ for (const kind of ['pointerdown', 'keydown'])
   });
 $('studies').addEventListener('change', (/** @type {any} */ e) => {
   if (byPointer) e.target.blur();  // the arrow keys walk the tree again
-  goStudy(Number(e.target.value));
+  const [word, line] = e.target.value.split(' ');
+  if (line) showLeftOut(Number(line));
+  else goStudy(Number(word));
 });
 $('file').addEventListener('change', (/** @type {any} */ e) => {
   const [file] = e.target.files;

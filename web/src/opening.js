@@ -3,20 +3,11 @@
 import {$, h, smallButton} from './dom.js';
 import {change, track, sayOpened, work} from './actions.js';
 import {app, doc, services, say} from './state.js';
-import {
-  decode,
-  documentOf,
-  plainBytes,
-  importNote,
-  leftOut,
-  leftOutBy,
-  looksLikePgn,
-  notKept,
-  withoutAim
-} from './imported.js';
+import {decode, documentOf, plainBytes, importNote, looksLikePgn, notKept, withoutAim} from './imported.js';
 import {freshId} from './keep.js';
 import {gamesIn, namesOf, remarksOf} from './notes.js';
 import {replace} from './history.js';
+import {leftOut, leftOutBy} from './left_out.js';
 import {savedGames} from './saved_games.js';
 import {isCommand, isSilent, linesOf} from './script.js';
 import {aimText, counted, endedReason, readAim} from './words.js';

@@ -21,7 +21,10 @@ const MOST = 60;
  * @param {(item: T) => any[]} cells
  */
 export function table(head, items, cells) {
-  const row = (/** @type {T} */ item) => h('tr', {}, cells(item).map(c => h('td', {}, c)));
+  const row = (/** @type {T} */ item) => {
+    const all = cells(item), last = all.length - 1, wide = head.length - last;
+    return h('tr', {}, all.map((cell, i) => h('td', {colspan: i === last && wide > 1 && wide}, cell)));
+  };
   const body = h('tbody', {}, items.slice(0, MOST).map(row)), rest = items.slice(MOST);
   const all = () => {
     more.remove();

@@ -2,7 +2,6 @@
 // The games as they are saved: those of the program with what is the author's - his names and tags, his result, his
 // comments and glyphs - in them; with the program's marks or without.
 import {hasSolution, unreadIn} from './entries.js';
-import {originIn} from './imported.js';
 import {NO_MOVE, RESULT, TOKEN, isMoveText, oneLine, plain} from './notes.js';
 import {aimText} from './words.js';
 /** @typedef {import('./types.js').Study} Study @typedef {import('./types.js').Script} Script */
@@ -168,7 +167,7 @@ function wrap(text) {
 function gamesOfStudy(script, study, marks) {
   const remarks = script.lines.slice(study.head, study.from), unread = unreadIn(script, study).replace(/[{}]/g, ''),
         empty = study.verdict === 'sound' && !hasSolution(script.lines, study, null),
-        stated = originIn(remarks).source.startsWith('its ');
+        stated = study.origin && study.origin.source.startsWith('its ');
   const said = marks ? [unread || (empty ? NO_MOVE : '')] : [!stated && study.aim ? aimText(study.aim) : '', unread];
   return study.games.map(game => withNotes(inOwnLetters(study, game), remarks, marks, said.filter(Boolean)));
 }

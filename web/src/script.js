@@ -1,7 +1,8 @@
 // @ts-check
 // The script is the document: lines of edits, run from the first to the last. Here its replies become studies.
 import {aimText, aimWords} from './words.js';
-import {leftOutBy, originalsIn, withRefusedTags} from './imported.js';
+import {headOf, withRefusedTags} from './imported.js';
+import {leftOutBy} from './left_out.js';
 import {readStipulation} from './parse_answers.js';
 /** @typedef {import('./types.js').Script} Script @typedef {import('./types.js').Study} Study */
 /** @typedef {import('./types.js').Aim} Aim */
@@ -131,7 +132,7 @@ function endOf({lines, refused}, study, next) {
  */
 function withRemarks(lines, study) {
   while (study.head > 0 && /^ *#/.test(lines[study.head - 1])) study.head--;
-  study.originals = originalsIn(lines.slice(study.head, study.from));
+  Object.assign(study, headOf(lines.slice(study.head, study.from)));
 }
 
 /**
@@ -191,7 +192,7 @@ function newStudy(line, fen, carried) {
     fen,
     aim: carried.aim,
     tags: {...carried.tags},
-    originals: {},
+    ...headOf([]),
     place: {},
     carried: old,
     made: null,

@@ -9,15 +9,16 @@ import {showBoard} from './board.js';
 import {announce} from './board_input.js';
 import {listView, showDocuments} from './documents_view.js';
 import {reviewView} from './review_view.js';
-import {headView} from './head_view.js';
+import {headView, numberText} from './head_view.js';
 import {hereView, navView} from './node_view.js';
 import {PAWN, SAAVEDRA} from './samples.js';
 import {toText} from './script.js';
 import {redrawJudged, setupView} from './setup_view.js';
 import {checkWhole, importView, openText} from './opening.js';
 import {listFrom, listView as entriesView} from './list_view.js';
-import {later, knownReviews} from './list_facts.js';
-import {nameOf, numbersOf, stampOf, studyName} from './entries.js';
+import {knownEntries, later} from './list_facts.js';
+import {nameOf} from './entries.js';
+import {menuText} from './entry_list.js';
 import {textsView} from './texts_view.js';
 import {faultsView, verdictView} from './verdict_view.js';
 import {keyView, listenToTree, markCurrent, showTree} from './tree_view.js';
@@ -113,7 +114,10 @@ export function show() {
   for (const id of ['head', 'verdict', 'mend']) $(id).hidden = Boolean(app.setup);
   for (const id of ['tree', 'review', 'texts']) $(id).hidden = Boolean(anew && s);
   part('head',
-    [s && JSON.stringify([s.fen, s.aim, s.tags, s.originals, Object.keys(s.place)]), app.counts, ...saying()],
+    [
+      s && JSON.stringify([s.fen, s.aim, s.tags, s.originals, s.origin, Object.keys(s.place), numberText()]),
+      app.counts, ...saying()
+    ],
     () => s && headView(s));
   put('welcome', (!s || anew) && welcomeView());
   if (isNew('tree', [s, app.view !== null])) showTree(s);
@@ -172,21 +176,19 @@ function speak() {
   if (n && n.parent && key !== spoken) announce(spokenMove(n.parent.fen, n));
   spoken = key;
 }
+/** A study of the menu by its place; an entry that was left out by its line. */
+const menuValue = (/** @type {import('./entries.js').Entry} */ {at, line}) => (at < 0 ? `line ${line}` : `${at}`);
 function showBar() {
-  const d = doc(), many = d.studies.length > 1;
+  const d = doc(), entries = knownEntries(d), many = d.studies.length > 1;
   $('undo').disabled = app.setup ? !app.setup.past.length && !study() : !app.history.past.length;
   $('redo').disabled = !(app.setup || app.history).future.length;
-  $('studies').hidden = $('walk').hidden = !many;
+  $('studies').hidden = entries.length < 2;
+  $('walk').hidden = !many;
   $('before').disabled = !d.at;
   $('after').disabled = d.at + 1 >= d.studies.length;
-  const reviews = knownReviews(d);
-  if (many)
-    part('studies', [d.studies, d.refused, reviews], () => {
-      const numbers = numbersOf(d.studies).map(number => number && `${number}. `);
-      return d.studies.map(
-        (s, i) => h('option', {value: i}, `${numbers[i]}${studyName(s)}: ${stampOf(d, s, reviews[i]).text}`));
-    });
-  if (many) $('studies').value = d.at;
+  part('studies', [entries],
+    () => entries.map(entry => h('option', {value: menuValue(entry)}, menuText(d.studies, entry))));
+  $('studies').value = d.at;
   $('more').disabled = !d.studies.length;
   for (const id of ['saveScript', 'savePgn', 'savePlain', 'saveReport', 'print']) $(id).disabled = !d.lines.length;
 }

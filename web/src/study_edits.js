@@ -2,6 +2,7 @@
 // Whole studies of a script: copied, moved up and down, removed. Each is written so that it stands alone wherever it
 // comes to.
 import {isAimLine, isKnown, unknown} from './edits.js';
+import {isOfGame} from './imported.js';
 import {TAGS, isEdit, isQuestion, wordsOf} from './script.js';
 import {aimWords} from './words.js';
 /** @typedef {import('./types.js').Study} Study @typedef {import('./types.js').Change} Change */
@@ -68,8 +69,10 @@ function entriesBehind(lines, studies, study) {
  */
 function inOrder(lines, studies, order) {
   const names = TAGS.filter(name => studies.some(s => isKnown(s.tags[name])));
-  const blocks = order.map((study, i) => [...selfContained(lines, study, names),
-                             ...(order.lastIndexOf(study) === i ? entriesBehind(lines, studies, study) : [])]);
+  const ofGame = (/** @type {Study} */ study, /** @type {number} */ i) => order.indexOf(study) === i;
+  const blocks =
+    order.map((study, i) => [...selfContained(lines, study, names).filter(line => ofGame(study, i) || !isOfGame(line)),
+                ...(order.lastIndexOf(study) === i ? entriesBehind(lines, studies, study) : [])]);
   return [...lines.slice(0, studies[0].head), ...blocks.flatMap((block, i) => (i ? ['', ...block] : block))];
 }
 /**

@@ -99,5 +99,5 @@ const followView = rest =>
   h('details', {}, h('summary', {class: 'note'}, `${counted(rest.length, 'more line')} for want of it`),
     rest.map(r => h('div', {}, `${r.line + 1}: `, h('code', {}, r.text.slice(0, 80)))));
 /** @param {number} i */
-const studyLink = i => button(numbersOf(doc().studies)[i] || '\u2013', 'show it', () => goStudy(i),
+const studyLink = i => button(numbersOf(doc())[i] || '\u2013', 'show it', () => goStudy(i),
   {class: 'link', 'aria-current': i === doc().at && 'true'});

@@ -60,6 +60,7 @@
  * @property {Aim | null} aim
  * @property {Record<string, string>} tags
  * @property {Record<string, string>} originals  texts of tags in their own letters, as remarks have them
+ * @property {import('./imported.js').Origin} origin      where it comes from, as the remarks above its position say
  * @property {Record<string, number>} place      the line of each tag, and of `aim`, that the study has itself
  * @property {string[]} carried    what it takes over from earlier studies, as lines
  * @property {{line: number, path: string} | null} made      the node that the last `insert` or `promote` made

@@ -2,18 +2,8 @@
 import test from 'node:test';
 import assert from 'node:assert/strict';
 import {setTag} from '../src/edits.js';
-import {
-  byCause,
-  countsOf,
-  csvOf,
-  entriesOf,
-  hasSolution,
-  nameOf,
-  newlyRefused,
-  numbersOf,
-  stampOf,
-  studyName
-} from '../src/entries.js';
+import {byCause, entriesOf, hasSolution, nameOf, newlyRefused, numbersOf, stampOf, studyName} from '../src/entries.js';
+import {countsOf, csvOf, isOfKind, menuText} from '../src/entry_list.js';
 import {readReview, readReviews} from '../src/parse_answers.js';
 import {assumeAccepted, readScript} from '../src/script.js';
 import {copyStudy, dropStudy, moveStudy} from '../src/study_edits.js';
@@ -45,7 +35,10 @@ test('each entry has a row and a stamp', () => {
     ['time', 'A, "first"', 'Reti', 'sound but for loss of time'],
     ['holds', 'B', 'Reti (set for an earlier study)', 'holds'],
     ['left out', '', 'Kasparyan, G.', 'left out: not six fields, and not four'],
-    ['left out', 'game 9 of the PGN, line 3', '', 'left out: 7 men'],
+    [
+      'left out', 'line 3 of the PGN', '',
+      'left out: 7 men: write a position of two to four men, kings included (line 3)'
+    ],
     ['not read', 'Kh8 Pc6 / Ka6 Ph5', '', 'not read: line 18, Kz9']
   ]);
   assert.deepEqual(countsOf(rows), [['time', 1], ['holds', 1], ['not read', 1], ['left out', 2]]);
@@ -56,27 +49,69 @@ test('each entry has a row and a stamp', () => {
 test('a game that was left out has its title and its author, where remarks behind it have them', () => {
   const lines = [
     '#! game 2, line 9: left out: 7 men', '#! Event was: A "prize"', '#! White was: Kasparyan, G.', '',
-    '#! game 3, line 20: NoSuchMove at Kh9', '#! White was: Réti', '#! game 4, line 31: left out: 6 men'
+    '#! game 3, line 20, column 8: NoSuchMove at Kh9', '#! White was: Réti', '#! game 4, line 31: left out: 6 men'
   ];
   const rows =
     entriesOf({...readScript(lines, [], []), at: 0, path: 'root', name: '', id: 'x', note: '', judged: true});
-  assert.deepEqual(rows.map(r => [r.title, r.author, r.stamp]), [
-    ['A "prize" (game 2, line 9)', 'Kasparyan, G.', 'left out: 7 men'],
-    ['game 3 of the PGN, line 20', 'Réti', 'left out: Kh9: no legal move of this position'],
-    ['game 4 of the PGN, line 31', '', 'left out: 6 men']
+  const men = 'men: write a position of two to four men, kings included',
+        move = 'Kh9: no legal move of this position: write a legal move; perhaps a move before it is missing or wrong';
+  assert.deepEqual(rows.map(r => [r.number, r.title, r.author, r.stamp]), [
+    ['2', 'A "prize"', 'Kasparyan, G.', `left out: 7 ${men} (line 9)`],
+    ['3', 'line 20 of the PGN', 'Réti', `left out: ${move} (line 20, column 8)`],
+    ['4', 'line 31 of the PGN', '', `left out: 6 ${men} (line 31)`]
+  ]);
+  assert.deepEqual(rows.map(row => menuText([], row)), [
+    '2. A "prize", Kasparyan, G.: left out', '3. line 20 of the PGN, Réti: left out', '4. line 31 of the PGN: left out'
   ]);
 });
 test('a study has the number of its game, and no name of the study before', () => {
   const d = doc(['unsound 1', 'sound', 'sound']), [a, b, c] = d.studies;
-  assert.deepEqual(entriesOf(d).map(row => row.number), ['1', '2', '', '', '']);
-  assert.deepEqual(numbersOf([a, {...b, games: ['', '']}, c, {...a, games: []}]), ['1', '2\u20133', '', '4']);
   assert.deepEqual([a, b, c].map(studyName), ['A, "first", Reti', 'B', 'Kh8 Pc6 / Ka6 Ph5']);
+  assert.deepEqual(
+    numbersOf({lines: [], studies: [a, {...b, games: ['', '']}, c, {...a, games: []}]}), ['1', '2\u20133', '', '4']);
+  assert.deepEqual(entriesOf(d).map(row => row.number), ['10', '11', '', '9', '']);
+});
+/** Six of the twelve entries of a tourney; one more was added on the board, and is no game of it. */
+const ENTRIES = [
+  '#! game 2, line 16: stipulated by its tag Result', 'position ' + FEN, 'stipulate white win', 'pgn', '',
+  '#! game 4, line 56, column 12 (Muller, Jurgen): NotSan at Dg2+', '#! its Event was: Entry 4',
+  '#! its White was: Müller, Jürgen', '', '#! game 6, line 75: stipulated by its comment',
+  '#! the stipulation differs from its tag Result', '#! the stipulation differs from its result', 'position ' + FEN,
+  'stipulate white win', 'tag Event Entry 6', 'pgn', '', 'position ' + FEN, 'stipulate white draw', 'tag Event New',
+  'pgn', '', '#! game 11, line 120: stipulated by its result', '#! the stipulation of its comment is not understood',
+  'position ' + FEN, 'stipulate white win', 'tag Event Entry 11', 'pgn', '', '#! game 12, line 129: left out: 5 men'
+];
+test('an entry stays an entry: its number is its place in the file, and its stipulation has a source', () => {
+  const d = {...assumeAccepted(ENTRIES), at: 0, path: 'root', name: '', id: 'x', note: '', judged: true},
+        rows = entriesOf(d);
+  assert.deepEqual(rows.map(row => row.number), ['2', '4', '6', '13', '11', '12']);
+  assert.deepEqual(rows.map(row => row.aim), [
+    'White to win (from the Result)', '', 'White to win (from its comment)', 'White to draw',
+    'White to win (from the final result)', ''
+  ]);
+  assert.deepEqual([rows[1].title, rows[1].author], ['Entry 4', 'Müller, Jürgen']);
+  assert.equal(rows[1].stamp,
+    'left out: Dg2+: not a move with the letters K Q R B N: write the men with these ' +
+      'letters, as a PGN has them (line 56, column 12)');
+  assert.equal(menuText(d.studies, rows[1]), '4. Entry 4, Müller, Jürgen: left out');
+  assert.equal(menuText(d.studies, {...rows[2], stamp: 'sound'}), '6. Entry 6: sound');
+  assert.deepEqual(rows.filter(row => isOfKind(row, 'differ')).map(row => row.number), ['6', '11']);
+  assert.deepEqual(countsOf(rows).slice(-1), [['differ', 2]]);
+  const csv = csvOf(rows).split('\r\n');
+  assert.equal(csv[0].split(',').pop(), 'Sources that differ');
+  assert.ok(csv[1].startsWith(`2,Kh8 Pc6 / Ka6 Ph5,,${FEN},White to win (from the Result),`), csv[1]);
+  assert.ok(csv[3].endsWith(',its tag Result differs; its result differs'), csv[3]);
+  assert.ok(csv[5].endsWith(',its comment is not understood'), csv[5]);
+  const copied = assumeAccepted(copyStudy(ENTRIES, d.studies, 1).lines);
+  assert.deepEqual(copied.studies.map(s => s.origin.game), [2, 6, 0, 0, 11]);
+  const moved = assumeAccepted(moveStudy(ENTRIES, d.studies, 0, 1).lines);
+  assert.deepEqual(numbersOf(moved), ['6', '2', '13', '11']);
 });
 test('the list as comma-separated values', () => {
   const text = csvOf(entriesOf(doc(['unsound 1', 'sound', 'sound']), readReviews(REVIEW)));
   const [, first, second] = text.split('\r\n');
-  assert.equal(first, `1,"A, ""first""",Reti,${FEN},White to win,sound but for loss of time,1,1,1`);
-  assert.equal(second, `2,B,Reti (set for an earlier study),${FEN},White to win (set for an earlier study),holds,,,`);
+  assert.equal(first, `10,"A, ""first""",Reti,${FEN},White to win,sound but for loss of time,1,1,1,`);
+  assert.equal(second, `11,B,Reti (set for an earlier study),${FEN},White to win (set for an earlier study),holds,,,,`);
   assert.equal(text.split('\r\n').length, 7);
 });
 test('a name that was refused is not that of the study before, and facts of a part are not those of the entry', () => {

@@ -6,16 +6,16 @@ import {
   documentOf,
   plainBytes,
   importNote,
-  leftOut,
   looksLikePgn,
   notKept,
   originalsIn,
-  whyLeftOut,
   withoutAim
 } from '../src/imported.js';
+import {leftOut, whyLeftOut} from '../src/left_out.js';
 import {copyStudy, dropStudy} from '../src/study_edits.js';
 import {savedGames} from '../src/saved_games.js';
 import {readScript, assumeAccepted} from '../src/script.js';
+import {GAME_REASONS} from '../src/core_words.js';
 
 const LINES = [
   '#! game 1, line 1: stipulated by its comment',
@@ -47,30 +47,44 @@ test('a file is UTF-8, else Latin 1', () => {
   assert.equal(decode(Uint8Array.from([82, 0xe9, 116, 105])), 'Réti');
 });
 test('games that were left out, and why', () => {
-  assert.deepEqual(leftOut(LINES).map(whyLeftOut),
-    ['7 men', 'Kb6: no legal move of this position', 'it does not say what is to be done']);
+  const men = 'write a position of two to four men, kings included',
+        legal = 'no legal move of this position: write a legal move; perhaps a move before it is missing or wrong',
+        aim = 'it does not say what is to be done: write {White to win} before the first move';
+  assert.deepEqual(leftOut(LINES).map(whyLeftOut), [`7 men: ${men}`, `Kb6: ${legal}`, aim]);
   assert.deepEqual(leftOut(LINES)[1], {game: 3, line: 31, column: 17, author: '', why: 'NoSuchMove', text: 'Kb6'});
   const named = '#! game 5, line 40, column 4 (Kasparyan, G.): NoSuchMove at Kb6';
   assert.deepEqual(
     leftOut([named]), [{game: 5, line: 40, column: 4, author: 'Kasparyan, G.', why: 'NoSuchMove', text: 'Kb6'}]);
   assert.match(
     importNote([named, '#! games 5, studies 4']), /Left out: game 5 \(Kasparyan, G\.\), line 40, column 4: Kb6/);
-  assert.deepEqual(
-    leftOut(['#! game 6, line 60, column 8: NullMove']).map(whyLeftOut), ['a null move in the main line']);
-  assert.deepEqual(
-    leftOut(['#! game 7, line 66, column 17 (Kling, J.): BehindResult']).map(whyLeftOut), ['moves behind the result']);
-  assert.deepEqual(
-    leftOut(['#! game 8, line 70, column 8: Numbering at 3']).map(whyLeftOut), ['3: a move number that does not fit']);
   assert.equal(withoutAim(LINES), 1);
   assert.equal(importNote(LINES), '5 games, 2 studies. Left out: 3 games, each with its reason in the list.');
   assert.equal(importNote([...LINES.filter(line => !/^#! games/.test(line)), '#! games 3, studies 0']),
-    '3 games, 0 studies. Left out: game 2, line 14: 7 men; game 3, line 31, column 17: Kb6: ' +
-      'no legal move of this position; game 4, line 40: it does not say what is to be done.');
+    `3 games, 0 studies. Left out: game 2, line 14: 7 men: ${men}; game 3, line 31, column 17: Kb6: ${legal}; ` +
+      `game 4, line 40: ${aim}.`);
   assert.equal(
     importNote(['#! game 1, line 1: stipulated by its result', '', '#! games 1, studies 1']), '1 game, 1 study.');
   const doubted = ['#! game 1, line 1: stipulated by its comment', '#! the stipulation differs from its tag Result'];
   assert.equal(importNote([...doubted, 'position x', '', '#! games 1, studies 1']),
-    '1 game, 1 study. Sources of the stipulation differ in game 1: see the script.');
+    '1 game, 1 study. Sources of the stipulation differ in game 1.');
+});
+test('each reason says what to write instead', () => {
+  const why = words => leftOut([`#! game 8, line 70, column 8: ${words}`]).map(whyLeftOut)[0];
+  assert.equal(
+    why('NotSan at stalemate'), 'stalemate: not a move: write moves as Kb6 or c8=R, and words in braces: {stalemate}');
+  assert.equal(why('NotSan at Dg2+'),
+    'Dg2+: not a move with the letters K Q R B N: write the men with these letters, as a PGN has them');
+  assert.equal(why('NullMove'), 'a null move in the main line: show a threat in a variation');
+  assert.equal(why('BehindResult'), 'moves behind the result: delete the result before them, or write them in braces');
+  assert.equal(why('Numbering at 3'),
+    '3: a move number that does not fit: write the move that is missing before it, or the right number');
+  assert.equal(why('StipulationUnread at its comment'),
+    'its comment: a stipulation that is not understood: write {White to win}, {White to draw} or {White to mate in 3}');
+  assert.equal(why('left out: no FEN, so 32 men'),
+    'no FEN, so 32 men: write the position: [FEN "8/8/8/6k1/8/8/1P5K/8 w - - 0 1"]');
+  assert.equal(why('OpponentInCheck'),
+    'the side that is not to move is in check: write the other side to move, or correct the men');
+  for (const name of Object.keys(GAME_REASONS)) assert.match(why(name), /: \S/, name);
 });
 test('what a script has no place for', () => {
   assert.equal(notKept(LINES), 'Not kept of this PGN: 1 repeated move, 2 moves behind null moves.');

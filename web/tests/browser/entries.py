@@ -40,7 +40,7 @@ def rows(user):
     """The list of entries: number, title, author, stipulation, verdict."""
     return user.js(
         """return [...document.querySelectorAll('#list tbody tr')].map(row =>
-        [...row.cells].map(cell => cell.innerText.trim()))"""
+        [...row.cells].flatMap(cell => [...Array(cell.colSpan - 1).fill('–'), cell.innerText.trim()]))"""
     )
 
 
@@ -74,7 +74,17 @@ def test_ten_entries_are_ten_rows(user):
     ] == "sound sound left left holds left unsound left wrong sound".split(), list_
     assert list_[0][2] == "Réti, Richard" and list_[1][2] == "Троицкий"
     assert "Kh9" in list_[2][4] and "6 men" in list_[3][4] and "null move" in list_[5][4], list_
-    assert list_[2][2] == "A" and list_[2][1].startswith("Three (game 3, line") and list_[3][2] == "B", list_
+    assert list_[2][1:3] == ["Three", "A"] and list_[3][1:3] == ["Four", "B"], list_
+    assert [row[0] for row in list_] == [str(n) for n in range(1, 11)], list_
+    assert list_[0][3] == "White to win\n(from the Result)" and "(line 24, column 4)" in list_[2][4], list_
+    menu = user.js("return [...document.getElementById('studies').options].map(o => o.innerText)")
+    assert len(menu) == 10 and menu[2] == "3. Three, A: left out" and menu[8].startswith("9. Nine, G: wrong"), menu
+    user.choose("studies", "5")
+    assert user.text("head").split("\n\n")[:2] == ["Ten", "No. 10 \u00b7 H"], user.text("head")
+    user.js("const e = document.getElementById('studies'); e.selectedIndex = 3; e.dispatchEvent(new Event('change'))")
+    user.settle()
+    assert user.text("sayBoard").startswith("4, Four, B: left out: 6 men"), user.text("sayBoard")
+    assert user.js("return document.getElementById('studies').selectedIndex") == 9
     note = user.text("import")
     assert (
         "10 games, 6 studies. Left out: 4 games" in note and "Not kept of this PGN: 1 null move." in note
@@ -88,7 +98,7 @@ def test_ten_entries_are_ten_rows(user):
     counts = user.js("return [...document.querySelectorAll('#list [data-kind]')].map(b => b.innerText)")
     assert counts == ["3 sound", "1 unsound", "1 wrong", "1 holds", "4 left out"], counts
     user.js("document.querySelector('#list [data-kind=wrong]').click()")
-    assert [row[0] for row in rows(user)] == ["5"]
+    assert [row[0] for row in rows(user)] == ["9"]
     user.js("document.querySelector('#list [data-kind=wrong]').click()")
     user.promise("new Promise(on => setTimeout(on, 3000))")
     name, text = user.download("saveList")
@@ -139,6 +149,38 @@ def test_a_game_without_stipulation_beside_a_set_up(user):
     assert not user.has("aims") and not user.has("tried")
 
 
+def test_sources_that_differ_are_a_filter(user):
+    user.open_tables(TABLES, SMALL)
+    text = "".join(
+        f"#! game {n}, line {9 * n}: stipulated by its {source}\n{against}position {FEN}\nstipulate white win\n"
+        f"tag Event {name}\ninsert root Kg3\npgn\n\n"
+        for n, name, source, against in (
+            (2, "Two", "tag Result", ""),
+            (5, "Five", "comment", "#! the stipulation differs from its tag Result\n"),
+            (7, "Seven", "result", "#! the stipulation of its comment is not understood\n"),
+        )
+    )
+    user.promise("studyboard.open(a[0])", text)
+    user.settle()
+    assert [row[:2] + row[3:4] for row in rows(user)] == [
+        ["2", "Two", "White to win\n(from the Result)"],
+        ["5", "Five", "White to win\n(from its comment)\nits tag Result differs"],
+        ["7", "Seven", "White to win\n(from the final result)\nits comment is not understood"],
+    ], rows(user)
+    assert user.text("source") == "(from the Result)" and not user.has("against")
+    chip = user.d.find_element(By.CSS_SELECTOR, "#list [data-kind=differ]")
+    assert chip.text == "2 whose sources differ"
+    chip.click()
+    assert [row[0] for row in rows(user)] == ["5", "7"]
+    user.choose("studies", "1")
+    assert user.text("against") == "Compare the sources of the stipulation: its tag Result differs."
+    user.picture("differ", whole=False)
+    user.choose("aimGoal", "draw")
+    assert not user.has("against") and not user.has("source")
+    assert "#! game 5, line 45: stipulated by hand" in script(user)
+    assert [row[0] for row in rows(user)] == ["7"]
+
+
 def test_numbers_and_what_is_carried(user):
     """A study has one number on the board, in report and list; lines have theirs; what is carried is said."""
     user.open_tables(TABLES, SMALL)
@@ -155,7 +197,8 @@ def test_numbers_and_what_is_carried(user):
     listed = re.findall(r"<tr><td>(\d*)</td>", report[report.index("Entries and verdicts"):])
     assert listed[-3:] == ["1", "2", "3"], listed
     options = user.js("return [...document.getElementById('studies').options].map(o => o.innerText)")
-    assert options[2].startswith("3. Three:") and "Berta" not in options[2], options
+    assert options[0] == "One, Adam: left out", options
+    assert options[3].startswith("3. Three:") and "Berta" not in options[3], options
     user.choose("studies", "2")
     user.click("keepAim")
     user.settle()

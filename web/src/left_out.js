@@ -1,0 +1,75 @@
+// @ts-check
+// The games of a PGN that were left out: what their remarks say, in words, with what to write instead.
+import {GAME_REASONS} from './core_words.js';
+import {reason} from './words.js';
+/**
+ * A game that was left out: where in the PGN, its author as far as one is named, why, and at which text.
+ * @typedef {{game: number, line: number, column: number, author: string, why: string, text: string}} LeftOut
+ */
+
+export const GAME = /^#!? game (\d+), line (\d+)(?:, column (\d+))?(?: \(([^:]*)\))?: (.*)$/,
+             STIPULATED = 'stipulated by ';
+/**
+ * The game that a remark says was left out.
+ * @param {string} line
+ * @returns {LeftOut | null}
+ */
+export function leftOutBy(line) {
+  const m = GAME.exec(line);
+  if (!m || m[5].startsWith(STIPULATED)) return null;
+  const [why, text = ''] = m[5].replace(/^left out: /, '').split(' at ');
+  return {game: Number(m[1]), line: Number(m[2]), column: Number(m[3]) || 0, author: m[4] || '', why, text};
+}
+/** @param {string[]} lines */
+export const leftOut = lines => /** @type {LeftOut[]} */ (lines.map(leftOutBy).filter(Boolean));
+
+/** What to write instead, by the name of the fault. */
+const INSTEAD = /** @type {Record<string, string>} */ ({
+  NotSan: 'write moves as Kb6 or c8=R, and words in braces: {stalemate}',
+  NoSuchMove: 'write a legal move; perhaps a move before it is missing or wrong',
+  Ambiguous: 'write the file or the rank that the man comes from, as Rad1 or R1d3',
+  CastlingLeftOut: 'begin with the position after it',
+  Numbering: 'write the move that is missing before it, or the right number',
+  NullMove: 'show a threat in a variation',
+  BehindResult: 'delete the result before them, or write them in braces',
+  TagInMoves: 'write it above the moves, or in braces',
+  Byte: 'delete it, or write it in braces',
+  OpenComment: 'write } behind its last word',
+  NoMoveBefore: 'write it behind the move that it replaces',
+  NotOpened: 'delete it, or write ( before the variation',
+  OpenVariation: 'write ) behind its last move',
+  TooDeep: 'end the line earlier',
+  TreeFull: 'leave variations out',
+  TooNested: 'write variations beside one another',
+  GameTooLarge: 'write several games',
+  TagForm: 'write [White "Author"]',
+  OpenString: 'write "] at its end',
+  TagTwice: 'write [Event "?"] before the second game, or delete the second tag',
+  NoStipulation: 'write {White to win} before the first move',
+  StipulationUnread: 'write {White to win}, {White to draw} or {White to mate in 3}',
+  FieldCount: 'write the men, w or b, castling, the en passant square and two numbers',
+  Placement: 'write eight ranks with / between them',
+  KingCount: 'set up one king of each side',
+  PawnOnEndRank: 'set the pawn on another square',
+  SideField: 'write w or b behind the men',
+  OpponentInCheck: 'write the other side to move, or correct the men',
+  EnPassantImpossible: 'write -',
+  'no tags': 'delete the text, or write tags above it',
+  'no FEN, so 32 men': 'write the position: [FEN "8/8/8/6k1/8/8/1P5K/8 w - - 0 1"]'
+});
+/** @param {string} text */
+const isForeign = text => /^[DTSLCFAV][a-h1-8x:]/.test(text);
+/**
+ * Why a game was left out, in words, and what to write instead.
+ * @param {LeftOut} game
+ */
+export function whyLeftOut({why, text}) {
+  const foreign = why === 'NotSan' && isForeign(text),
+        words = foreign ? 'not a move with the letters K Q R B N'
+    : why === 'NotSan'  ? 'not a move'
+                        : GAME_REASONS[why] || (/^[A-Z]\w+$/.test(why) ? reason('error ' + why) : why);
+  const instead = foreign   ? 'write the men with these letters, as a PGN has them'
+    : /^\d+ men$/.test(why) ? 'write a position of two to four men, kings included'
+                            : INSTEAD[why] || '';
+  return (text ? `${text}: ${words}` : words) + (instead && !words.includes(': ') ? `: ${instead}` : '');
+}
