@@ -2,6 +2,7 @@
 // What the user does, as a change of the script's lines. Each function gives the lines to be run; the program takes or
 // refuses them.
 import {originalsIn, restated} from './imported.js';
+import {isCutLine, withoutCut} from './left_out.js';
 import {aimWords} from './words.js';
 import {TAGS, isEdit, isGame, oneGame, wordsOf} from './script.js';
 import {squareName} from './fen.js';
@@ -245,7 +246,7 @@ export function withMoves(lines, study, fen, aim, moves) {
   const gap = games < 0 && rest.length && !rest[rest.length - 1].trim() ? 1 : 0;
   return {
     lines: [
-      ...lines.slice(0, study.head), ...headAnew(lines, study), 'position ' + fen, 'stipulate ' + aim,
+      ...lines.slice(0, study.head), ...withoutCut(headAnew(lines, study)), 'position ' + fen, 'stipulate ' + aim,
       ...rest.slice(0, at - gap), ...moves, ...rest.slice(at - gap), ...lines.slice(study.end)
     ]
   };
@@ -274,7 +275,9 @@ export function addStudy(lines, fen, aim, before) {
  * @returns {Change}
  */
 export function tidy(lines, study, root) {
-  const notes = oneGame(lines.slice(study.from + 1, study.end).filter(line => !isEdit(line) && line.trim()));
+  const cut = study.origin && study.origin.cut,
+        isKept = (/** @type {string} */ line) => (cut && isCutLine(line)) || (!isEdit(line) && line.trim());
+  const notes = oneGame(lines.slice(study.from + 1, study.end).filter(isKept));
   const tags = TAGS.filter(name => study.place[name] !== undefined).map(name => `tag ${name} ${study.tags[name]}`);
   const moves = allNodes(root).filter(n => n.parent).map(n => `insert ${n.parent ? n.parent.path : 'root'} ${n.san}`);
   const aim = study.aim ? ['stipulate ' + aimWords(study.aim)] : [];

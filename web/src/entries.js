@@ -86,14 +86,14 @@ function refusedText({text}) {
   return words.slice(words[0] === 'insert' ? 2 : 0).join(' ').slice(0, 40);
 }
 /**
- * What is said in a game of a study of which a line was refused, by the first such line: its verdict is not that of the
- * entry then.
+ * What is said in a game of a study that was not read to its end: up to which move of the file, or by the first line
+ * that was refused. Its verdict is not that of the entry then.
  * @param {{refused: import('./types.js').Refused[]}} doc
  * @param {Study} s
  */
 export function unreadIn(doc, s) {
-  const unread = refusedIn(doc, s, isEdit);
-  return unread ? `not read: ${refusedText(unread)}` : '';
+  const unread = refusedIn(doc, s, isEdit), cut = s.origin && s.origin.cut;
+  return cut ? `not read: ${cut.move}` : unread ? `not read: ${refusedText(unread)}` : '';
 }
 /**
  * What is said of a study by one word and more: its verdict, but where a line of it was not read, where no move of the
@@ -105,6 +105,7 @@ export function unreadIn(doc, s) {
  */
 export function stampOf(doc, s, review) {
   const unread = refusedIn(doc, s, isEdit), [kind] = s.verdict.split(' ');
+  if (s.origin && s.origin.cut) return {kind: 'not read', text: unreadIn(doc, s)};
   if (unread) return {kind: 'not read', text: `${NOT_READ}${unread.line + 1}, ${refusedText(unread)}`};
   if (!kind) return {kind: 'not judged', text: 'not judged'};
   if (kind === 'sound' && !hasSolution(doc.lines, s, review)) return {kind: 'holds', text: HOLDS_STAMP};

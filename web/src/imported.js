@@ -1,7 +1,7 @@
 // @ts-check
 // What the program makes of a PGN: blocks of lines with remarks above them, and for each game that has none a remark
 // that says why. A remark begins with `#!`; scripts of version 1.7 have `#`, and are read, too.
-import {GAME, STIPULATED, leftOut, whyLeftOut} from './left_out.js';
+import {GAME, STIPULATED, cutIn, leftOut, whyLeftOut} from './left_out.js';
 import {counted} from './words.js';
 /**
  * Whether a text is a PGN: its first line is a tag, or some line is the tag of a position.
@@ -106,8 +106,10 @@ export function documentOf(lines) {
 }
 /**
  * Where a study comes from, as the remarks above its position say: the game of the file and its line, which source its
- * stipulation is from, as `its tag Result`, and what speaks against it, as `differs from its result`.
- * @typedef {{game: number, line: number, source: string, against: string[]}} Origin
+ * stipulation is from, as `its tag Result`, and what speaks against it, as `differs from its result`; where it ends,
+ * if a bad move stands there in the file.
+ * @typedef {{game: number, line: number, source: string, against: string[],
+ *   cut: import('./left_out.js').Cut | null}} Origin
  */
 /**
  * @param {string[]} remarks
@@ -120,7 +122,8 @@ export function originIn(remarks) {
     game: found ? Number(found[1]) : 0,
     line: found ? Number(found[2]) : 0,
     source: found ? found[5].slice(STIPULATED.length) : '',
-    against: /** @type {RegExpExecArray[]} */ (against).map(m => m[1])
+    against: /** @type {RegExpExecArray[]} */ (against).map(m => m[1]),
+    cut: cutIn(remarks)
   };
 }
 /**

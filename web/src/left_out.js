@@ -73,3 +73,41 @@ export function whyLeftOut({why, text}) {
                             : INSTEAD[why] || '';
   return (text ? `${text}: ${words}` : words) + (instead && !words.includes(': ') ? `: ${instead}` : '');
 }
+
+/**
+ * Where a study ends that is a game up to a bad move: the move, as `7. b6`, and why the game was left out.
+ * @typedef {{move: string, game: LeftOut}} Cut
+ */
+
+/** Faults at a place among the moves. */
+const AMONG_MOVES = new Set([
+  'NotSan', 'NoSuchMove', 'Ambiguous', 'CastlingLeftOut', 'Numbering', 'NullMove', 'BehindResult', 'TagInMoves', 'Byte',
+  'OpenComment', 'NoMoveBefore', 'NotOpened', 'OpenVariation', 'TooDeep', 'TreeFull', 'TooNested'
+]);
+/**
+ * Whether a game can be read up to what is wrong with it.
+ * @param {LeftOut | null} game
+ */
+export const canBeCut = game => game !== null && game.column > 0 && AMONG_MOVES.has(game.why);
+
+/**
+ * Where a study ends that is a game up to a bad move, as the remarks above its position say.
+ * @param {string[]} remarks
+ * @returns {Cut | null}
+ */
+export function cutIn(remarks) {
+  const [, move, place, why] =
+    remarks.map(line => /^#! up to (.+), (line \d+, column \d+): (.+)$/.exec(line)).find(Boolean) || [];
+  const game = why ? leftOutBy(`#! game 0, ${place}: ${why}`) : null;
+  return game && {move, game};
+}
+/**
+ * The remarks above a position without what says that the game goes on.
+ * @param {string[]} remarks
+ */
+export const withoutCut = remarks => remarks.filter(line => !/^#! (up to |(text|rest)\+?: )/.test(line));
+/**
+ * Whether a line stands for the bad move.
+ * @param {string} line
+ */
+export const isCutLine = line => /^insert \S+ \S+ \S/.test(line);

@@ -1,11 +1,13 @@
 // @ts-check
 // The list of a script's entries with their verdicts: how many of each kind, by which it is filtered, and as a file.
-import {button, download, h} from './dom.js';
-import {goStudy} from './actions.js';
+import {button, download, h, smallButton} from './dom.js';
+import {goStudy, track} from './actions.js';
 import {HEADS, TITLES} from './core_words.js';
 import {doc, say, services} from './state.js';
 import {KIND_WORDS, countsOf, csvOf, isOfKind} from './entry_list.js';
 import {againstText} from './imported.js';
+import {canBeCut, leftOutBy} from './left_out.js';
+import {openLeftOut} from './mending.js';
 import {knownEntries, reviewAll} from './list_facts.js';
 import {table} from './review_view.js';
 import {verdictsBefore} from './script.js';
@@ -20,6 +22,15 @@ function toggleFilter(kind) {
 /** All that the list is drawn from. */
 export const listFrom = () => [knownEntries(doc()), doc().at, filter];
 /**
+ * What opens a game that was left out, where it can be read up to a bad move.
+ * @param {Entry} entry
+ */
+const upToButton = ({at, line, number}) => at < 0 && canBeCut(leftOutBy(doc().lines[line])) && [
+  ' ',
+  smallButton(
+    'open up to there', 'the moves before the bad one, to be mended', () => showLeftOut(line), {'data-upto': number})
+];
+/**
  * The verdict; of an entry that was left out why, and what to write instead, as wide as the row has room.
  * @param {Entry} entry
  */
@@ -27,7 +38,7 @@ function stampView(entry) {
   const s = doc().studies[entry.at], before = s ? verdictsBefore(s) : [],
         [, stamp, more] = /^(left out: )(.*)$/.exec(entry.stamp) || ['', entry.stamp, ''];
   return [
-    h('b', {class: `stamped ${entry.kind.replace(' ', '-')}`}, stamp), more && h('span', {}, more),
+    h('b', {class: `stamped ${entry.kind.replace(' ', '-')}`}, stamp), more && h('span', {}, more), upToButton(entry),
     before.map(text => h('div', {class: 'note'}, text))
   ];
 }
@@ -63,14 +74,15 @@ export function listView() {
   ];
 }
 /**
- * Says of an entry why it was left out.
+ * Opens a game that was left out up to its bad move, or says why it was left out.
  * @param {number} line
  */
-export function showLeftOut(line) {
+export const showLeftOut = line => track((async () => {
+  if (await openLeftOut(line)) return;
   const entry = knownEntries(doc()).find(row => row.at < 0 && row.line === line);
   if (entry) say('board', `${[entry.number, entry.title, entry.author].filter(Boolean).join(', ')}: ${entry.stamp}.`);
   services.show();
-}
+})());
 /** The facts of all studies are found first. Spreadsheets take the letters for UTF-8 by the mark at the front. */
 async function saveList() {
   await reviewAll(doc(), true);

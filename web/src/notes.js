@@ -13,6 +13,13 @@ export const oneLine = text => text.replace(/\s+/g, ' ').trim();
 /** @param {string} symbol */
 export const plain = symbol =>
   symbol.replace(/^\d+\.+/, '').replace(/[+#]+$/, '').replace(/[x:=]/g, '').replace(/e\.?p\.?$/, '');
+/** What only some notations say: where a man comes from, figurines, the dash of `Kh2-g3`. */
+const NOTATIONS = /** @type {[RegExp, string][]} */ ([
+  [/[♔♚]/, 'K'], [/[♕♛]/, 'Q'], [/[♖♜]/, 'R'], [/[♗♝]/, 'B'], [/[♘♞]/, 'N'], [/[♙♟P]/, ''],
+  [/^([KQRBN]?)[a-h]?[1-8]?[-–]?([a-h][1-8])/, '$1$2']
+]);
+/** @param {string} san */
+export const looseMove = san => NOTATIONS.reduce((text, [from, to]) => text.replace(from, to), san);
 export const RESULT =
   /^(1[-\u2010-\u2013\u2212]0|0[-\u2010-\u2013\u2212]1|(1\/2|\u00bd)([-\u2010-\u2013\u2212]\2)?|\*)$/;
 /**
@@ -93,16 +100,19 @@ export function namesOf(game) {
  * The games of a PGN, cut as the program cuts them: a line of a tag begins one behind a line of moves, and a second
  * Event.
  * @param {string} text
+ * @param {number[]} [starts]      where the first line of each comes, counted from 1
  */
-export function gamesIn(text) {
+export function gamesIn(text, starts = []) {
   const games = /** @type {string[][]} */ ([]);
-  let moved = true, event = false;
+  let moved = true, event = false, count = 0;
   for (const line of text.replace(/^\ufeff/gm, '').split(/\r*\n/)) {
+    count++;
     const remark = /^[%;]/.test(line), silent = remark || /^[ \t\v\f\r]*$/.test(line),
           tag = remark ? null : /^[ \t]*\[[ \t]*([A-Za-z]\w*)[ \t]*"/.exec(line);
     if (!games.length && silent) continue;
     if (!games.length || (tag && (moved || (event && tag[1] === 'Event')))) {
       games.push([]);
+      starts.push(count);
       moved = event = false;
     }
     if (tag) event = event || tag[1] === 'Event';

@@ -7,17 +7,24 @@ import {decode, documentOf, plainBytes, importNote, looksLikePgn, notKept, witho
 import {freshId} from './keep.js';
 import {gamesIn, namesOf, remarksOf} from './notes.js';
 import {replace} from './history.js';
-import {leftOut, leftOutBy} from './left_out.js';
+import {cutOf, textRemarks} from './cut_game.js';
+import {canBeCut, leftOut, leftOutBy} from './left_out.js';
 import {savedGames} from './saved_games.js';
 import {isCommand, isSilent, linesOf} from './script.js';
 import {aimText, counted, endedReason, readAim} from './words.js';
 
 /**
- * What was opened as a PGN last, so that it can be read again with a stipulation: `id` is the document that came of it,
- * empty as long as none did, beside the lines that stood there then; `said` is what was left out for other reasons.
- * @typedef {{bytes: Uint8Array, name: string, id: string, waiting: number, beside: string[], said: string}} Source
+ * What was opened as a PGN last, so that it can be read again: `id` is the document that came of it, empty as long as
+ * no game was read, beside the lines that stood there then; `said` is what came in, `held` its lines.
+ * @typedef {{bytes: Uint8Array, name: string, id: string, waiting: number, beside: string[], said: string,
+ *   held: string[]}} Source
  */
 let source = /** @type {Source | null} */ (null);
+/** What was opened last and brought no study yet, or became the document that is shown. */
+export function lastOpened() {
+  const {id, lines} = doc(), here = source && (source.id ? source.id === id : source.beside === lines);
+  return here ? source : null;
+}
 /** Where the games of a document are the PGN that was opened, byte for byte, nothing of it was lost. */
 export function checkWhole() {
   const d = doc();
@@ -28,14 +35,14 @@ export function checkWhole() {
   services.show();
 }
 /**
- * Lines, each in the letters in which it came.
+ * The lines of a file.
  * @param {Uint8Array} bytes
  */
-function decodedLines(bytes) {
-  const lines = /** @type {string[]} */ ([]);
+export function rawLines(bytes) {
+  const lines = /** @type {Uint8Array[]} */ ([]);
   for (let at = 0; at < bytes.length;) {
     const end = bytes.indexOf(10, at), next = end < 0 ? bytes.length : end;
-    lines.push(decode(bytes.subarray(at, next)));
+    lines.push(bytes.subarray(at, next));
     at = next + 1;
   }
   return lines;
@@ -45,28 +52,39 @@ function decodedLines(bytes) {
  * @param {Uint8Array} bytes
  * @param {string} aim      words of a stipulation for games that say none, or nothing
  */
-async function importPgn(bytes, aim) {
+export async function importPgn(bytes, aim) {
   const answer = await services.core.ask(aim ? 'import ' + aim : 'import', bytes, 0);
   if (answer.ended !== 'done') throw new Error(endedReason(answer.ended));
-  return decodedLines(answer.bytes);
+  return rawLines(answer.bytes).map(decode);
 }
 /**
- * The lines of an import, with what its games say beside their moves as remarks above each position, and whose those
- * are that were left out.
- * @param {string[]} lines
- * @param {string} text
+ * How many letters the first bytes of a line are, after a byte order mark.
+ * @param {Uint8Array} raw
  */
-function withRemarks(lines, text) {
-  const games = gamesIn(text);
+const lettersIn = raw => (/** @type {number} */ count) => {
+  const mark = raw[0] === 0xef && raw[1] === 0xbb && raw[2] === 0xbf ? 3 : 0;
+  return decode(raw.subarray(mark, mark + count)).length;
+};
+/**
+ * The lines of an import, with what its games say beside their moves as remarks above each position; and whose those
+ * are that were left out, with their text where they can be read up to a bad move.
+ * @param {string[]} lines
+ * @param {Uint8Array} bytes
+ */
+export function withRemarks(lines, bytes) {
+  const raw = rawLines(bytes), starts = /** @type {number[]} */ ([]),
+        games = gamesIn(raw.map(decode).join('\n'), starts);
   let game = 0;
   return lines.flatMap(line => {
-    const m = /^#! game (\d+), /.exec(line);
+    const m = /^#! game (\d+), /.exec(line), out = leftOutBy(line);
     if (m) game = Number(m[1]);
     const source = games[game - 1];
     if (!source) return [line];
-    return line.startsWith('position ') ? [...remarksOf(source), line]
-      : leftOutBy(line)                 ? [line, ...namesOf(source)]
-                                        : [line];
+    if (line.startsWith('position ')) return [...remarksOf(source), line];
+    if (!out) return [line];
+    const cut =
+      canBeCut(out) && cutOf(source, starts[game - 1], out, lettersIn(raw[out.line - 1] || bytes.subarray(0, 0)));
+    return [line, ...namesOf(source), ...(cut ? textRemarks(cut) : [])];
   });
 }
 /** A position for a game that is there for a tag alone. */
@@ -86,28 +104,28 @@ const LATIN = 'Letters that are no UTF-8 are read as Latin 1.';
  * A PGN is saved under another name than the one it was opened by, since not all of it is kept.
  * @param {string} name
  */
-const checkedName = name => (name ? name.replace(/\.\w+$/, '').replace(/\.checked$/, '') + '.checked' : '');
+export const checkedName = name => (name ? name.replace(/\.\w+$/, '').replace(/\.checked$/, '') + '.checked' : '');
 /**
  * @param {Uint8Array} bytes
  * @param {string} where
  * @param {string} name
  */
-async function openPgn(bytes, where, name, aim = '') {
+export async function openPgn(bytes, where, name, aim = '') {
   let lines = /** @type {string[]} */ ([]);
   await work(async () => {
     lines = await importPgn(bytes, aim);
   }, where);
   if (!lines.length) return;
-  const waiting = withoutAim(lines), others = leftOut(lines).length > waiting;
-  source = {bytes, name, id: '', waiting, beside: doc().lines, said: others ? importNote(lines) : ''};
+  const held = withRemarks(documentOf(lines), bytes), waiting = withoutAim(lines), said = importNote(lines);
+  source = {bytes, name, id: '', waiting, beside: doc().lines, said, held};
   if (!lines.some(line => line.startsWith('position '))) {
-    say(where, waiting ? '' : `No study was found in this PGN. ${importNote(lines)} Nothing was changed.`);
+    const offered = waiting || leftOut(lines).some(canBeCut);
+    say(where, offered ? '' : `No study was found in this PGN. ${said} Nothing was changed.`);
     return services.show();
   }
-  const latin = /\ufffd/.test(new TextDecoder().decode(bytes)) && LATIN,
-        remarked = withRemarks(documentOf(lines), decodedLines(bytes).join('\n'));
-  await take(remarked, where, checkedName(name), [importNote(lines), latin, notKept(lines)].filter(Boolean).join(' '));
-  source.id = doc().id;
+  const latin = /\ufffd/.test(new TextDecoder().decode(bytes)) && LATIN;
+  await take(held, where, checkedName(name), [said, latin, notKept(lines)].filter(Boolean).join(' '));
+  Object.assign(source, {id: doc().id, held: []});
   services.show();
   checkWhole();
 }
@@ -165,33 +183,4 @@ async function take(lines, where, name, note) {
   }),
     where);
   if (where !== 'script' && doc() !== before) sayOpened(before);
-}
-const AIMS = ['white win', 'white draw', 'black win', 'black draw'];
-/** @param {Source} again */
-function aimsView({bytes, name, waiting}) {
-  const [doNot, them] = waiting === 1 ? ['does not', 'it'] : ['do not', 'them'];
-  const aimButton = (/** @type {string} */ words) =>
-    smallButton(aimText(readAim(words)), 'read the PGN again, with this stipulation where none is said',
-      () => track(openPgn(bytes, 'board', name, words)), {'data-import': words});
-  return waiting > 0 &&
-    h('p', {class: 'row', id: 'aims', role: 'group', 'aria-label': 'The stipulation of games that say none'},
-      `${counted(waiting, 'game')} of this PGN ${doNot} say what is to be done. Read ${them} as: `,
-      AIMS.map(aimButton));
-}
-/** @param {string} note */
-function noteView(note) {
-  const file = doc().name ? `${doc().name}.pgn` : 'a file of another name';
-  const without = / Left out: /.test(note) ? ', without the games that were left out' : '';
-  return note && h('p', {class: 'note', id: 'notKept'}, `${note} Save PGN writes ${file}${without}.`);
-}
-/**
- * What of a PGN was left out and is not kept; and where games only lack a stipulation, the four that they can have,
- * also beside a set-up where no game was read yet.
- * @param {boolean} anew      whether a new set-up is shown
- */
-export function importView(anew) {
-  const tried = source && !source.id && source.beside === doc().lines && source.waiting ? source : null;
-  if (tried) return [tried.said && h('p', {class: 'note', id: 'tried'}, tried.said), aimsView(tried)];
-  if (anew) return null;
-  return [noteView(doc().note), source && source.id === doc().id && source.id && aimsView(source)];
 }

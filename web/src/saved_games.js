@@ -2,7 +2,7 @@
 // The games as they are saved: those of the program with what is the author's - his names and tags, his result, his
 // comments and glyphs - in them; with the program's marks or without.
 import {hasSolution, unreadIn} from './entries.js';
-import {NO_MOVE, RESULT, TOKEN, isMoveText, oneLine, plain} from './notes.js';
+import {NO_MOVE, RESULT, TOKEN, isMoveText, looseMove, oneLine, plain} from './notes.js';
 import {aimText} from './words.js';
 /** @typedef {import('./types.js').Study} Study @typedef {import('./types.js').Script} Script */
 /**
@@ -47,13 +47,6 @@ function itemsOf(movetext) {
  */
 export const joined = texts =>
   texts.filter(Boolean).reduce((all, text) => (all ? all + (/[.!?:;,\])]$/.test(all) ? ' ' : '. ') + text : text), '');
-/** What only some notations say: where a man comes from, figurines, the dash of `Kh2-g3`. */
-const NOTATIONS = /** @type {[RegExp, string][]} */ ([
-  [/[♔♚]/, 'K'], [/[♕♛]/, 'Q'], [/[♖♜]/, 'R'], [/[♗♝]/, 'B'], [/[♘♞]/, 'N'], [/[♙♟P]/, ''],
-  [/^([KQRBN]?)[a-h]?[1-8]?[-–]?([a-h][1-8])/, '$1$2']
-]);
-/** @param {string} san */
-const looseMove = san => NOTATIONS.reduce((text, [from, to]) => text.replace(from, to), san);
 /**
  * The moves of a path without what only some notations say.
  * @param {string} path

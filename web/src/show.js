@@ -14,7 +14,9 @@ import {hereView, navView} from './node_view.js';
 import {PAWN, SAAVEDRA} from './samples.js';
 import {toText} from './script.js';
 import {redrawJudged, setupView} from './setup_view.js';
-import {checkWhole, importView, openText} from './opening.js';
+import {checkWhole, openText} from './opening.js';
+import {importView} from './import_view.js';
+import {cutView} from './mend_view.js';
 import {listFrom, listView as entriesView} from './list_view.js';
 import {knownEntries, later} from './list_facts.js';
 import {nameOf} from './entries.js';
@@ -154,7 +156,7 @@ function hint() {
 }
 function drawFacts() {
   const s = study();
-  part('verdict', [s, app.view !== null, app.noView, app.review], () => s && verdictView(s));
+  part('verdict', [s, app.view !== null, app.noView, app.review, ...saying()], () => s && [verdictView(s), cutView(s)]);
   part('mend', [s, app.view !== null, app.review], () => s && faultsView(s));
   part('review', [s, app.view !== null, app.review, app.noReview], () => s && reviewView(s));
   part('list', listFrom(), entriesView);

@@ -9,6 +9,7 @@ import {byCause, numbersOf, unreadIn} from './entries.js';
 import {table} from './review_view.js';
 import {messageAt} from './head_view.js';
 import {diagramView} from './diagram.js';
+import {isCutLine, whyLeftOut} from './left_out.js';
 import {openText} from './opening.js';
 import {counted, reason} from './words.js';
 /** @typedef {import('./types.js').Study} Study @typedef {import('./types.js').Refused} Refused */
@@ -87,12 +88,21 @@ function refusedView() {
   const of = (/** @type {number} */ line) => studies.findIndex(s => s.from <= line && line < s.end);
   const cells =
     (/** @type {Refused[]} */[r, ...rest]) => [`${r.line + 1}`, of(r.line) < 0 ? '–' : studyLink(of(r.line)),
-      h('code', {}, r.text.slice(0, 80)), [reason(r.reply), rest.length > 0 && followView(rest)]];
+      h('code', {}, r.text.slice(0, 80)), [reasonOf(of(r.line), r), rest.length > 0 && followView(rest)]];
   return [
     h('h2', {id: 'refused'},
       `${counted(list.length, 'line')} of the script ${list.length === 1 ? 'was' : 'were'} refused`),
     table(['Line', 'Study', 'Text', 'Reason'], byCause(list, of), cells)
   ];
+}
+/**
+ * Why a line was refused; that of a bad move by what is wrong with it in its game.
+ * @param {number} at      its study
+ * @param {Refused} r
+ */
+function reasonOf(at, r) {
+  const {cut = null} = at < 0 ? {} : doc().studies[at].origin;
+  return cut && isCutLine(r.text) ? whyLeftOut(cut.game) : reason(r.reply);
 }
 /** @param {Refused[]} rest */
 const followView = rest =>

@@ -1,5 +1,6 @@
 // @ts-check
 // A study before the program has read it: its moves as its lines have them, without marks, values or boards.
+import {isCutLine} from './left_out.js';
 import {isEdit, assumeAccepted, wordsOf} from './script.js';
 /** @typedef {{path: string, san: string, children: Bare[]}} Bare      a move of the tree; the root has none */
 
@@ -20,7 +21,7 @@ export function unjudged(lines) {
  */
 export function bareTree(lines) {
   let root = /** @type {Bare} */ ({path: 'root', san: '', children: []});
-  for (const line of lines.filter(isEdit)) {
+  for (const line of lines.filter(text => isEdit(text) && !isCutLine(text))) {
     const [command, path = '', san = ''] = wordsOf(line), places = path === 'root' ? [] : path.split('.').map(Number);
     const last = places[places.length - 1];
     if (command === 'position') root = {path: 'root', san: '', children: []};

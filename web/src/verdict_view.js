@@ -3,7 +3,7 @@
 import {h} from './dom.js';
 import {moveNumber, other, sideOf} from './fen.js';
 import {change, go, judgeAgain} from './actions.js';
-import {LETS_GO, LOSES_TIME} from './core_words.js';
+import {AT_START, LETS_GO, LOSES_TIME} from './core_words.js';
 import {app, doc} from './state.js';
 import {insert} from './board_input.js';
 import {stipulate} from './edits.js';
@@ -28,6 +28,7 @@ import {
 /** @typedef {import('./types.js').Study} Study @typedef {import('./types.js').TreeNode} TreeNode */
 /** @typedef {import('./types.js').Also} Also */
 
+const CUT_SHORT = `The game was not read to its end, so there is no verdict. ${AT_START}`;
 /** @param {Study} s */
 export function verdictView(s) {
   const view = app.view;
@@ -36,7 +37,7 @@ export function verdictView(s) {
   const {kind, text} = stampOf(doc(), {...s, verdict: view.verdict}, app.review);
   return [
     h('p', {class: 'verdict'}, h('span', {class: 'stamp ' + kind.replace(' ', '-'), id: 'stamp'}, text),
-      h('span', {id: 'sentence'}, verdictSentence(view, kind))),
+      h('span', {id: 'sentence'}, s.origin.cut ? CUT_SHORT + view.start + '.' : verdictSentence(view, kind))),
     beforeView(s)
   ];
 }

@@ -149,6 +149,78 @@ def test_a_game_without_stipulation_beside_a_set_up(user):
     assert not user.has("aims") and not user.has("tried")
 
 
+def test_a_game_with_a_bad_move_is_opened_up_to_there(user):
+    """Its part is shown and never called sound; its text is mended in place, and the game is read again."""
+    user.open_tables(TABLES, SMALL)
+    line = "(2... Kg5 3. Ke4 Kf6 4. Kd5 Ke7 5. Kc6 Kd8 (5... Ke6 6. b4 Ke7 7. b6) 6. Kb7)"
+    bad = f"1. Kg3! {{The key}} Kf5 2. Kf3 Ke5 {line} 3. Ke3"
+    pgn = game("One", "A", "1. Kg3") + game("Two", "Smith, John", bad) + game("Three", "C", "1. Kg3 Kf5")
+    opened(user, "entries.pgn", pgn)
+    assert rows(user)[1][:3] == ["2", "Two", "Smith, John"] and "b6: no legal move" in rows(user)[1][4], rows(user)
+    user.d.find_element(By.CSS_SELECTOR, '[data-upto="2"]').click()
+    user.until("document.getElementById('cut')", 60)
+    user.settle()
+    assert user.text("stamp") == "not read: 7. b6" and user.text("head").startswith("Two\n\nNo. 2"), user.text("head")
+    row = rows(user)[1]
+    assert row[:3] == ["2", "Two", "Smith, John"] and row[4] == "not read: 7. b6" and "from the Result" in row[3], row
+    sans = re.findall(r"^insert \S+ (\S+)$", script(user), re.M)
+    assert sans[1:-2] == "Kg3 Kf5 Kf3 Ke5 Kg5 Ke4 Kf6 Kd5 Ke7 Kc6 Kd8 Ke6 b4 Ke7".split(), sans
+    assert "Kb7" not in sans and "Ke3" not in sans and "b6: no legal move of this position" in user.text("cut")
+    user.picture("up_to", whole=False)
+    user.d.refresh()
+    user.idle()
+    assert user.text("stamp") == "not read: 7. b6"
+    for button in ("savePgn", "savePlain"):
+        assert "not read: 7. b6" in user.download(button)[1].replace("\n", " ")
+    assert "not read: line" in user.download("saveReport")[1]
+    text = user.js("return document.getElementById('cutText').value")
+    assert text.count("[Event") == 1 and bad in text.replace("\n", " "), text
+    type_ = "const e = document.getElementById('cutText'); e.value = a[0]; e.dispatchEvent(new Event('input'))"
+    user.js(type_.replace("a[0]", "arguments[0]"), text.replace("b6)", "b5)").replace("3. Ke3", "3. Kh9"))
+    user.click("readAgain")
+    user.until("document.getElementById('stamp').innerText.includes('3. Kh9')", 60)
+    user.settle()
+    assert user.text("stamp") == "not read: 3. Kh9" and "b5" in script(user) and rows(user)[1][0] == "2"
+    text = user.js("return document.getElementById('cutText').value")
+    user.js(type_.replace("a[0]", "arguments[0]"), text.replace('[Result "1-0"]', "").replace("1-0", "*"))
+    user.click("readAgain")
+    user.until("document.querySelector('#cut [role=alert]')", 60)
+    assert "no legal move" in user.text("cut") or "not a move" in user.text("cut")
+    user.js(type_.replace("a[0]", "arguments[0]"), text.replace("3. Kh9", "3. Ke3"))
+    user.click("readAgain")
+    user.until("!document.getElementById('cut')", 60)
+    user.settle()
+    assert user.text("stamp").startswith("unsound") and "#! up to" not in script(user), user.text("stamp")
+    assert "#! game 2, line 9: stipulated by its tag Result" in script(user) and "insert 0.0.0.0 Ke3" in script(user)
+    assert [row[0] for row in rows(user)] == ["1", "2", "3"] and "The key" in script(user)
+
+
+def test_a_game_alone_with_a_bad_move(user):
+    user.open_tables(TABLES, SMALL)
+    opened(user, "mine.pgn", game("One", "A", "1. Kg3 Kf5 2. Kf9 Ke5"), "document.querySelector('[data-held]')")
+    assert not user.by("sayBoard").is_displayed() and "Kf9: not a move" in user.text("tried")
+    user.picture("held", whole=False)
+    user.d.find_element(By.CSS_SELECTOR, "[data-held]").click()
+    user.until("document.getElementById('stamp')", 60)
+    user.settle()
+    assert user.text("stamp") == "not read: 2. Kf9" and not user.has("start")
+    user.click("endHere")
+    user.until("!document.getElementById('cut')", 60)
+    user.settle()
+    assert user.text("stamp") == "sound" and "Kf9" not in script(user)
+    user.click("undo")
+    user.settle()
+    assert user.text("stamp") == "not read: 2. Kf9" and "no verdict" in user.text("sentence")
+    user.click("new")
+    opened(user, "mine.pgn", game("One", "A", "1. Kg3 Kf9", "*"), "document.querySelector('[data-held]')")
+    user.d.find_element(By.CSS_SELECTOR, "[data-held]").click()
+    user.until("document.getElementById('ask')", 60)
+    user.d.find_element(By.CSS_SELECTOR, '#ask [data-import="white draw"]').click()
+    user.until("document.getElementById('stamp').innerText === 'not read: 1... Kf9'", 60)
+    user.settle()
+    assert "stipulate white draw" in script(user) and not user.has("ask")
+
+
 def test_sources_that_differ_are_a_filter(user):
     user.open_tables(TABLES, SMALL)
     text = "".join(

@@ -1,0 +1,153 @@
+// @ts-check
+// A game of a PGN with a bad move, up to there: its text is kept in remarks, cut at the place that the program reports;
+// what stands before is read as a game, and a line that is refused says where it ends.
+import {leftOutBy} from './left_out.js';
+import {RESULT, TOKEN, isMoveText, looseMove, plain} from './notes.js';
+import {bareTree} from './unmarked.js';
+/**
+ * The text of a game before the bad move, and from there on.
+ * @typedef {{text: string, rest: string}} CutText
+ */
+
+const PART = /[^]{1,280}/gu;
+/**
+ * Lines of a text as remarks, `#! text: LINE` for those before the bad move and `#! rest: LINE` for those behind it;
+ * `+` for what is more of the line before.
+ * @param {CutText} game
+ */
+export function textRemarks({text, rest}) {
+  const remarks = (/** @type {string} */ name, /** @type {string} */ line) =>
+    (line.match(PART) || ['']).map((part, i) => `#! ${name}${i ? '+' : ''}: ${part}`);
+  const [more, ...behind] = rest.split('\n').map(line => remarks('rest', line));
+  return [
+    ...text.split('\n').flatMap(line => remarks('text', line)), more[0].replace(':', '+:'), ...more.slice(1),
+    ...behind.flat()
+  ];
+}
+/**
+ * The text that remarks keep.
+ * @param {string[]} remarks
+ * @returns {CutText | null}
+ */
+export function textIn(remarks) {
+  const found = {text: '', rest: ''};
+  let begun = false;
+  for (const line of remarks) {
+    const [, name, more, part] = /^#! (text|rest)(\+?): (.*)$/.exec(line) || [];
+    if (name) found[/** @type {'text' | 'rest'} */ (name)] += (more || !begun ? '' : '\n') + part;
+    begun = begun || Boolean(name);
+  }
+  return begun ? found : null;
+}
+const NUMBER = /\d+\s*(?:\.+|\u2026)/;
+/**
+ * Where the moves of a text end: the moves that lead there, those before the last one, how many brackets stand open,
+ * and the last number there with the moves since.
+ * @param {string} movetext
+ */
+function endOfMoves(movetext) {
+  const outer = /** @type {any[]} */ ([]);
+  let here = {at: /** @type {string[]} */ ([]), before: /** @type {string[]} */ ([]), number: '', since: 0};
+  for (const [, , , , bracket, , symbol = ''] of movetext.matchAll(TOKEN)) {
+    if (bracket === '(') {
+      outer.push(here);
+      here = {at: here.before, before: here.before, number: '', since: 0};
+    } else if (bracket === ')') here = outer.pop() || here;
+    const number = /^\d+(?:\.+|\u2026)/.exec(symbol);
+    if (number) Object.assign(here, {number: number[0], since: 0});
+    if (symbol && !RESULT.test(symbol) && isMoveText(symbol))
+      here = {...here, at: [...here.at, plain(symbol)], before: here.at, since: here.since + 1};
+  }
+  return {...here, depth: outer.length};
+}
+/**
+ * The number of the move that follows a number and moves, as far as these say it.
+ * @param {string} number
+ * @param {number} since
+ */
+function nextNumber(number, since) {
+  const n = parseInt(number), black = /\.\.|\u2026/.test(number), plies = since + (black ? 1 : 0);
+  return number && since && since < 3 ? (plies % 2 ? `${n + (plies - 1) / 2}...` : `${n + plies / 2}.`) : '..';
+}
+/** Where the moves of a game begin: behind its tags and the comments between them. */
+const HEADER = /^(?:\s|\{[^}]*\}|[;%][^\n]*(?:\n|$)|\[[ \t]*[A-Za-z]\w*[ \t]*"(?:\\.|[^\\\n])*?"[ \t]*\])*/;
+/**
+ * A game up to the bad move, in brackets that are closed, with the result behind its moves; the bad move with its
+ * number, and the moves that lead to it.
+ * @param {CutText} game
+ */
+export function upTo({text, rest}) {
+  const open = text.lastIndexOf('{') > text.lastIndexOf('}') ? text.lastIndexOf('{') : text.length,
+        [tail] = /** @type {RegExpExecArray} */ (/(?:\s|\(|\d+\s*(?:\.+|\u2026))*$/.exec(text.slice(0, open))),
+        read = text.slice(0, open - tail.length),
+        end = endOfMoves(read.slice(/** @type {RegExpExecArray} */ (HEADER.exec(read))[0].length));
+  const [, own = '', token = ''] = /^\s*(\d+\s*(?:\.+|\u2026)\s*)?(\{?[^\s(){};$!?]+|[^]?)/.exec(rest) || [];
+  const number = own.trim() || (NUMBER.exec(tail) || [''])[0] || nextNumber(end.number, end.since),
+        last = rest.trim().split(/\s+/).pop() || '';
+  return {
+    pgn: `${read}\n${')'.repeat(end.depth)} ${RESULT.test(last) ? last : '*'}\n`,
+    move: `${number} ${token}`.slice(0, 40),
+    moves: tail.includes('(') ? end.before : end.at
+  };
+}
+/**
+ * The node of a tree to which moves lead; the start, where they are not found.
+ * @param {import('./unmarked.js').Bare} root
+ * @param {string[]} moves
+ */
+function pathOf(root, moves) {
+  let at = root;
+  for (const move of moves) {
+    const next = at.children.find(child => looseMove(plain(child.san)) === looseMove(move));
+    if (!next) return 'root';
+    at = next;
+  }
+  return at.path;
+}
+/**
+ * The lines of a study that is a game up to a bad move. A line that no program accepts, since it has a word too many,
+ * stands where the bad move would stand.
+ * @param {string[]} block      the lines of the part that was read
+ * @param {import('./left_out.js').LeftOut} game
+ * @param {CutText} cut
+ */
+export function cutBlock(block, game, cut) {
+  const {move, moves} = upTo(cut), at = block.findIndex(line => line.startsWith('position ')),
+               end = block.lastIndexOf('pgn'), place = `line ${game.line}, column ${game.column}`;
+  return [
+    ...block.slice(0, at), `#! up to ${move}, ${place}: ${game.why}${game.text && ` at ${game.text}`}`,
+    ...textRemarks(cut), ...block.slice(at, end), `insert ${pathOf(bareTree(block), moves)} ${move}`,
+    ...block.slice(end)
+  ];
+}
+/**
+ * A left-out game in the lines of a script: its remark, the text that was kept of it, and the line behind its remarks.
+ * @param {string[]} lines
+ * @param {number} line
+ */
+export function leftOutText(lines, line) {
+  const found = lines.findIndex((text, at) => at > line && !/^#! (its |text|rest)/.test(text)),
+        end = found < 0 ? lines.length : found;
+  return {game: leftOutBy(lines[line] || ''), cut: textIn(lines.slice(line + 1, end)), end};
+}
+/**
+ * The text of a game in a file, cut at what is wrong with it.
+ * @param {string} text
+ * @param {number} line      of the file, where the game begins
+ * @param {import('./left_out.js').LeftOut} game
+ * @param {(bytes: number) => number} lettersIn      how many letters the first bytes of its line are
+ * @returns {CutText}
+ */
+export function cutOf(text, line, game, lettersIn) {
+  const rows = text.replace(/\n+$/, '').split('\n'), row = game.line - line, at = lettersIn(game.column - 1),
+        before = [...rows.slice(0, row), (rows[row] || '').slice(0, at)];
+  return {text: before.join('\n'), rest: [(rows[row] || '').slice(at), ...rows.slice(row + 1)].join('\n')};
+}
+/**
+ * The lines of an import of one game as those of a game of a file.
+ * @param {string[]} block
+ * @param {number} game
+ * @param {number} line
+ */
+export const asGame = (block, game, line) =>
+  block.map(text => text.replace(/^#! game 1, line \d+(?=[:,])/, `#! game ${game}, line ${line}`));

@@ -1,0 +1,69 @@
+// @ts-check
+// What came in with a PGN: what was left out or is not kept, and how it can be read again.
+import {h, smallButton} from './dom.js';
+import {track} from './actions.js';
+import {canBeCut, leftOutBy} from './left_out.js';
+import {asked, openHeld} from './mending.js';
+import {lastOpened, openPgn} from './opening.js';
+import {doc} from './state.js';
+import {aimText, counted, readAim} from './words.js';
+/** @typedef {import('./opening.js').Source} Source */
+
+const AIMS = ['white win', 'white draw', 'black win', 'black draw'];
+/**
+ * The four stipulations that a game may have.
+ * @param {string} title
+ * @param {(words: string) => any} open
+ */
+const aimButtons = (title, open) =>
+  AIMS.map(words => smallButton(aimText(readAim(words)), title, () => open(words), {'data-import': words}));
+/** @param {Source} again */
+function aimsView({bytes, name, waiting}) {
+  const [doNot, them] = waiting === 1 ? ['does not', 'it'] : ['do not', 'them'];
+  return waiting > 0 &&
+    h('p', {class: 'row', id: 'aims', role: 'group', 'aria-label': 'The stipulation of games that say none'},
+      `${counted(waiting, 'game')} of this PGN ${doNot} say what is to be done. Read ${them} as: `,
+      aimButtons('read the PGN again, with this stipulation where none is said',
+        words => track(openPgn(bytes, 'board', name, words))));
+}
+/** The stipulation of a game with a bad move that states none. */
+function askView() {
+  const ask = asked();
+  return ask &&
+    h('p', {class: 'row', id: 'ask', role: 'group', 'aria-label': 'The stipulation of this game'},
+      `Game ${ask.game} does not say what is to be done. Open it as: `,
+      aimButtons('open it up to the bad move', ask.open));
+}
+/** @param {string} note */
+function noteView(note) {
+  const file = doc().name ? `${doc().name}.pgn` : 'a file of another name';
+  const without = / Left out: /.test(note) ? ', without the games that were left out' : '';
+  return note && h('p', {class: 'note', id: 'notKept'}, `${note} Save PGN writes ${file}${without}.`);
+}
+const MOST_OFFERED = 5;
+/**
+ * The games of a PGN of which none was read that can be read up to a bad move.
+ * @param {Source} again
+ */
+function upToView(again) {
+  const games = again.held.flatMap((text, line) => {
+    const game = leftOutBy(text);
+    return game && canBeCut(game) ? [{game, line}] : [];
+  });
+  const open = (/** @type {(typeof games)[0]} */ {game, line}) => smallButton(`game ${game.game}`,
+    'the moves before the bad one, to be mended', () => openHeld(again, line), {'data-held': game.game});
+  return games.length > 0 &&
+    h('p', {class: 'row', id: 'upTo', role: 'group', 'aria-label': 'Games with a bad move'},
+      'Open up to the bad move: ', games.slice(0, MOST_OFFERED).map(open));
+}
+/**
+ * What of a PGN was left out and is not kept; and where games only lack a stipulation, the four that they can have,
+ * also beside a set-up where no game was read yet.
+ * @param {boolean} anew      whether a new set-up is shown
+ */
+export function importView(anew) {
+  const last = lastOpened(), parts = last && last.id ? [aimsView(last)] : last ? [aimsView(last), upToView(last)] : [];
+  if (last && !last.id && parts.some(Boolean))
+    return [h('p', {class: 'note', id: 'tried'}, last.said), ...parts, askView()];
+  return anew ? null : [noteView(doc().note), ...parts, askView()];
+}

@@ -1,0 +1,144 @@
+// @ts-check
+// Games with a bad move: opened up to there, mended, and read again.
+import {change, track, work} from './actions.js';
+import {asGame, cutBlock, cutOf, leftOutText, textIn, upTo} from './cut_game.js';
+import {documentOf} from './imported.js';
+import {freshId} from './keep.js';
+import {canBeCut, isCutLine, leftOut, whyLeftOut, withoutCut} from './left_out.js';
+import {checkedName, importPgn, withRemarks} from './opening.js';
+import {app, doc, say, services, study} from './state.js';
+import {aimWords} from './words.js';
+/** @typedef {import('./types.js').Study} Study @typedef {import('./left_out.js').LeftOut} LeftOut */
+
+/**
+ * The lines of the one game of a text, as that of a place in the file; or why it has none.
+ * @param {string} text
+ * @param {{game: number, line: number}} place
+ * @param {string} aim
+ * @returns {Promise<{lines: string[], out: LeftOut | null}>}
+ */
+async function read(text, {game, line}, aim) {
+  const bytes = new TextEncoder().encode(text), lines = await importPgn(bytes, aim), [out = null] = leftOut(lines);
+  return {lines: asGame(withRemarks(documentOf(lines), bytes), game, line), out};
+}
+/**
+ * The lines of a game up to its bad move; or why it has none.
+ * @param {LeftOut} game
+ * @param {import('./cut_game.js').CutText} cut
+ * @param {string} aim
+ */
+async function readUpTo(game, cut, aim) {
+  const line = game.line - cut.text.split('\n').length + 1,
+        {lines, out} = await read(upTo(cut).pgn, {...game, line}, aim);
+  return {lines: out ? [] : cutBlock(lines, game, cut), out};
+}
+/**
+ * The stipulation that was chosen for games which state none, if one was.
+ * @param {Study[]} studies
+ */
+function chosenAim(studies) {
+  const [chosen] = studies.filter(s => s.aim && s.origin.source === 'the option');
+  return chosen && chosen.aim ? aimWords(chosen.aim) : '';
+}
+/**
+ * The game for which a stipulation is asked, since it states none.
+ * @type {{game: number, lines: string[], open: (words: string) => any} | null}
+ */
+let asking = null;
+export const asked = () => (asking && asking.lines === doc().lines ? asking : null);
+/**
+ * A game that was left out is opened up to its bad move, in place of its remark.
+ * @param {string[]} lines
+ * @param {number} line
+ * @param {{name?: string, note?: string, id?: string}} [more]      of a new document
+ * @param {string} [aim]      where it states none
+ */
+async function openAt(lines, line, more = {}, aim = chosenAim(doc().studies)) {
+  const {game, cut, end} = leftOutText(lines, line), before = doc();
+  if (!game || !cut || !canBeCut(game)) return false;
+  asking = null;
+  let got = /** @type {{lines: string[], out: LeftOut | null}} */ ({lines: [], out: null});
+  await work(async () => {
+    got = await readUpTo(game, cut, aim);
+  });
+  if (got.out && got.out.why === 'NoStipulation') {
+    asking = {game: game.game, lines: before.lines, open: words => track(openAt(lines, line, more, words))};
+    services.show();
+    return true;
+  }
+  if (!got.lines.length) {
+    say('board', `Game ${game.game} up to there: ${got.out ? whyLeftOut(got.out) : 'it was not read'}.`);
+    services.show();
+    return true;
+  }
+  app.setup = null;
+  const at = more.id ? 0 : before.studies.filter(s => s.from < line).length;
+  await change(now => (now === before ? {
+    lines: [...lines.slice(0, line), ...got.lines, ...lines.slice(end)],
+    at,
+    path: 'root',
+    lenient: true,
+    ...more
+  }
+                                      : null));
+  scrollTo(0, 0);
+  return true;
+}
+/**
+ * @param {number} line
+ * @returns {Promise<boolean>} whether there is such a game
+ */
+export const openLeftOut = line => track(openAt(doc().lines, line));
+/**
+ * The same where no game of a PGN was read: what came in becomes the document.
+ * @param {import('./opening.js').Source} source
+ * @param {number} line
+ */
+export const openHeld = ({held, said, name}, line) =>
+  track(openAt(held, line, {name: checkedName(name), note: said, id: freshId()}));
+
+/** The text of the game that is looked at, as far as it was not read to its end. */
+export function unreadText() {
+  const s = study();
+  return s ? textIn(doc().lines.slice(s.head, s.from)) : null;
+}
+/**
+ * Other lines take the place of the study that is looked at.
+ * @param {Study} s
+ * @param {string[]} block
+ */
+const replaceStudy = (s, block) => change(now => (now.studies[now.at] === s ? {
+  lines:
+    [...now.lines.slice(0, s.head), ...block, ...(s.end < now.lines.length ? [''] : []), ...now.lines.slice(s.end)],
+  path: 'root',
+  lenient: true
+}
+                                                                            : null));
+/**
+ * The mended text of the game is read; where it has another bad move, up to there.
+ * @param {string} text
+ */
+export const readAgain = text => track((async () => {
+  const s = study(), aim = chosenAim(doc().studies), typed = text.replace(/\s*$/, '\n');
+  if (!s) return;
+  let got = /** @type {{lines: string[], out: LeftOut | null}} */ ({lines: [], out: null});
+  await work(async () => {
+    got = await read(typed, s.origin, aim);
+    const {out} = got;
+    if (!out || !canBeCut(out)) return;
+    const row = new TextEncoder().encode(typed.split('\n')[out.line - 1]),
+          letters = (/** @type {number} */ count) => new TextDecoder().decode(row.subarray(0, count)).length;
+    const game = {...out, game: s.origin.game, line: out.line + s.origin.line - 1};
+    got = await readUpTo(game, cutOf(typed, s.origin.line, game, letters), aim);
+  });
+  if (got.lines.filter(line => line.startsWith('position ')).length === 1) return replaceStudy(s, got.lines);
+  say('cut', got.out ? `${whyLeftOut(got.out)}.` : 'Write one game.');
+  services.show();
+})());
+/** The study ends where the game was read to. */
+export function endHere() {
+  const s = study(), {lines} = doc();
+  if (!s) return;
+  const gap = lines[s.end - 1] === '' ? 1 : 0, own = lines.slice(s.from, s.end - gap).filter(line => !isCutLine(line));
+  replaceStudy(s, [...withoutCut(lines.slice(s.head, s.from)), ...own]);
+}
