@@ -2,6 +2,7 @@
 // What came in with a PGN: what was left out or is not kept, and how it can be read again.
 import {h, smallButton} from './dom.js';
 import {track} from './actions.js';
+import {CODE_PAGES, textIn} from './code_pages.js';
 import {canBeCut, leftOutBy} from './left_out.js';
 import {asked, openHeld} from './mending.js';
 import {lastOpened, openPgn} from './opening.js';
@@ -18,13 +19,26 @@ const AIMS = ['white win', 'white draw', 'black win', 'black draw'];
 const aimButtons = (title, open) =>
   AIMS.map(words => smallButton(aimText(readAim(words)), title, () => open(words), {'data-import': words}));
 /** @param {Source} again */
-function aimsView({bytes, name, waiting}) {
+function aimsView({bytes, name, waiting, how}) {
   const [doNot, them] = waiting === 1 ? ['does not', 'it'] : ['do not', 'them'];
   return waiting > 0 &&
     h('p', {class: 'row', id: 'aims', role: 'group', 'aria-label': 'The stipulation of games that say none'},
       `${counted(waiting, 'game')} of this PGN ${doNot} say what is to be done. Read ${them} as: `,
       aimButtons('read the PGN again, with this stipulation where none is said',
-        words => track(openPgn(bytes, 'board', name, words))));
+        aim => track(openPgn(bytes, 'board', name, {...how, aim}))));
+}
+/**
+ * The code pages in which the names of a file can be read, each with the first name as it reads there.
+ * @param {Source} again
+ */
+function codesView({bytes, name, how, foreign}) {
+  const codeButton = (/** @type {[string, string]} */[code, words]) =>
+    smallButton(`${words}: ${textIn(foreign[0].name, code)}`, 'read the PGN again, in this code page',
+      () => track(openPgn(bytes, 'board', name, {...how, code})),
+      {'data-code': code, 'aria-pressed': `${how.code === code}`, class: `chip act${how.code === code ? ' on' : ''}`});
+  return foreign.length > 0 &&
+    h('p', {class: 'row', id: 'codes', role: 'group', 'aria-label': 'The code page of the names'},
+      'Read the names in another code page: ', CODE_PAGES.map(codeButton));
 }
 /** The stipulation of a game with a bad move that states none. */
 function askView() {
@@ -62,7 +76,7 @@ function upToView(again) {
  * @param {boolean} anew      whether a new set-up is shown
  */
 export function importView(anew) {
-  const last = lastOpened(), parts = last && last.id ? [aimsView(last)] : last ? [aimsView(last), upToView(last)] : [];
+  const last = lastOpened(), parts = last ? [aimsView(last), !last.id && upToView(last), codesView(last)] : [];
   if (last && !last.id && parts.some(Boolean))
     return [h('p', {class: 'note', id: 'tried'}, last.said), ...parts, askView()];
   return anew ? null : [noteView(doc().note), ...parts, askView()];

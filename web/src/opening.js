@@ -7,6 +7,7 @@ import {decode, documentOf, plainBytes, importNote, looksLikePgn, notKept, witho
 import {freshId} from './keep.js';
 import {gamesIn, namesOf, remarksOf} from './notes.js';
 import {replace} from './history.js';
+import {foreignGames, foreignText, inUtf8} from './code_pages.js';
 import {cutOf, textRemarks} from './cut_game.js';
 import {canBeCut, leftOut, leftOutBy} from './left_out.js';
 import {savedGames} from './saved_games.js';
@@ -15,9 +16,12 @@ import {aimText, counted, endedReason, readAim} from './words.js';
 
 /**
  * What was opened as a PGN last, so that it can be read again: `id` is the document that came of it, empty as long as
- * no game was read, beside the lines that stood there then; `said` is what came in, `held` its lines.
+ * no game was read, beside the lines that stood there then; `said` is what came in, `held` its lines; `how` it was
+ * read: with which stipulation for games that state none, in which code page; `foreign` the games with names in such a
+ * code.
+ * @typedef {{aim: string, code: string}} How
  * @typedef {{bytes: Uint8Array, name: string, id: string, waiting: number, beside: string[], said: string,
- *   held: string[]}} Source
+ *   held: string[], how: How, foreign: import('./code_pages.js').Foreign[]}} Source
  */
 let source = /** @type {Source | null} */ (null);
 /** What was opened last and brought no study yet, or became the document that is shown. */
@@ -70,10 +74,10 @@ const lettersIn = raw => (/** @type {number} */ count) => {
  * are that were left out, with their text where they can be read up to a bad move.
  * @param {string[]} lines
  * @param {Uint8Array} bytes
+ * @param {number[]} [starts]      where each game comes to begin
  */
-export function withRemarks(lines, bytes) {
-  const raw = rawLines(bytes), starts = /** @type {number[]} */ ([]),
-        games = gamesIn(raw.map(decode).join('\n'), starts);
+export function withRemarks(lines, bytes, starts = []) {
+  const raw = rawLines(bytes), games = gamesIn(raw.map(decode).join('\n'), starts);
   let game = 0;
   return lines.flatMap(line => {
     const m = /^#! game (\d+), /.exec(line), out = leftOutBy(line);
@@ -109,22 +113,30 @@ export const checkedName = name => (name ? name.replace(/\.\w+$/, '').replace(/\
  * @param {Uint8Array} bytes
  * @param {string} where
  * @param {string} name
+ * @param {How} [how]
  */
-export async function openPgn(bytes, where, name, aim = '') {
+export async function openPgn(bytes, where, name, how = {
+  aim: '',
+  code: ''
+}) {
+  const read = how.code ? inUtf8(rawLines(bytes), how.code) : bytes, starts = /** @type {number[]} */ ([]);
   let lines = /** @type {string[]} */ ([]);
   await work(async () => {
-    lines = await importPgn(bytes, aim);
+    lines = await importPgn(read, how.aim);
   }, where);
   if (!lines.length) return;
-  const held = withRemarks(documentOf(lines), bytes), waiting = withoutAim(lines), said = importNote(lines);
-  source = {bytes, name, id: '', waiting, beside: doc().lines, said, held};
+  const held = withRemarks(documentOf(lines), read, starts), waiting = withoutAim(lines), came = importNote(lines),
+        latin = /\ufffd/.test(new TextDecoder().decode(bytes)),
+        foreign = latin ? foreignGames(rawLines(bytes), starts) : [],
+        letters = foreignText(foreign, how.code) || (latin && !how.code && LATIN),
+        said = [came, letters, notKept(lines)].filter(Boolean).join(' ');
+  source = {bytes, name, id: '', waiting, beside: doc().lines, said, held, how, foreign};
   if (!lines.some(line => line.startsWith('position '))) {
-    const offered = waiting || leftOut(lines).some(canBeCut);
-    say(where, offered ? '' : `No study was found in this PGN. ${said} Nothing was changed.`);
+    const offered = waiting || leftOut(lines).some(canBeCut) || foreign.length;
+    say(where, offered ? '' : `No study was found in this PGN. ${came} Nothing was changed.`);
     return services.show();
   }
-  const latin = /\ufffd/.test(new TextDecoder().decode(bytes)) && LATIN;
-  await take(held, where, checkedName(name), [said, latin, notKept(lines)].filter(Boolean).join(' '));
+  await take(held, where, checkedName(name), said);
   Object.assign(source, {id: doc().id, held: []});
   services.show();
   checkWhole();

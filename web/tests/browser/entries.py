@@ -302,6 +302,34 @@ def test_letters_of_another_code(user):
     assert "was: Л" not in script(user)
 
 
+def test_names_in_a_code_page(user):
+    """Games with names that are no UTF-8 are named, and can be read in three code pages."""
+    user.open_tables(TABLES, SMALL)
+    path = os.path.join(tempfile.mkdtemp(), "mixed.pgn")
+    with open(path, "wb") as file:
+        file.write(game("One", "Réti", "1. Kg3").encode("utf-8"))
+        file.write(game("Two", "Троицкий", "1. Kg3 {Конец}").encode("cp1251"))
+        file.write(game("Three", "Šojka", "1. Kg3").encode("cp1250"))
+    user.by("file").send_keys(path)
+    user.until("document.getElementById('codes')", 60)
+    user.settle()
+    assert "The tags of games 2, 3 have letters that are no UTF-8, read as Latin 1: Òðîèöêèé." in user.text("import")
+    codes = user.js("return [...document.querySelectorAll('[data-code]')].map(e => e.innerText)")
+    assert codes[1] == "Cyrillic, 1251: Троицкий" and codes[2] == "Western, 1252: Òðîèöêèé", codes
+    assert [row[2] for row in rows(user)][:2] == ["Réti", "Òðîèöêèé"]
+    user.picture("codes", whole=False)
+    user.d.find_element(By.CSS_SELECTOR, '[data-code="windows-1251"]').click()
+    user.until("document.querySelector('[data-code=\"windows-1251\"]').classList.contains('on')", 60)
+    user.settle()
+    assert [row[2] for row in rows(user)][:2] == ["Réti", "Троицкий"] and "tag White Troickij" in script(user)
+    saved = user.download("savePgn")[1]
+    assert '[White "Троицкий"]' in saved and "{Конец. White mates in" in saved.replace("\n", " "), saved
+    user.d.find_element(By.CSS_SELECTOR, '[data-code="windows-1250"]').click()
+    user.until("document.querySelector('[data-code=\"windows-1250\"]').classList.contains('on')", 60)
+    user.settle()
+    assert rows(user)[2][2] == "Šojka", rows(user)
+
+
 def test_neither_script_nor_pgn(user):
     user.open_tables(TABLES, SMALL)
     user.set_up(FEN, "white win")
