@@ -213,6 +213,16 @@ const missing = (line, title, author, why) => ({
  * @param {{lines: string[], studies: Study[]}} doc
  */
 export function numbersOf({lines, studies}) {
+  const known = numbered.get(studies), numbers = known || numbersIn(lines, studies);
+  if (!known) numbered.set(studies, numbers);
+  return numbers;
+}
+const numbered = /** @type {WeakMap<Study[], string[]>} */ (new WeakMap());
+/**
+ * @param {string[]} lines
+ * @param {Study[]} studies
+ */
+function numbersIn(lines, studies) {
   let last = mostGames(lines);
   return studies.map(({aim, games, origin}) => {
     if (origin && origin.game) return `${origin.game}`;

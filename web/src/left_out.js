@@ -25,7 +25,7 @@ export const leftOut = lines => /** @type {LeftOut[]} */ (lines.map(leftOutBy).f
 
 /** What to write instead, by the name of the fault. */
 const INSTEAD = /** @type {Record<string, string>} */ ({
-  NotSan: 'write moves as Kb6 or c8=R, and words in braces: {stalemate}',
+  NotSan: 'write it as Kb6 or c8=R',
   NoSuchMove: 'write a legal move; perhaps a move before it is missing or wrong',
   Ambiguous: 'write the file or the rank that the man comes from, as Rad1 or R1d3',
   CastlingLeftOut: 'begin with the position after it',
@@ -57,20 +57,24 @@ const INSTEAD = /** @type {Record<string, string>} */ ({
   'no tags': 'delete the text, or write tags above it',
   'no FEN, so 32 men': 'write the position: [FEN "8/8/8/6k1/8/8/1P5K/8 w - - 0 1"]'
 });
-/** @param {string} text */
-const isForeign = text => /^[DTSLCFAV][a-h1-8x:]/.test(text);
+/**
+ * What stands where a move has to stand: a word, a move in letters of another language, or something else.
+ * @param {string} text
+ */
+const kindOf = text => (/^\p{L}{2,}[.,]?$/u.test(text) ? 'word' : /^[DTSLCFAV][a-h1-8x:]/.test(text) ? 'foreign' : '');
 /**
  * Why a game was left out, in words, and what to write instead.
  * @param {LeftOut} game
  */
 export function whyLeftOut({why, text}) {
-  const foreign = why === 'NotSan' && isForeign(text),
-        words = foreign ? 'not a move with the letters K Q R B N'
-    : why === 'NotSan'  ? 'not a move'
-                        : GAME_REASONS[why] || (/^[A-Z]\w+$/.test(why) ? reason('error ' + why) : why);
-  const instead = foreign   ? 'write the men with these letters, as a PGN has them'
-    : /^\d+ men$/.test(why) ? 'write a position of two to four men, kings included'
-                            : INSTEAD[why] || '';
+  const kind = why === 'NotSan' ? kindOf(text) : '';
+  const words = kind === 'foreign' ? 'not a move with the letters K Q R B N'
+    : why === 'NotSan'             ? 'not a move'
+                                   : GAME_REASONS[why] || (/^[A-Z]\w+$/.test(why) ? reason('error ' + why) : why);
+  const instead = kind === 'foreign' ? 'write the men with these letters, as a PGN has them'
+    : kind === 'word'                ? `write words in braces: {${text}}`
+                   : /^\d+ men$/.test(why) ? 'write a position of two to four men, kings included'
+                                           : INSTEAD[why] || '';
   return (text ? `${text}: ${words}` : words) + (instead && !words.includes(': ') ? `: ${instead}` : '');
 }
 

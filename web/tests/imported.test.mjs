@@ -70,10 +70,11 @@ test('games that were left out, and why', () => {
 });
 test('each reason says what to write instead', () => {
   const why = words => leftOut([`#! game 8, line 70, column 8: ${words}`]).map(whyLeftOut)[0];
-  assert.equal(
-    why('NotSan at stalemate'), 'stalemate: not a move: write moves as Kb6 or c8=R, and words in braces: {stalemate}');
+  assert.equal(why('NotSan at stalemate'), 'stalemate: not a move: write words in braces: {stalemate}');
   assert.equal(why('NotSan at Dg2+'),
     'Dg2+: not a move with the letters K Q R B N: write the men with these letters, as a PGN has them');
+  assert.equal(why('NotSan at Schach.'), 'Schach.: not a move: write words in braces: {Schach.}');
+  assert.equal(why('NotSan at Kh9'), 'Kh9: not a move: write it as Kb6 or c8=R');
   assert.equal(why('NullMove'), 'a null move in the main line: show a threat in a variation');
   assert.equal(why('BehindResult'), 'moves behind the result: delete the result before them, or write them in braces');
   assert.equal(why('Numbering at 3'),
