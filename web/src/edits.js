@@ -231,7 +231,7 @@ export function setTag(lines, study, name, text, original = '') {
  */
 export const replacePosition = (lines, study, fen, aim) => ({...withMoves(lines, study, fen, aim, []), path: 'root'});
 /**
- * Another position with these moves; tags and remarks stay.
+ * Another position with these moves; tags and remarks stay. A game that was not read to its end is not read there, too.
  * @param {string[]} lines
  * @param {Study} study
  * @param {string} fen
@@ -240,14 +240,16 @@ export const replacePosition = (lines, study, fen, aim) => ({...withMoves(lines,
  * @returns {Change}
  */
 export function withMoves(lines, study, fen, aim, moves) {
-  const own = lines.slice(study.from + 1, study.end)
-                .filter(l => !/^ *(insert|delete|promote|shift|mark|moves|fen|solve|stipulate)( |$)/.test(l));
+  const all = lines.slice(study.from + 1, study.end), cut = moves.length > 0 && study.origin && study.origin.cut,
+        head = headAnew(lines, study);
+  const own = all.filter(l => !/^ *(insert|delete|promote|shift|mark|moves|fen|solve|stipulate)( |$)/.test(l));
   const rest = oneGame(own), games = rest.findIndex(isGame), at = games < 0 ? rest.length : games;
   const gap = games < 0 && rest.length && !rest[rest.length - 1].trim() ? 1 : 0;
   return {
     lines: [
-      ...lines.slice(0, study.head), ...withoutCut(headAnew(lines, study)), 'position ' + fen, 'stipulate ' + aim,
-      ...rest.slice(0, at - gap), ...moves, ...rest.slice(at - gap), ...lines.slice(study.end)
+      ...lines.slice(0, study.head), ...(cut ? head : withoutCut(head)), 'position ' + fen, 'stipulate ' + aim,
+      ...rest.slice(0, at - gap), ...moves, ...(cut ? all.filter(isCutLine) : []), ...rest.slice(at - gap),
+      ...lines.slice(study.end)
     ]
   };
 }

@@ -113,7 +113,7 @@ export function show() {
   put('setup', app.setup && setupView());
   put('nav', !app.setup && n && navView(n));
   put('here', !app.setup && s && n && hereView(s, n));
-  for (const id of ['head', 'verdict', 'mend']) $(id).hidden = Boolean(app.setup);
+  for (const id of ['head', 'verdict', 'unread', 'mend']) $(id).hidden = Boolean(app.setup);
   for (const id of ['tree', 'review', 'texts']) $(id).hidden = Boolean(anew && s);
   part('head',
     [
@@ -156,7 +156,8 @@ function hint() {
 }
 function drawFacts() {
   const s = study();
-  part('verdict', [s, app.view !== null, app.noView, app.review, ...saying()], () => s && [verdictView(s), cutView(s)]);
+  part('verdict', [s, app.view !== null, app.noView, app.review], () => s && verdictView(s));
+  part('unread', [s, ...saying()], () => s && cutView(s));
   part('mend', [s, app.view !== null, app.review], () => s && faultsView(s));
   part('review', [s, app.view !== null, app.review, app.noReview], () => s && reviewView(s));
   part('list', listFrom(), entriesView);

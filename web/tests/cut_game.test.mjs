@@ -2,7 +2,7 @@
 import test from 'node:test';
 import assert from 'node:assert/strict';
 import {asGame, cutBlock, cutOf, leftOutText, textIn, textRemarks, upTo} from '../src/cut_game.js';
-import {replacePosition, stipulate, tidy} from '../src/edits.js';
+import {replacePosition, stipulate, tidy, withMoves} from '../src/edits.js';
 import {entriesOf, stampOf, unreadIn} from '../src/entries.js';
 import {canBeCut, cutIn, leftOutBy, withoutCut} from '../src/left_out.js';
 import {readScript} from '../src/script.js';
@@ -99,5 +99,8 @@ test('it is not read, whatever the verdict on its part', () => {
   assert.ok(tidy(STUDY, s, root).lines.includes('insert 0.0.0 2... Kh9'));
   assert.ok(stipulate(STUDY, s, 'white draw').lines.includes(STUDY[2]));
   assert.equal(cutIn(replacePosition(STUDY, s, '8/8/8/6k1/8/8/1P5K/8 b - - 0 1', 'white win').lines), null);
+  const moved = withMoves(STUDY, s, '8/8/8/1k6/8/8/K5P1/8 w - - 0 1', 'white win', ['insert root Kb3']).lines;
+  assert.deepEqual(moved.slice(-3), ['insert root Kb3', 'insert 0.0.0 2... Kh9', 'pgn']);
+  assert.deepEqual(cutIn(moved), cutIn(STUDY));
   assert.deepEqual(cutIn(copyStudy(STUDY, script.studies, 0).lines.slice(STUDY.length)), cutIn(STUDY));
 });

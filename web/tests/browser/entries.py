@@ -161,6 +161,18 @@ def test_a_game_with_a_bad_move_is_opened_up_to_there(user):
     user.until("document.getElementById('cut')", 60)
     user.settle()
     assert user.text("stamp") == "not read: 7. b6" and user.text("head").startswith("Two\n\nNo. 2"), user.text("head")
+    user.click("setUp")
+    user.d.find_element(By.CSS_SELECTOR, '[data-turn="mirror"]').click()
+    user.until("!document.getElementById('start').disabled", 30)
+    user.click("start")
+    user.settle()
+    assert user.text("stamp") == "not read: 7. b6" and "position 8/8/8/1k6/8/8/K5P1/8 w" in script(user), script(user)
+    user.js("document.getElementById('tidy').click()")
+    user.settle()
+    assert user.text("stamp") == "not read: 7. b6"
+    for _ in range(2):
+        user.click("undo")
+        user.settle()
     row = rows(user)[1]
     assert row[:3] == ["2", "Two", "Smith, John"] and row[4] == "not read: 7. b6" and "from the Result" in row[3], row
     sans = re.findall(r"^insert \S+ (\S+)$", script(user), re.M)
@@ -380,7 +392,8 @@ def test_a_file_goes_back_as_its_authors(user):
     opened(user, "entries.checked.pgn", saved, "document.getElementById('import').innerText === ''")
     assert user.download("savePgn") == ("entries.checked.pgn", saved)
     user.choose("aimGoal", "draw")
-    assert '[Result "1-0"]' in user.download("savePgn")[1] and "stipulated by hand" in script(user)
+    assert "stipulated by hand" in script(user) and user.text("stamp").startswith("unsound"), script(user)
+    assert '[Result "1-0"]' in user.download("savePgn")[1]
 
 
 def test_studies_are_copied_and_moved(user):

@@ -79,7 +79,8 @@ class User:
         self.click(name)
         for _ in range(500):
             saved = [file for file in os.listdir(folder) if not file.endswith(".crdownload")]
-            if saved:
+            # (the browser makes an empty file of this name first)
+            if saved and os.path.getsize(os.path.join(folder, saved[0])):
                 with open(os.path.join(folder, saved[0]), encoding="utf-8") as file:
                     return saved[0], file.read()
             time.sleep(0.02)
