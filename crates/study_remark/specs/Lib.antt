@@ -1,0 +1,3 @@
+pub mod Remarks
+pub mod Reading
+pub mod Laws
