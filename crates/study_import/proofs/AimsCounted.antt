@@ -18,8 +18,8 @@ use Rattle.study_games.specs.declared.symbols.Outcome.TheVariants.{WhiteWins, Bl
 use Rattle.study_games.specs.declared.symbols.Said.{Said}
 use Rattle.study_games.specs.declared.symbols.Said.TheVariants as say
 use Rattle.study_import.specs.declared.game.aims.Aim.{Aim}
-use Rattle.study_import.specs.declared.game.aims.AimSource.{AimSource}
-use Rattle.study_import.specs.declared.game.aims.AimSource.TheVariants.{Comment, StipulationTag, ResultTag, Result as EndResult, Given}
+use Rattle.study_remark.specs.declared.remark.Source.{Source}
+use Rattle.study_remark.specs.declared.remark.Source.TheVariants.{Comment, StipulationTag, ResultTag, Result as EndResult, Given}
 use Rattle.study_import.specs.declared.game.notes.Notes.{Notes}
 use Rattle.study_import.specs.declared.game.aims.Sources.{Sources}
 use Rattle.study_import.specs.Aims.{Found, last_of_phrase, hero_of, goal_named, moves_named, says_moves, moves_counted, or_moves, moves_in}
@@ -209,7 +209,7 @@ abbrev Aimed : Option Aim → Type 0
 Aimed None = Unit {0}
 Aimed (Some aim) = IsCounted aim.stipulation.goal
 
-aimed_source : (s : AimSource) (o : Option Stipulation) → IsGiven o → Aimed (from_source s o)
+aimed_source : (s : Source) (o : Option Stipulation) → IsGiven o → Aimed (from_source s o)
 aimed_source s None h = tt
 aimed_source s (Some aim) h = h
 
@@ -222,7 +222,7 @@ outcome_counted WhiteWins = tt
 outcome_counted BlackWins = tt
 outcome_counted Drawn = tt
 
-aimed_result : (s : AimSource) (o : Option Outcome) → Aimed (aim_of_result s o)
+aimed_result : (s : Source) (o : Option Outcome) → Aimed (aim_of_result s o)
 aimed_result s None = tt
 aimed_result s (Some o) = outcome_counted o
 

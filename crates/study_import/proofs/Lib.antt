@@ -39,3 +39,4 @@ mod HeaderRead
 mod RoundTrip
 mod PlainText
 mod CutOut
+pub mod StoppedBlock

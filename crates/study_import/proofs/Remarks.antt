@@ -33,16 +33,21 @@ use Rattle.study_import.specs.declared.game.token_effects.Reason.TheVariants as 
 use Rattle.study_import.specs.declared.game.movetext.MovesFault.{MovesFault}
 use Rattle.study_import.specs.declared.game.movetext.Stop.{Stop}
 use Rattle.study_import.specs.declared.game.movetext.Stop.TheVariants as stop
+use Rattle.study_remark.specs.declared.remark.Doubt.{Doubt}
+use Rattle.study_remark.specs.declared.remark.Doubt.TheVariants as doubt
+use Rattle.study_remark.specs.declared.remark.Original.{Original}
+use Rattle.study_remark.specs.declared.remark.Original.TheVariants as original
+use Rattle.study_remark.specs.Remarks as told
 use Rattle.study_import.specs.declared.game.aims.Aim.{Aim}
 use Rattle.study_import.specs.declared.game.aims.Doubts.{Doubts}
-use Rattle.study_import.specs.declared.game.aims.AimSource.{AimSource}
-use Rattle.study_import.specs.declared.game.aims.AimSource.TheVariants.{Comment, StipulationTag, ResultTag, Result as EndResult, Given}
+use Rattle.study_remark.specs.declared.remark.Source.{Source}
+use Rattle.study_remark.specs.declared.remark.Source.TheVariants.{Comment, StipulationTag, ResultTag, Result as EndResult, Given}
 use Rattle.study_import.specs.declared.game.notes.Notes.{Notes}
 use Rattle.study_import.specs.declared.places.Place.{Place}
 use Rattle.study_import.specs.declared.game.aims.Sources.{Sources}
-use Rattle.study_import.specs.Aims.{source_words, unaimed_words}
+use Rattle.study_import.specs.Aims.{unaimed_words}
 use Rattle.study_import.specs.Blocks.{Entry, Reported, place_in, text_at, token_name, move_name, line_name, reason_name, stop_name, run_words}
-use Rattle.study_import.specs.Blocks.{symbol_words, author_of, author_words, no_colon, left_out, place_words, fault_words, counts_words, counts_line, doubt_line, doubt_lines, source_line}
+use Rattle.study_import.specs.Blocks.{symbol_words, author_of, author_words, no_colon, told_words, left_out, fault_words, counts_words, counts_line, doubt_line, doubt_lines, source_line, original_named}
 use Rattle.study_import.specs.Blocks.{move_counts, counted_words, behind_words, behind_line, six_names, remark_byte, tag_text, was_of, was_line, head_line, remark_lines}
 use Rattle.study_import.specs.Blocks.{other_tags, repeated_name, repeated_words, stopped_block, men_in, fen_words, at_most, last_line, tail_line}
 use Rattle.study_import.proofs.Ink.{Ink, decimal_ink, decimal_few}
@@ -118,62 +123,72 @@ remark_line t h = record { fits = record { shown = h.shown; few = omega (arith, 
 pub empty_line : IsRemark []
 empty_line = record { fits = record { shown = refl; few = omega arith }; silent = empty_asked }
 
-source_part : (s : AimSource) → IsPart 20 (source_words s)
+-- a remark is a line without a command
+remark_is : (t : told.Told) → IsPart 998 (told.remark_words t) → AreLines IsRemark (told.remark_text t)
+unfolding told.remark_text
+remark_is t h =
+    one_line IsRemark _ (35 ∷ (codes "! " ++ told.remark_words t)) refl
+    (remark_line _ (joined 2 998 (codes "! ") (told.remark_words t) (record { shown = refl; few = omega arith }) h))
+
+-- a text with a number behind it
+numbered : (k n : ℕ) (word rest : List ℕ) (number : ℕ) → IsPart k word → IsPart n rest → IsPart (k + (64 + n)) (word ++ (decimal number ++ rest))
+numbered k n word rest number w h = joined k (64 + n) word (decimal number ++ rest) w (joined 64 n (decimal number) rest (number_part number) h)
+
+-- ---- the game of a remark
+
+column_part : (column : Option ℕ) → IsPart 73 (told.column_words column)
+column_part None = record { shown = refl; few = omega arith }
+column_part (Some column) =
+    joined 9 64 (codes ", column ") (decimal column) (record { shown = refl; few = omega arith }) (number_part column)
+
+author_by : (author : List ℕ) (none : Bool) → IsPart 60 author → IsPart 63 (if none then [] else codes " (" ++ (author ++ codes ")"))
+author_by author true h = record { shown = refl; few = omega arith }
+author_by author false h =
+    joined 2 61 (codes " (") _ (record { shown = refl; few = omega arith })
+    (joined 60 1 author (codes ")") h (record { shown = refl; few = omega arith }))
+
+subject_part : (g : told.Game) → IsPart 60 g.author → IsPart 278 (told.subject_words g)
+unfolding told.subject_words
+subject_part g h =
+    numbered 5 (7 + (64 + (73 + (63 + 2)))) (codes "game ") _ g.game (record { shown = refl; few = omega arith })
+    (numbered 7 (73 + (63 + 2)) (codes ", line ") _ g.line (record { shown = refl; few = omega arith })
+    (joined 73 (63 + 2) (told.column_words g.column) _ (column_part g.column)
+    (joined 63 2 (told.author_words g.author) (codes ": ") (author_by g.author (length g.author == 0) h) (record { shown = refl; few = omega arith }))))
+
+-- ---- the head of a block
+
+source_part : (s : Source) → IsPart 34 (told.stipulated_words s)
+unfolding told.stipulated_words
 source_part Comment = record { shown = refl; few = omega arith }
 source_part StipulationTag = record { shown = refl; few = omega arith }
 source_part ResultTag = record { shown = refl; few = omega arith }
 source_part EndResult = record { shown = refl; few = omega arith }
 source_part Given = record { shown = refl; few = omega arith }
 
--- a remark begins with `#`
-abbrev hashed : List ℕ → List ℕ
-hashed t = 35 ∷ t
-
-game_part : (number n : ℕ) (rest : List ℕ) → IsPart n rest → IsPart (71 + n) (codes "! game " ++ (decimal number ++ rest))
-game_part number n rest h =
-    wider (7 + (64 + n)) (71 + n) _ (omega arith)
-    (joined 7 (64 + n) (codes "! game ") (decimal number ++ rest) (record { shown = refl; few = omega arith })
-    (joined 64 n (decimal number) rest (number_part number) h))
-
--- ---- the head of a block
-
-line_part : (line n : ℕ) (rest : List ℕ) → IsPart n rest → IsPart (71 + n) (codes ", line " ++ (decimal line ++ rest))
-line_part line n rest h =
-    wider (7 + (64 + n)) (71 + n) _ (omega arith)
-    (joined 7 (64 + n) (codes ", line ") (decimal line ++ rest) (record { shown = refl; few = omega arith })
-    (joined 64 n (decimal line) rest (number_part line) h))
-
-head_is : (a b c : List ℕ) → (codes "#! game " ++ a) ++ (codes ", line " ++ (b ++ (codes ": stipulated by " ++ (c ++ codes "\n"))))
-    ≡ hashed (codes "! game " ++ (a ++ (codes ", line " ++ (b ++ (codes ": stipulated by " ++ c))))) ++ 10 ∷ []
-head_is a b c = simp append_assoc
-
 source_remark : (e : Entry) (aim : Aim) → AreLines IsRemark (source_line e aim)
-unfolding source_line
 source_remark e aim =
-    one_line IsRemark _ _ (head_is (decimal e.number) (decimal e.line) (source_words aim.source))
-    (remark_line _ (wider (71 + (71 + (16 + 20))) 1000 _ (omega arith)
-    (game_part e.number (71 + (16 + 20)) _ (line_part e.line (16 + 20) _
-    (joined 16 20 (codes ": stipulated by ") (source_words aim.source) (record { shown = refl; few = omega arith }) (source_part aim.source))))))
+    remark_is _ (wider (278 + 34) 998 _ (omega arith)
+    (joined 278 34 (told.subject_words (record { game = e.number; line = e.line; column = None; author = [] })) (told.stipulated_words aim.source)
+    (subject_part _ (record { shown = refl; few = omega arith })) (source_part aim.source)))
 
-doubt_is : (words : List ℕ) → codes "#! the stipulation " ++ (words ++ codes "\n") ≡ hashed (codes "! the stipulation " ++ words) ++ 10 ∷ []
-doubt_is words = simp append_assoc
+doubt_part : (why : Doubt) → IsPart 60 (told.remark_words (told.doubted why))
+doubt_part doubt.CommentUnread = record { shown = refl; few = omega arith }
+doubt_part doubt.TagUnread = record { shown = refl; few = omega arith }
+doubt_part doubt.TagDiffers = record { shown = refl; few = omega arith }
+doubt_part doubt.ResultTagDiffers = record { shown = refl; few = omega arith }
+doubt_part doubt.ResultDiffers = record { shown = refl; few = omega arith }
 
-doubt_remark : (doubted : Bool) (words : List ℕ) → list_all shows words ≡ true → nat_le (length words) 60 ≡ true → AreLines IsRemark (doubt_line doubted words)
-unfolding doubt_line
-doubt_remark false words h k = no_lines IsRemark
-doubt_remark true words h k =
-    one_line IsRemark _ _ (doubt_is words)
-    (remark_line _ (wider (18 + 60) 1000 _ (omega arith)
-    (joined 18 60 (codes "! the stipulation ") words (record { shown = refl; few = omega arith }) (record { shown = h; few = leb-true (length words) 60 k }))))
+doubt_remark : (doubted : Bool) (why : Doubt) → AreLines IsRemark (doubt_line doubted why)
+doubt_remark false why = no_lines IsRemark
+doubt_remark true why = remark_is (told.doubted why) (wider 60 998 _ (omega arith) (doubt_part why))
 
 doubt_remarks : (d : Doubts) → AreLines IsRemark (doubt_lines d)
 unfolding doubt_lines
 doubt_remarks d =
-    more_lines IsRemark _ _ (doubt_remark d.comment_unread (codes "of its comment is not understood") refl refl)
-    (more_lines IsRemark _ _ (doubt_remark d.tag_unread (codes "of its tag Stipulation is not understood") refl refl)
-    (more_lines IsRemark _ _ (doubt_remark d.tag_differs (codes "differs from its tag Stipulation") refl refl)
-    (more_lines IsRemark _ _ (doubt_remark d.result_tag_differs (codes "differs from its tag Result") refl refl)
-    (doubt_remark d.result_differs (codes "differs from its result") refl refl))))
+    more_lines IsRemark _ _ (doubt_remark d.comment_unread doubt.CommentUnread)
+    (more_lines IsRemark _ _ (doubt_remark d.tag_unread doubt.TagUnread)
+    (more_lines IsRemark _ _ (doubt_remark d.tag_differs doubt.TagDiffers)
+    (more_lines IsRemark _ _ (doubt_remark d.result_tag_differs doubt.ResultTagDiffers) (doubt_remark d.result_differs doubt.ResultDiffers))))
 
 pub head_remark : (e : Entry) (aim : Aim) → AreLines IsRemark (head_line e aim)
 head_remark e aim = more_lines IsRemark (source_line e aim) (doubt_lines aim.doubts) (source_remark e aim) (doubt_remarks aim.doubts)
@@ -181,10 +196,10 @@ head_remark e aim = more_lines IsRemark (source_line e aim) (doubt_lines aim.dou
 -- ---- counts
 
 one_count : (first : Bool) (name : List ℕ) (n k : ℕ) (none : Bool) → IsPart k name
-    → IsPart (2 + (k + (1 + 64))) (if none then [] else (if first then codes " " else codes ", ") ++ (name ++ (codes " " ++ decimal n)))
+    → IsPart (2 + (k + (1 + 64))) (if none then [] else (if first then [] else codes ", ") ++ (name ++ (codes " " ++ decimal n)))
 one_count first name n k true h = record { shown = refl; few = omega arith }
 one_count true name n k false h =
-    joined 2 (k + (1 + 64)) (codes " ") _ (record { shown = refl; few = omega arith })
+    joined 2 (k + (1 + 64)) [] _ (record { shown = refl; few = omega arith })
     (joined k (1 + 64) name _ h (joined 1 64 (codes " ") (decimal n) (record { shown = refl; few = omega arith }) (number_part n)))
 one_count false name n k false h =
     joined 2 (k + (1 + 64)) (codes ", ") _ (record { shown = refl; few = omega arith })
@@ -217,34 +232,20 @@ counted_part n tags repeated =
       ),
     )
 
-not_taken_is : (words : List ℕ) → codes "#! not taken over:" ++ (words ++ codes "\n") ≡ hashed (codes "! not taken over:" ++ words) ++ 10 ∷ []
-not_taken_is words = refl
-
-counts_remark : (words : List ℕ) (none : Bool) → IsPart 480 words → AreLines IsRemark (if none then [] else codes "#! not taken over:" ++ (words ++ codes "\n"))
+counts_remark : (words : List ℕ) (none : Bool) → IsPart 480 words → AreLines IsRemark (if none then [] else told.remark_text (told.not_taken_over words))
 counts_remark words true h = no_lines IsRemark
 counts_remark words false h =
-    one_line IsRemark _ _ (not_taken_is words)
-    (remark_line _ (wider (17 + 480) 1000 _ (omega arith) (joined 17 480 (codes "! not taken over:") words (record { shown = refl; few = omega arith }) h)))
+    remark_is (told.not_taken_over words) (wider (16 + 480) 998 _ (omega arith)
+    (joined 16 480 (codes "not taken over: ") words (record { shown = refl; few = omega arith }) h))
 
 -- ---- places
 
-pub place_part : (p : Place) → IsPart 142 (place_words p)
-unfolding place_words
-place_part p =
-    joined 5 137 (codes "line ") _ (record { shown = refl; few = omega arith })
-    (joined 64 73 (decimal p.line) _ (number_part p.line)
-    (joined 9 64 (codes ", column ") (decimal p.column) (record { shown = refl; few = omega arith }) (number_part p.column)))
-
-behind_is : (place : List ℕ) → codes "#! behind the result: " ++ (place ++ codes "\n") ≡ hashed (codes "! behind the result: " ++ place) ++ 10 ∷ []
-behind_is place = refl
-
-behind_by : (p : Place) (none : Bool) → AreLines IsRemark (if none then [] else behind_words p)
-unfolding behind_words
+behind_by : (p : Place) (none : Bool) → AreLines IsRemark (if none then [] else told.remark_text (told.behind_result p.line p.column))
 behind_by p true = no_lines IsRemark
 behind_by p false =
-    one_line IsRemark _ _ (behind_is (place_words p))
-    (remark_line _ (wider (21 + 142) 1000 _ (omega arith)
-    (joined 21 142 (codes "! behind the result: ") (place_words p) (record { shown = refl; few = omega arith }) (place_part p))))
+    remark_is (told.behind_result p.line p.column) (wider (24 + (64 + (9 + 64))) 998 _ (omega arith)
+    (numbered 24 (9 + 64) (codes "behind the result: line ") _ p.line (record { shown = refl; few = omega arith })
+    (joined 9 64 (codes ", column ") (decimal p.column) (record { shown = refl; few = omega arith }) (number_part p.column))))
 
 behind_remark : (e : Entry) (text : List ℕ) → AreLines IsRemark (behind_line e text)
 unfolding behind_line
@@ -276,6 +277,14 @@ original_part value = record { shown = all_shown (take 255 value); few = few_map
     few_mapped : (value : List ℕ) → length (map remark_byte (take 255 value)) ≤ 255
     few_mapped value = few_by 255 refl value
 
+original_name_part : (name : Original) → IsPart 5 (told.original_name name)
+original_name_part original.Event = record { shown = refl; few = omega arith }
+original_name_part original.Site = record { shown = refl; few = omega arith }
+original_name_part original.Date = record { shown = refl; few = omega arith }
+original_name_part original.Round = record { shown = refl; few = omega arith }
+original_name_part original.White = record { shown = refl; few = omega arith }
+original_name_part original.Black = record { shown = refl; few = omega arith }
+
 pub tag_part : (name : TagName) → IsPart 5 (tag_name name)
 tag_part named.Event = record { shown = refl; few = omega arith }
 tag_part named.Site = record { shown = refl; few = omega arith }
@@ -284,23 +293,17 @@ tag_part named.Round = record { shown = refl; few = omega arith }
 tag_part named.White = record { shown = refl; few = omega arith }
 tag_part named.Black = record { shown = refl; few = omega arith }
 
-was_is : (name value : List ℕ) → codes "#! " ++ (name ++ (codes " was: " ++ (value ++ codes "\n"))) ≡ hashed (codes "! " ++ (name ++ (codes " was: " ++ value)))
-    ++ 10 ∷ []
-was_is name value = simp append_assoc
-
-was_by : (name : TagName) (value : List ℕ) (same : Bool)
-    → AreLines IsRemark (if same then [] else codes "#! " ++ (tag_name name ++ (codes " was: " ++ (map remark_byte (take 255 value) ++ codes "\n"))))
+was_by : (name : Original) (value : List ℕ) (same : Bool)
+    → AreLines IsRemark (if same then [] else told.remark_text (told.original_of name (map remark_byte (take 255 value))))
 was_by name value true = no_lines IsRemark
 was_by name value false =
-    one_line IsRemark _ _ (was_is (tag_name name) (map remark_byte (take 255 value)))
-    (remark_line _ (wider (2 + (5 + (6 + 255))) 1000 _ (omega arith)
-    (joined 2 (5 + (6 + 255)) (codes "! ") _ (record { shown = refl; few = omega arith })
-    (joined 5 (6 + 255) (tag_name name) _ (tag_part name)
-    (joined 6 255 (codes " was: ") (map remark_byte (take 255 value)) (record { shown = refl; few = omega arith }) (original_part value))))))
+    remark_is (told.original_of name (map remark_byte (take 255 value))) (wider (5 + (6 + 255)) 998 _ (omega arith)
+    (joined 5 (6 + 255) (told.original_name name) _ (original_name_part name)
+    (joined 6 255 (codes " was: ") (map remark_byte (take 255 value)) (record { shown = refl; few = omega arith }) (original_part value))))
 
 was_remark : (name : TagName) (value : Option (List ℕ)) → AreLines IsRemark (was_of name value)
 was_remark name None = no_lines IsRemark
-was_remark name (Some value) = was_by name (unescape value) (bytes_eq (tag_text (unescape value)) (trim (unescape value)))
+was_remark name (Some value) = was_by (original_named name) (unescape value) (bytes_eq (tag_text (unescape value)) (trim (unescape value)))
 
 was_lines : (tags : List Pair) (names : List TagName) → AreLines IsRemark (flat_map (was_line tags) names)
 unfolding was_line
@@ -322,17 +325,11 @@ remarks_are e t =
 
 -- ---- games without a study
 
-left_is : (a b author words : List ℕ) → (codes "#! game " ++ a) ++ (codes ", line " ++ (b ++ (author ++ (codes ": " ++ (words ++ codes "\n\n")))))
-    ≡ (hashed (codes "! game " ++ (a ++ (codes ", line " ++ (b ++ (author ++ (codes ": " ++ words)))))) ++ 10 ∷ []) ++ 10 ∷ []
-left_is a b author words = simp append_assoc
+-- a remark, and an empty line
+with_empty : (t : List ℕ) → AreLines IsRemark t → AreLines IsRemark (t ++ codes "\n")
+with_empty t h = more_lines IsRemark t (codes "\n") h (one_line IsRemark (codes "\n") [] refl empty_line)
 
-two_lines : (t : List ℕ) → IsRemark t → AreLines IsRemark ((t ++ 10 ∷ []) ++ 10 ∷ [])
-two_lines t h = more_lines IsRemark (t ++ 10 ∷ []) (10 ∷ []) (one_line IsRemark (t ++ 10 ∷ []) t refl h) (one_line IsRemark (10 ∷ []) [] refl empty_line)
-
-as_lines : (s t : List ℕ) → s ≡ t → AreLines IsRemark t → AreLines IsRemark s
-as_lines s t e h = record { lines = h.lines; each = h.each; text = e ∙ h.text }
-
--- the author in parentheses
+-- the author
 colon_shows : (b : ℕ) (colon : Bool) → (b == 58) ≡ colon → shows b ≡ true → shows (if colon then 44 else b) ≡ true
 colon_shows b true e h = refl
 colon_shows b false e h = h
@@ -344,47 +341,32 @@ no_colons (b ∷ bs) h =
     rw (colon_shows b (b == 58) refl (and_parts (nat_le 32 b) (nat_le b 126) all.0).0) (no_colons bs all.1)
 
 name_by : (text : List ℕ) (none : Bool) → length text ≤ 60 → list_all is_printable text ≡ true
-    → IsPart 63 (if none then [] else codes " (" ++ (map no_colon text ++ codes ")"))
+    → IsPart 60 (if none then [] else map no_colon text)
 name_by text true few prints = record { shown = refl; few = omega arith }
-name_by text false few prints =
-    joined 2 61 (codes " (") _ (record { shown = refl; few = omega arith })
-    (joined 60 1 (map no_colon text) (codes ")") (record { shown = no_colons text prints; few = omega (arith, length-map text no_colon, few) })
-    (record { shown = refl; few = omega arith }))
+name_by text false few prints = record { shown = no_colons text prints; few = omega (arith, length-map text no_colon, few) }
 
-author_part : (value : Option (List ℕ)) → IsPart 63 (author_of value)
+author_part : (value : Option (List ℕ)) → IsPart 60 (author_of value)
 author_part None = record { shown = refl; few = omega arith }
 author_part (Some value) =
-    name_by (tag_text (unescape value)) (length (tag_text (unescape value)) == 0 || bytes_eq (tag_text (unescape value)) (codes "?"))
+    name_by (tag_text (unescape value)) (bytes_eq (tag_text (unescape value)) (codes "?"))
     (short_few (unescape value)) (short_prints (unescape value))
 
-authors : (tags : List Pair) → IsPart 63 (author_words tags)
+authors : (tags : List Pair) → IsPart 60 (author_words tags)
 unfolding author_words
 authors tags = author_part (value_of (tag_name named.White) tags)
 
+told_is : (number line : ℕ) (column : Option ℕ) (author words : List ℕ) → IsPart 60 author → IsPart 100 words
+    → AreLines IsRemark (told_words number line column author words)
+unfolding told_words
+told_is number line column author words h k =
+    with_empty _ (remark_is _ (wider (278 + 100) 998 _ (omega arith)
+    (joined 278 100 (told.subject_words (record { game = number; line = line; column = column; author = author })) words (subject_part _ h) k)))
+
 pub left_out_is : (e : Entry) (words : List ℕ) → IsPart 100 words → AreLines IsRemark (left_out e words)
-unfolding left_out
-left_out_is e words h =
-    as_lines _ _ (left_is (decimal e.number) (decimal e.line) (author_words (tags_of e.text)) words)
-    (two_lines _ (remark_line _ (wider (71 + (71 + (63 + (2 + 100)))) 1000 _ (omega arith)
-    (game_part e.number (71 + (63 + (2 + 100))) _ (line_part e.line (63 + (2 + 100)) _
-    (joined 63 (2 + 100) (author_words (tags_of e.text)) _ (authors (tags_of e.text))
-    (joined 2 100 (codes ": ") words (record { shown = refl; few = omega arith }) h)))))))
+left_out_is e words h = told_is e.number e.line None (author_words (tags_of e.text)) words (authors (tags_of e.text)) h
 
-fault_is : (a place author name symbol : List ℕ)
-    → (codes "#! game " ++ a) ++ (codes ", " ++ (place ++ (author ++ (codes ": " ++ (name ++ (symbol ++ codes "\n\n"))))))
-    ≡ (hashed (codes "! game " ++ (a ++ (codes ", " ++ (place ++ (author ++ (codes ": " ++ (name ++ symbol))))))) ++ 10 ∷ []) ++ 10 ∷ []
-fault_is a place author name symbol = simp append_assoc
-
-pub fault_words_are : (e : Entry) (p : Place) (name symbol : List ℕ) → IsPart 20 name → IsPart 44 symbol → AreLines IsRemark (fault_words e p name symbol)
-unfolding fault_words
-fault_words_are e p name symbol h k =
-    as_lines _ _ (fault_is (decimal e.number) (place_words p) (author_words (tags_of e.text)) name symbol)
-    (two_lines _ (remark_line _ (wider (71 + (2 + (142 + (63 + (2 + (20 + 44)))))) 1000 _ (omega arith)
-    (game_part e.number (2 + (142 + (63 + (2 + (20 + 44))))) _
-    (joined 2 (142 + (63 + (2 + (20 + 44)))) (codes ", ") _ (record { shown = refl; few = omega arith })
-    (joined 142 (63 + (2 + (20 + 44))) (place_words p) _ (place_part p)
-    (joined 63 (2 + (20 + 44)) (author_words (tags_of e.text)) _ (authors (tags_of e.text))
-    (joined 2 (20 + 44) (codes ": ") (name ++ symbol) (record { shown = refl; few = omega arith }) (joined 20 44 name symbol h k)))))))))
+pub fault_words_are : (e : Entry) (p : Place) (words : List ℕ) → IsPart 100 words → AreLines IsRemark (fault_words e p words)
+fault_words_are e p words h = told_is e.number p.line (Some p.column) (author_words (tags_of e.text)) words (authors (tags_of e.text)) h
 
 -- ---- names of faults
 
@@ -487,8 +469,9 @@ symbol_part stop.BehindResult text = none_part
 
 pub stopped_lines : (e : Entry) (fault : MovesFault) → AreLines IsRemark (stopped_block e fault).text
 stopped_lines e fault =
-    fault_words_are e (place_in e fault.left) (stop_name fault.why) (symbol_words fault.why (text_at e fault.left)) (stop_part fault.why)
-    (symbol_part fault.why (text_at e fault.left))
+    fault_words_are e (place_in e fault.left) _ (wider (20 + 44) 100 _ (omega arith)
+    (joined 20 44 (stop_name fault.why) (symbol_words fault.why (text_at e fault.left)) (stop_part fault.why)
+    (symbol_part fault.why (text_at e fault.left))))
 
 fen_part : (fault : FenFault) → IsPart 100 (fen_name fault)
 fen_part fen.FieldCount = record { shown = refl; few = omega arith }
@@ -522,30 +505,17 @@ fen_words_part text fen.EnPassantImpossible = fen_part fen.EnPassantImpossible
 fen_words_part text fen.Clock = fen_part fen.Clock
 fen_words_part text fen.MoveNumber = fen_part fen.MoveNumber
 
-last_is_line : (a b : List ℕ) → codes "#! games " ++ (a ++ (codes ", studies " ++ (b ++ codes "\n"))) ≡ hashed (codes "! games "
-    ++ (a ++ (codes ", studies " ++ b))) ++ 10 ∷ []
-last_is_line a b = simp append_assoc
-
 pub last_is : (games studies : ℕ) → AreLines IsRemark (last_line games studies)
-unfolding last_line
 last_is games studies =
-    one_line IsRemark _ _ (last_is_line (decimal games) (decimal studies))
-    (remark_line _ (wider (8 + (64 + (10 + 64))) 1000 _ (omega arith)
-    (joined 8 (64 + (10 + 64)) (codes "! games ") _ (record { shown = refl; few = omega arith })
-    (joined 64 (10 + 64) (decimal games) _ (number_part games)
-    (joined 10 64 (codes ", studies ") (decimal studies) (record { shown = refl; few = omega arith }) (number_part studies))))))
-
-tail_is_line : (a : List ℕ) → codes "#! a tail: moves before " ++ (a ++ codes "; its position is another program's word\n")
-    ≡ hashed (codes "! a tail: moves before " ++ (a ++ codes "; its position is another program's word")) ++ 10 ∷ []
-tail_is_line a = simp append_assoc
+    remark_is (told.total games studies) (wider (6 + (64 + (10 + 64))) 998 _ (omega arith)
+    (numbered 6 (10 + 64) (codes "games ") _ games (record { shown = refl; few = omega arith })
+    (joined 10 64 (codes ", studies ") (decimal studies) (record { shown = refl; few = omega arith }) (number_part studies))))
 
 pub tail_is : (skipped : ℕ) → AreLines IsRemark (tail_line skipped)
-unfolding tail_line
 tail_is skipped =
-    one_line IsRemark _ _ (tail_is_line (decimal skipped))
-    (remark_line _ (wider (23 + (64 + 40)) 1000 _ (omega arith)
-    (joined 23 (64 + 40) (codes "! a tail: moves before ") _ (record { shown = refl; few = omega arith })
-    (joined 64 40 (decimal skipped) (codes "; its position is another program's word") (number_part skipped) (record { shown = refl; few = omega arith })))))
+    remark_is (told.tail skipped) (wider (21 + (64 + 40)) 998 _ (omega arith)
+    (numbered 21 40 (codes "a tail: moves before ") (codes "; its position is another program's word") skipped (record { shown = refl; few = omega arith })
+    (record { shown = refl; few = omega arith })))
 
 -- ---- games without a stipulation, and with two tags of one name
 

@@ -48,7 +48,7 @@ use Rattle.study_games.specs.declared.symbols.Said.TheVariants as say
 use Rattle.study_games.proofs.Lexing.{Stops, is_plain_symbol, symbol_read}
 use Rattle.study_import.specs.declared.game.token_effects.Reason.{Reason}
 use Rattle.study_import.specs.declared.game.movetext.MovesFault.{MovesFault}
-use Rattle.study_import.specs.declared.game.aims.AimSource.TheVariants.{Comment}
+use Rattle.study_remark.specs.declared.remark.Source.TheVariants.{Comment}
 use Rattle.study_import.specs.Aims.{aim_in, outcome_wanted, doubts_of, aim_by_sources}
 use Rattle.study_import.specs.Lines.{Lines}
 use Rattle.study_import.specs.declared.game.notes.Notes.{Notes}

@@ -66,7 +66,7 @@ use Rattle.study_import.proofs.Openings.{opening_given}
 use Rattle.study_import.proofs.CommandLines.{side_words, goal_words, stipulate_words, insert_words, tag_words, position_asked, stipulate_asked}
 use Rattle.study_import.proofs.CommandLines.{stipulate_prints, insert_asked, insert_prints, tag_asked, tag_prints, pgn_asked, empty_asked}
 use Rattle.study_import.proofs.CommandLines.{position_prints}
-use Rattle.study_import.proofs.Remarks.{shows, IsLine, IsRemark, fed, AreLines, each_append, IsPart, number_part, joined, tag_part, head_remark}
+use Rattle.study_import.proofs.Remarks.{shows, IsLine, IsRemark, fed, AreLines, each_append, IsPart, number_part, joined, wider, tag_part, head_remark}
 use Rattle.study_import.proofs.Remarks.{remarks_are, left_out_is, unaimed_is, repeated_is, fault_words_are, token_part, stopped_lines, fen_words_part, last_is, tail_is}
 
 -- ---- lines are found as they were written
@@ -537,15 +537,15 @@ module _ (given : Option Stipulation) (g : IsGiven given) (e : Entry) where
 
   header_reads : (fault : Option HeaderFault) → Reads (header_block given e fault) (study_behind_header given e.text fault)
   header_reads (Some fault) =
-      remarks_read _ (fault_words_are e (place_in e fault.left) (token_name fault.why) [] (token_part fault.why) (record { shown = refl; few = omega arith }))
+      remarks_read _ (fault_words_are e (place_in e fault.left) (token_name fault.why) (wider 20 100 _ (omega arith) (token_part fault.why)))
   header_reads None = no_tag (tags_of e.text) (length (tags_of e.text) == 0) refl
 
 sized_reads : (given : Option Stipulation) (number line : ℕ) (text : Option (List ℕ)) → IsGiven given
     → Reads (sized_block given number line text) (study_of_game given text)
 unfolding study_in
 sized_reads given number line None g =
-    remarks_read _ (fault_words_are (record { number = number; line = line; text = [] }) (record { line = line; column = 1 }) (codes "GameTooLarge") []
-    (record { shown = refl; few = omega arith }) (record { shown = refl; few = omega arith }))
+    remarks_read _ (fault_words_are (record { number = number; line = line; text = [] }) (record { line = line; column = 1 }) (codes "GameTooLarge")
+    (record { shown = refl; few = omega arith }))
 sized_reads given number line (Some text) g = header_reads given g (record { number = number; line = line; text = text }) (header_fault text)
 
 game_reads : (given : Option Stipulation) (number : ℕ) (game : Game) → IsGiven given → Reads (block_of given number game) (study_of_game given game.text)

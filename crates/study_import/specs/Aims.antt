@@ -15,8 +15,8 @@ use Rattle.study_games.specs.declared.symbols.Said.{Said}
 use Rattle.study_games.specs.declared.symbols.Said.TheVariants as say
 use Rattle.study_games.specs.declared.symbols.Outcome.{Outcome}
 use Rattle.study_games.specs.declared.symbols.Outcome.TheVariants.{WhiteWins, BlackWins, Drawn}
-use Rattle.study_import.specs.declared.game.aims.AimSource.{AimSource}
-use Rattle.study_import.specs.declared.game.aims.AimSource.TheVariants.{Comment, StipulationTag, ResultTag, Result, Given}
+use Rattle.study_remark.specs.declared.remark.Source.{Source}
+use Rattle.study_remark.specs.declared.remark.Source.TheVariants.{Comment, StipulationTag, ResultTag, Result, Given}
 use Rattle.study_import.specs.declared.game.aims.Aim.{Aim}
 use Rattle.study_import.specs.declared.game.aims.Doubts.{Doubts}
 use Rattle.study_import.specs.declared.game.aims.Sources.{Sources}
@@ -252,7 +252,7 @@ outcome_wanted s = goal_outcome s.goal s.hero
 abbrev pub no_doubts : Doubts
 no_doubts = record { comment_unread = false; tag_unread = false; tag_differs = false; result_tag_differs = false; result_differs = false }
 
-abbrev pub from_source : AimSource → Option Stipulation → Option Aim
+abbrev pub from_source : Source → Option Stipulation → Option Aim
 from_source source None = None
 from_source source (Some stipulation) = Some (record { stipulation = stipulation; source = source; doubts = no_doubts })
 
@@ -260,7 +260,7 @@ abbrev pub or_aim : Option Aim → Option Aim → Option Aim
 or_aim (Some aim) later = Some aim
 or_aim None later = later
 
-abbrev pub aim_of_result : AimSource → Option Outcome → Option Aim
+abbrev pub aim_of_result : Source → Option Outcome → Option Aim
 aim_of_result source None = None
 aim_of_result source (Some outcome) = from_source source (Some (aim_of_outcome outcome))
 
@@ -314,10 +314,3 @@ unfoldable pub unaimed_words : Sources → List ℕ
 unaimed_words s =
     if s.comment_unread then codes "StipulationUnread at its comment"
     else (if s.tag_unread then codes "StipulationUnread at its tag Stipulation" else codes "NoStipulation")
-
-abbrev pub source_words : AimSource → List ℕ
-source_words Comment = codes "its comment"
-source_words StipulationTag = codes "its tag Stipulation"
-source_words ResultTag = codes "its tag Result"
-source_words Result = codes "its result"
-source_words Given = codes "the option"

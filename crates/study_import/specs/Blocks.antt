@@ -31,6 +31,11 @@ use Rattle.study_games.specs.declared.header.HeaderFault.{HeaderFault}
 use Rattle.study_games.specs.declared.symbols.Outcome.{Outcome}
 use Rattle.study_games.specs.declared.token.TokenFault.{TokenFault}
 use Rattle.study_games.specs.declared.token.TokenFault.TheVariants as token
+use Rattle.study_remark.specs.declared.remark.Doubt.{Doubt}
+use Rattle.study_remark.specs.declared.remark.Doubt.TheVariants as doubt
+use Rattle.study_remark.specs.declared.remark.Original.{Original}
+use Rattle.study_remark.specs.declared.remark.Original.TheVariants as original
+use Rattle.study_remark.specs.Remarks as told
 use Rattle.study_import.specs.declared.game.lines.LineFault.{LineFault}
 use Rattle.study_import.specs.declared.game.lines.LineFault.TheVariants as line_fault
 use Rattle.study_import.specs.declared.game.moves.MoveFault.{MoveFault}
@@ -49,7 +54,7 @@ use Rattle.study_import.specs.declared.counts.Count.{Count}
 use Rattle.study_import.specs.declared.importer.Choice.{Choice}
 use Rattle.study_import.specs.declared.places.Place.{Place}
 use Rattle.study_import.specs.declared.places.Entry.{Entry as EntryRead}
-use Rattle.study_import.specs.Aims.{or_stipulation, signed_by, aim_stated, is_unread_tag, outcome_of_tag, aim_by_sources, unaimed_words, source_words}
+use Rattle.study_import.specs.Aims.{or_stipulation, signed_by, aim_stated, is_unread_tag, outcome_of_tag, aim_by_sources, unaimed_words}
 use Rattle.study_import.specs.Notes.{GameRead, none_yet}
 use Rattle.study_import.specs.Taken.{reading_of}
 use Rattle.study_import.specs.Movetext.{Ended, read_moves}
@@ -128,9 +133,6 @@ symbol_words other text = []
 
 -- ---- lines of remarks
 
-abbrev pub game_words : ℕ → List ℕ
-game_words number = codes "#! game " ++ decimal number
-
 -- the text of a tag in the script
 abbrev pub tag_text : List ℕ → List ℕ
 tag_text value = short_text (spelled_out value)
@@ -139,9 +141,9 @@ tag_text value = short_text (spelled_out value)
 abbrev pub no_colon : ℕ → ℕ
 no_colon b = if b == 58 then 44 else b
 
--- ` (NAME)`, if the name is known
+-- the author, if the name is known
 abbrev pub name_words : List ℕ → List ℕ
-name_words text = if length text == 0 || bytes_eq text (codes "?") then [] else codes " (" ++ (map no_colon text ++ codes ")")
+name_words text = if bytes_eq text (codes "?") then [] else map no_colon text
 
 abbrev pub author_of : Option (List ℕ) → List ℕ
 author_of None = []
@@ -151,19 +153,18 @@ author_of (Some value) = name_words (tag_text (unescape value))
 unfoldable pub author_words : List Pair → List ℕ
 author_words tags = author_of (value_of (tag_name tag_named.White) tags)
 
--- `#! game N, line L (AUTHOR): WORDS`, and an empty line
-unfoldable pub left_out : Entry → List ℕ → List ℕ
-left_out e words =
-    game_words e.number ++ (codes ", line " ++ (decimal e.line ++ (author_words (tags_of e.text) ++ (codes ": " ++ (words ++ codes "\n\n")))))
+-- the remark on a game without a block, and an empty line
+unfoldable pub told_words : ℕ → ℕ → Option ℕ → List ℕ → List ℕ → List ℕ
+told_words number line column author words =
+    told.remark_text (told.left_out (record { game = number; line = line; column = column; author = author }) words) ++ codes "\n"
 
--- `line L, column C`
-unfoldable pub place_words : Place → List ℕ
-place_words p = codes "line " ++ (decimal p.line ++ (codes ", column " ++ decimal p.column))
+-- a game without a block, and why
+abbrev pub left_out : Entry → List ℕ → List ℕ
+left_out e words = told_words e.number e.line None (author_words (tags_of e.text)) words
 
--- `#! game N, line L, column C (AUTHOR): NAME at SYMBOL`, and an empty line
-unfoldable pub fault_words : Entry → Place → List ℕ → List ℕ → List ℕ
-fault_words e p name symbol =
-    game_words e.number ++ (codes ", " ++ (place_words p ++ (author_words (tags_of e.text) ++ (codes ": " ++ (name ++ (symbol ++ codes "\n\n"))))))
+-- the same at the place of a fault
+abbrev pub fault_words : Entry → Place → List ℕ → List ℕ
+fault_words e p words = told_words e.number p.line (Some p.column) (author_words (tags_of e.text)) words
 
 -- the text written for a game, and whether it is a study
 pub record Block : Type 0 where
@@ -176,9 +177,9 @@ no_study text = record { text = text; is_study = false }
 -- ---- counts
 
 abbrev pub separator : Bool → List ℕ
-separator first = if first then codes " " else codes ", "
+separator first = if first then [] else codes ", "
 
--- ` NAME N`, after a comma if it is not the first
+-- `NAME N`, after a comma if it is not the first
 abbrev pub count_words : Bool → List ℕ → ℕ → List ℕ
 count_words first name n = if n == 0 then [] else separator first ++ (name ++ (codes " " ++ decimal n))
 
@@ -191,7 +192,7 @@ counts_words first [] = []
 counts_words first (c ∷ cs) = count_words first c.0 c.1 ++ counts_words (first && c.1 == 0) cs
 
 abbrev pub counts_line : List ℕ → List ℕ
-counts_line words = if length words == 0 then [] else codes "#! not taken over:" ++ (words ++ codes "\n")
+counts_line words = if length words == 0 then [] else told.remark_text (told.not_taken_over words)
 
 -- tags that a study does not have, and repeated tags
 abbrev pub known_names : List (List ℕ)
@@ -224,9 +225,8 @@ unfoldable pub counted_words : Notes → ℕ → ℕ → List ℕ
 counted_words n tags repeated =
     counts_words true ((codes "comments", n.comments) ∷ (codes "NAGs", n.asides) ∷ (codes "tags", tags) ∷ move_counts n repeated)
 
--- `#! behind the result: line L, column C`
-unfoldable pub behind_words : Place → List ℕ
-behind_words p = codes "#! behind the result: " ++ (place_words p ++ codes "\n")
+abbrev pub behind_words : Place → List ℕ
+behind_words p = told.remark_text (told.behind_result p.line p.column)
 
 -- text after the result, if it has no moves, is ignored, and reported by its place
 unfoldable pub behind_line : Entry → List ℕ → List ℕ
@@ -241,11 +241,19 @@ six_names = tag_named.Event ∷ tag_named.Site ∷ tag_named.Date ∷ tag_named.
 abbrev pub remark_byte : ℕ → ℕ
 remark_byte b = if nat_le b 31 || b == 127 then 32 else b
 
--- `#! NAME was: VALUE`, if the text differs from the value without spaces at its ends; at most 255 bytes of it
+-- the tag of a remark on an original
+abbrev pub original_named : TagName → Original
+original_named tag_named.Event = original.Event
+original_named tag_named.Site = original.Site
+original_named tag_named.Date = original.Date
+original_named tag_named.Round = original.Round
+original_named tag_named.White = original.White
+original_named tag_named.Black = original.Black
+
+-- the original of a tag, if the text differs from the value without spaces at its ends; at most 255 bytes of it
 abbrev pub was_words : TagName → List ℕ → List ℕ → List ℕ
 was_words name value text =
-    if bytes_eq text (trim value) then []
-    else codes "#! " ++ (tag_name name ++ (codes " was: " ++ (map remark_byte (take 255 value) ++ codes "\n")))
+    if bytes_eq text (trim value) then [] else told.remark_text (told.original_of (original_named name) (map remark_byte (take 255 value)))
 
 abbrev pub was_text : TagName → List ℕ → List ℕ
 was_text name value = was_words name value (tag_text value)
@@ -286,20 +294,20 @@ goal_text (MateIn count) = codes "mate " ++ (decimal count ++ codes "\n")
 unfoldable pub stipulation_line : Stipulation → List ℕ
 stipulation_line s = codes "stipulate " ++ (side_text s.hero ++ goal_text s.goal)
 
-unfoldable pub doubt_line : Bool → List ℕ → List ℕ
-doubt_line doubted words = if doubted then codes "#! the stipulation " ++ (words ++ codes "\n") else []
+abbrev pub doubt_line : Bool → Doubt → List ℕ
+doubt_line doubted why = if doubted then told.remark_text (told.doubted why) else []
 
 -- a line for each source that is not understood, or states another result
 unfoldable pub doubt_lines : Doubts → List ℕ
 doubt_lines d =
-    doubt_line d.comment_unread (codes "of its comment is not understood")
-    ++ (doubt_line d.tag_unread (codes "of its tag Stipulation is not understood")
-    ++ (doubt_line d.tag_differs (codes "differs from its tag Stipulation")
-    ++ (doubt_line d.result_tag_differs (codes "differs from its tag Result")
-    ++ doubt_line d.result_differs (codes "differs from its result"))))
+    doubt_line d.comment_unread doubt.CommentUnread
+    ++ (doubt_line d.tag_unread doubt.TagUnread
+    ++ (doubt_line d.tag_differs doubt.TagDiffers
+    ++ (doubt_line d.result_tag_differs doubt.ResultTagDiffers ++ doubt_line d.result_differs doubt.ResultDiffers)))
 
-unfoldable pub source_line : Entry → Aim → List ℕ
-source_line e aim = game_words e.number ++ (codes ", line " ++ (decimal e.line ++ (codes ": stipulated by " ++ (source_words aim.source ++ codes "\n"))))
+-- above a block stands where its stipulation is from
+abbrev pub source_line : Entry → Aim → List ℕ
+source_line e aim = told.remark_text (told.stipulated (record { game = e.number; line = e.line; column = None; author = [] }) aim.source)
 
 abbrev pub head_line : Entry → Aim → List ℕ
 head_line e aim = source_line e aim ++ doubt_lines aim.doubts
@@ -376,7 +384,7 @@ abbrev pub sourced_block : Entry → Start → Reported → Sources → Block
 sourced_block e start t s = aimed_block e start t s (aim_by_sources s)
 
 abbrev pub stopped_block : Entry → MovesFault → Block
-stopped_block e fault = no_study (fault_words e (place_in e fault.left) (stop_name fault.why) (symbol_words fault.why (text_at e fault.left)))
+stopped_block e fault = no_study (fault_words e (place_in e fault.left) (stop_name fault.why ++ symbol_words fault.why (text_at e fault.left)))
 
 abbrev pub read_block : Option Stipulation → Entry → Start → Result Ended MovesFault → Block
 read_block given e start (Err fault) = stopped_block e fault
@@ -441,12 +449,12 @@ tagged_block given e tags =
     if length tags == 0 then no_study (left_out e (codes "left out: no tags")) else single_block given e tags (repeated_name tags)
 
 abbrev pub header_block : Option Stipulation → Entry → Option HeaderFault → Block
-header_block given e (Some fault) = no_study (fault_words e (place_in e fault.left) (token_name fault.why) [])
+header_block given e (Some fault) = no_study (fault_words e (place_in e fault.left) (token_name fault.why))
 header_block given e None = tagged_block given e (tags_of e.text)
 
 abbrev pub sized_block : Option Stipulation → ℕ → ℕ → Option (List ℕ) → Block
 sized_block given number line None =
-    no_study (fault_words (record { number = number; line = line; text = [] }) (record { line = line; column = 1 }) (codes "GameTooLarge") [])
+    no_study (fault_words (record { number = number; line = line; text = [] }) (record { line = line; column = 1 }) (codes "GameTooLarge"))
 sized_block given number line (Some text) =
     header_block given (record { number = number; line = line; text = text }) (header_fault text)
 
@@ -475,8 +483,8 @@ tail_of true (Some text) = tail_of_game text
 tail_of tails text = None
 
 -- the remark above a tail: the number of moves before it, and that its position is taken from the comment
-unfoldable pub tail_line : ℕ → List ℕ
-tail_line skipped = codes "#! a tail: moves before " ++ (decimal skipped ++ codes "; its position is another program's word\n")
+abbrev pub tail_line : ℕ → List ℕ
+tail_line skipped = told.remark_text (told.tail skipped)
 
 abbrev pub under_remark : List ℕ → Block → Block
 under_remark remark block = record { text = remark ++ block.text; is_study = block.is_study }
@@ -497,8 +505,8 @@ block_or_tail given number game (Some t) = tail_block given number game.line t
 abbrev pub block_by : Choice → ℕ → Game → Block
 block_by c number game = block_or_tail c.given number game (tail_of c.tails game.text)
 
-unfoldable pub last_line : ℕ → ℕ → List ℕ
-last_line games studies = codes "#! games " ++ (decimal games ++ (codes ", studies " ++ (decimal studies ++ codes "\n")))
+abbrev pub last_line : ℕ → ℕ → List ℕ
+last_line games studies = told.remark_text (told.total games studies)
 
 abbrev pub one_if : Bool → ℕ → ℕ
 one_if is_study n = if is_study then one_more n else n

@@ -11,8 +11,8 @@ ghost use Rattle.study_games.specs.Words.{first_word};
 ghost use Rattle.study_games.specs.Games.{game_seen};
 ghost use Rattle.study_games.specs.Header.{tags_of, header_fault, value_of};
 ghost use Rattle.study_import.specs.Notes.{game_of};
-ghost use Rattle.study_import.specs.Aims.{or_stipulation, signed_by, source_words};
-ghost use Rattle.study_import.specs.Blocks.{entry_seen, repeated_moves, place_words, behind_words, behind_line, side_text, goal_text, stipulation_line, source_line};
+ghost use Rattle.study_import.specs.Aims.{or_stipulation, signed_by};
+ghost use Rattle.study_import.specs.Blocks.{entry_seen, repeated_moves, behind_line, side_text, goal_text, stipulation_line, source_line};
 ghost use Rattle.study_import.specs.Blocks.{doubt_line, doubt_lines, head_line, tag_unread, sources_of, sourced_block, repeated_name, repeated_words, single_block};
 ghost use Rattle.study_import.specs.Blocks.{position_line, counts_line, counted_words, other_tags, remark_lines, study_lines, block_lines};
 ghost use Rattle.study_import.specs.Blocks.{tag_aim, result_of, reported_seen, stopped_block, read_block, no_moves, game_read};
@@ -23,7 +23,7 @@ use crate::counts::{add_counted, add_counts_line, other_tags};
 use crate::faults::{add_fault, add_left_out, add_stop, is_of_memory, token_name};
 use crate::game::aims::{
     Aim, Doubts, Sources, aim_by_sources, aim_stated, is_unread_tag, outcome_of_tag, signed_by,
-    source_words, unaimed_words,
+    unaimed_words,
 };
 use crate::game::lines::Lines;
 use crate::game::movetext::{GameReading, MovesFault};
@@ -44,6 +44,7 @@ use study_games::{
 };
 use study_marks::{Bench, Goal, Stipulation};
 use study_notation::{FenFault, Start, read_fen, write_fen};
+use study_remark::{Doubt, Remark, Subject, add_remark};
 use study_reply::Refusal;
 use study_text::Text;
 
@@ -85,7 +86,6 @@ fn add_stipulation<A: Allocator>(
     add_goal(out, stipulation.goal)
 }
 
-#[tactic(auto, unfolding(crate::specs::Blocks::source_line))]
 fn add_source<A: Allocator>(
     out: &mut Text<'_, A>,
     entry: &Entry<'_>,
@@ -93,40 +93,28 @@ fn add_source<A: Allocator>(
 ) -> Result<(), AllocError>
     ensures { OnOk result (out.new ≡ out.old ++ source_line (entry_seen entry.now) aim.now) }
 {
-    add_pieces(
-        out,
-        &[
-            Piece::Bytes(b"#! game "),
-            Piece::Number(entry.number),
-            Piece::Bytes(b", line "),
-            Piece::Number(entry.line),
-            Piece::Bytes(b": stipulated by "),
-            Piece::Bytes(source_words(aim.source)),
-            Piece::Bytes(b"\n"),
-        ],
-    )
+    let subject = Subject {
+        game: entry.number,
+        line: entry.line,
+        column: None,
+        author: b"",
+    };
+    add_remark(out, &Remark::Stipulated(subject, aim.source))
 }
 
 /// Adds the line of a doubt, if there is this one.
-#[tactic(auto, unfolding(crate::specs::Blocks::doubt_line))]
 fn add_doubt<A: Allocator>(
     out: &mut Text<'_, A>,
     doubted: bool,
-    words: &[u8],
+    why: Doubt,
 ) -> Result<(), AllocError>
-    ensures { OnOk result (out.new ≡ out.old ++ doubt_line doubted words.now) }
+    ensures { OnOk result (out.new ≡ out.old ++ doubt_line doubted why) }
 {
-    if !doubted {
-        return Ok(());
+    if doubted {
+        add_remark(out, &Remark::Doubted(why))
+    } else {
+        Ok(())
     }
-    add_pieces(
-        out,
-        &[
-            Piece::Bytes(b"#! the stipulation "),
-            Piece::Bytes(words),
-            Piece::Bytes(b"\n"),
-        ],
-    )
 }
 
 /// Adds a line for each source that is not understood, or states another result.
@@ -134,23 +122,11 @@ fn add_doubt<A: Allocator>(
 fn add_doubts<A: Allocator>(out: &mut Text<'_, A>, doubts: &Doubts) -> Result<(), AllocError>
     ensures { OnOk result (out.new ≡ out.old ++ doubt_lines doubts.now) }
 {
-    add_doubt(
-        out,
-        doubts.comment_unread,
-        b"of its comment is not understood",
-    )?;
-    add_doubt(
-        out,
-        doubts.tag_unread,
-        b"of its tag Stipulation is not understood",
-    )?;
-    add_doubt(out, doubts.tag_differs, b"differs from its tag Stipulation")?;
-    add_doubt(
-        out,
-        doubts.result_tag_differs,
-        b"differs from its tag Result",
-    )?;
-    add_doubt(out, doubts.result_differs, b"differs from its result")
+    add_doubt(out, doubts.comment_unread, Doubt::CommentUnread)?;
+    add_doubt(out, doubts.tag_unread, Doubt::TagUnread)?;
+    add_doubt(out, doubts.tag_differs, Doubt::TagDiffers)?;
+    add_doubt(out, doubts.result_tag_differs, Doubt::ResultTagDiffers)?;
+    add_doubt(out, doubts.result_differs, Doubt::ResultDiffers)
 }
 
 fn add_head<A: Allocator>(
@@ -179,31 +155,6 @@ fn add_position<A: Allocator>(out: &mut Text<'_, A>, start: &Start) -> Result<()
     )
 }
 
-#[tactic(auto, unfolding(crate::specs::Blocks::place_words))]
-fn add_place<A: Allocator>(out: &mut Text<'_, A>, place: Place) -> Result<(), AllocError>
-    ensures { OnOk result (out.new ≡ out.old ++ place_words place) }
-{
-    add_pieces(
-        out,
-        &[
-            Piece::Bytes(b"line "),
-            Piece::Number(place.line),
-            Piece::Bytes(b", column "),
-            Piece::Number(place.column),
-        ],
-    )
-}
-
-/// Adds the line with the place of the text after the result.
-#[tactic(auto, unfolding(crate::specs::Blocks::behind_words))]
-fn add_unread<A: Allocator>(out: &mut Text<'_, A>, place: Place) -> Result<(), AllocError>
-    ensures { OnOk result (out.new ≡ out.old ++ behind_words place) }
-{
-    out.add(b"#! behind the result: ")?;
-    add_place(out, place)?;
-    out.add(b"\n")
-}
-
 /// Adds the place of the text after the result, if there is any.
 #[tactic(auto, unfolding(crate::specs::Blocks::behind_line))]
 fn add_behind<A: Allocator>(
@@ -217,7 +168,8 @@ fn add_behind<A: Allocator>(
     if unread.is_empty() {
         return Ok(());
     }
-    add_unread(out, place_in(entry, unread.len()))
+    let place = place_in(entry, unread.len());
+    add_remark(out, &Remark::BehindResult(place.line, place.column))
 }
 
 /// What was read of a game, except its start.
@@ -677,7 +629,7 @@ fn add_entry<'a, A: Allocator>(
     let entry = &setting.entry;
     if let Some(fault) = header_fault(entry.text) {
         let place = place_in(entry, fault.left);
-        return add_fault(alloc, out, entry, place, token_name(fault.why), b"");
+        return add_fault(alloc, out, entry, place, token_name(fault.why));
     }
     if count_tags(entry.text) == 0 {
         return add_left_out(alloc, out, entry, b"left out: no tags");
@@ -705,7 +657,7 @@ pub fn add_game<'a, A: Allocator>(
                 text: b"",
             };
             let place = Place { line, column: 1 };
-            add_fault(alloc, out, &entry, place, b"GameTooLarge", b"")
+            add_fault(alloc, out, &entry, place, b"GameTooLarge")
         }
         Some(text) => {
             let entry = Entry { number, line, text };

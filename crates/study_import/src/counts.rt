@@ -9,6 +9,7 @@ use crate::pieces::{Piece, add_pieces};
 use crate::places::at_most;
 use std::alloc::{AllocError, Allocator};
 use study_games::{count_tags, tag_value};
+use study_remark::{Remark, add_remark};
 use study_text::Text;
 
 /// The number of tags with this name that are used: one at most.
@@ -54,10 +55,10 @@ pub struct Count<'t> {
 fn separator(first: bool) -> &'static [u8]
     ensures { result.now ≡ separator first }
 {
-    if first { b" " } else { b", " }
+    if first { b"" } else { b", " }
 }
 
-/// Adds ` NAME N`, after a comma if it is not the first.
+/// Adds `NAME N`, after a comma if it is not the first.
 fn add_count<A: Allocator>(
     out: &mut Text<'_, A>,
     first: bool,
@@ -142,12 +143,5 @@ pub fn add_counts_line<A: Allocator>(out: &mut Text<'_, A>, words: &[u8]) -> Res
     if words.is_empty() {
         return Ok(());
     }
-    add_pieces(
-        out,
-        &[
-            Piece::Bytes(b"#! not taken over:"),
-            Piece::Bytes(words),
-            Piece::Bytes(b"\n"),
-        ],
-    )
+    add_remark(out, &Remark::NotTakenOver(words))
 }

@@ -1,7 +1,7 @@
 //! The names of faults, and the lines that report them.
 ghost use Rattle.std.specs.Prelude.{◌≡◌, ◌++◌, OnOk};
 ghost use Rattle.study_games.specs.Runs.{is_in};
-ghost use Rattle.study_import.specs.Blocks.{token_name, move_name, line_name, stop_name, run_words, symbol_words, left_out, no_study, fault_words, place_in};
+ghost use Rattle.study_import.specs.Blocks.{token_name, move_name, line_name, stop_name, run_words, symbol_words, told_words, left_out, no_study, fault_words, place_in};
 ghost use Rattle.study_import.specs.Blocks.{text_at, entry_seen, stopped_block};
 ghost use Rattle.study_import.specs.BlocksRead.{is_of_memory, Adds};
 
@@ -11,9 +11,10 @@ use crate::game::movetext::{MovesFault, Stop};
 use crate::game::token_effects::Reason;
 use crate::pieces::{Piece, add_pieces};
 use crate::places::{Entry, Place, place_in, text_at};
-use crate::tags::add_author;
+use crate::tags::author_of;
 use std::alloc::{AllocError, Allocator};
 use study_games::{Run, TokenFault, cut_run, truncate};
+use study_remark::{Remark, Subject, add_remark};
 use study_reply::Refusal;
 use study_text::Text;
 
@@ -100,8 +101,30 @@ fn add_symbol<A: Allocator>(out: &mut Text<'_, A>, why: Stop, text: &[u8]) -> Re
     }
 }
 
+/// Adds the remark on a game without a block, and an empty line.
+#[tactic(auto, unfolding(crate::specs::Blocks::told_words))]
+fn add_told<'t, A: Allocator>(
+    out: &mut Text<'_, A>,
+    number: u32,
+    line: u32,
+    column: Option<u32>,
+    author: &'t [u8],
+    words: &'t [u8],
+) -> Result<(), AllocError>
+    ensures { OnOk result (out.new ≡ out.old
+        ++ told_words number line column author.now words.now) }
+{
+    let subject = Subject {
+        game: number,
+        line,
+        column,
+        author,
+    };
+    add_remark(out, &Remark::LeftOut(subject, words))?;
+    out.add(b"\n")
+}
+
 /// Adds the line with the reason why the whole game is left out.
-#[tactic(auto, unfolding(crate::specs::Blocks::left_out))]
 pub fn add_left_out<'a, A: Allocator>(
     alloc: &'a A,
     out: &mut Text<'_, A>,
@@ -110,60 +133,38 @@ pub fn add_left_out<'a, A: Allocator>(
 ) -> Result<bool, AllocError>
     ensures { Adds result out.old out.new (no_study (left_out (entry_seen entry.now) words.now)) }
 {
-    add_pieces(
+    let author = author_of(alloc, entry.text)?;
+    add_told(
         out,
-        &[
-            Piece::Bytes(b"#! game "),
-            Piece::Number(entry.number),
-            Piece::Bytes(b", line "),
-            Piece::Number(entry.line),
-        ],
-    )?;
-    add_author(alloc, out, entry.text)?;
-    add_pieces(
-        out,
-        &[
-            Piece::Bytes(b": "),
-            Piece::Bytes(words),
-            Piece::Bytes(b"\n\n"),
-        ],
+        entry.number,
+        entry.line,
+        None,
+        author.as_slice(),
+        words,
     )?;
     Ok(false)
 }
 
 /// Adds the line that reports a fault of a game at a place.
-#[tactic(auto, unfolding(crate::specs::Blocks::fault_words, crate::specs::Blocks::place_words))]
-pub fn add_fault<'a, 't, A: Allocator>(
+pub fn add_fault<'a, A: Allocator>(
     alloc: &'a A,
     out: &mut Text<'_, A>,
     entry: &Entry<'_>,
     place: Place,
-    name: &'t [u8],
-    symbol: &'t [u8],
+    words: &[u8],
 ) -> Result<bool, AllocError>
     ensures { Adds result out.old out.new
-        (no_study (fault_words (entry_seen entry.now) place name.now symbol.now)) }
+        (no_study (fault_words (entry_seen entry.now) place words.now)) }
 {
-    add_pieces(
+    let author = author_of(alloc, entry.text)?;
+    let column = Some(place.column);
+    add_told(
         out,
-        &[
-            Piece::Bytes(b"#! game "),
-            Piece::Number(entry.number),
-            Piece::Bytes(b", line "),
-            Piece::Number(place.line),
-            Piece::Bytes(b", column "),
-            Piece::Number(place.column),
-        ],
-    )?;
-    add_author(alloc, out, entry.text)?;
-    add_pieces(
-        out,
-        &[
-            Piece::Bytes(b": "),
-            Piece::Bytes(name),
-            Piece::Bytes(symbol),
-            Piece::Bytes(b"\n\n"),
-        ],
+        entry.number,
+        place.line,
+        column,
+        author.as_slice(),
+        words,
     )?;
     Ok(false)
 }
@@ -177,15 +178,9 @@ pub fn add_stop<'a, A: Allocator>(
 ) -> Result<bool, AllocError>
     ensures { Adds result out.old out.new (stopped_block (entry_seen entry.now) fault.now) }
 {
-    let mut symbol = Text::new(alloc);
-    add_symbol(&mut symbol, fault.why, text_at(entry, fault.left))?;
+    let mut words = Text::new(alloc);
+    words.add(stop_name(fault.why))?;
+    add_symbol(&mut words, fault.why, text_at(entry, fault.left))?;
     let place = place_in(entry, fault.left);
-    add_fault(
-        alloc,
-        out,
-        entry,
-        place,
-        stop_name(fault.why),
-        symbol.as_slice(),
-    )
+    add_fault(alloc, out, entry, place, words.as_slice())
 }

@@ -1,17 +1,17 @@
 //! A file of games, read byte by byte.
 ghost use Rattle.std.specs.Prelude.{◌≡◌, ◌++◌, [], ◌==◌, length, OnOk, IfOk};
 ghost use Rattle.study_games.specs.Games.{without_mark, kind_of, with_byte, with_next, game_seen};
-ghost use Rattle.study_import.specs.Blocks.{tally_with_game, reported_text, last_line};
+ghost use Rattle.study_import.specs.Blocks.{tally_with_game, reported_text};
 ghost use Rattle.study_import.specs.Imported.{script_of, all_games, nothing_held, still_written, still_tallied, written_of, tally_ahead, put_away};
 ghost use Rattle.study_import.specs.Imported.{text_at_hand, TakesByte, KeepsTally, EndsLine, EndsLineTallied};
 ghost use Rattle.study_import.specs.ImportedSeen.{tally_seen};
 
-use crate::pieces::{Piece, add_pieces};
 use crate::tail_block::add_chosen;
 use std::alloc::{AllocError, Allocator};
 use std::marker::Model;
 use study_games::{Game, Gathering, LONGEST_LINE, LineKind, kind_of, without_mark};
 use study_marks::Stipulation;
+use study_remark::{Remark, add_remark};
 use study_text::Text;
 
 /// The games to write, by their numbers, and the stipulation of the games that state none.
@@ -97,7 +97,7 @@ impl<'a, A: Allocator> Importer<'a, A> {
     {
         self.end_last_line(out)?;
         self.end_game(out)?;
-        add_last_line(out, &self.tally)?;
+        add_remark(out, &Remark::Total(self.tally.reported, self.tally.studies))?;
         Ok(self.tally)
     }
 
@@ -207,23 +207,6 @@ fn tell_game<'a, A: Allocator>(
             tally.studies
         },
     })
-}
-
-/// Adds `# games N, studies M`.
-#[tactic(auto, unfolding(crate::specs::Blocks::last_line))]
-fn add_last_line<A: Allocator>(out: &mut Text<'_, A>, tally: &Imported) -> Result<(), AllocError>
-    ensures { OnOk result (out.new ≡ out.old ++ last_line tally.now.reported tally.now.studies) }
-{
-    add_pieces(
-        out,
-        &[
-            Piece::Bytes(b"#! games "),
-            Piece::Number(tally.reported),
-            Piece::Bytes(b", studies "),
-            Piece::Number(tally.studies),
-            Piece::Bytes(b"\n"),
-        ],
-    )
 }
 
 /// The script of a file of PGN.

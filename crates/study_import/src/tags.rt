@@ -1,53 +1,61 @@
 //! The six tags of a study.
-ghost use Rattle.std.specs.Prelude.{◌≡◌, ◌++◌, OnOk};
+ghost use Rattle.std.specs.Prelude.{◌≡◌, ◌++◌, OnOk, IfOk};
 ghost use Rattle.std.specs.List.{flat_map};
 ghost use Rattle.std.specs.Option.{option_map};
 ghost use Rattle.study_games.specs.Header.{tags_of};
-ghost use Rattle.study_import.specs.Blocks.{name_words, author_words, was_words, was_line, six_names, unknown_text, text_or_unknown, tag_value_text, tag_line};
+ghost use Rattle.study_import.specs.Blocks.{name_words, author_words, original_named, was_words, was_line, six_names, unknown_text, text_or_unknown, tag_value_text, tag_line};
 
 use crate::masks::{Mask, add_masked};
 use crate::pieces::{Piece, add_pieces};
 use std::alloc::{AllocError, Allocator};
 use study_games::{short_text, spell_out, tag_value, trim_end, trim_start, truncate, unescape};
 use study_marks::{TagName, tag_name};
+use study_remark::{Original, Remark, add_remark};
 use study_text::Text;
 
 /// The number of bytes of an original in a remark.
 const LONGEST_ORIGINAL: usize = 255;
 
-/// Adds ` (NAME)`, if the name is known.
+/// Adds the name, if it is known.
 fn add_name<A: Allocator>(out: &mut Text<'_, A>, text: &[u8]) -> Result<(), AllocError>
     ensures { OnOk result (out.new ≡ out.old ++ name_words text.now) }
 {
-    if text.is_empty() || text == b"?".as_slice() {
+    if text == b"?".as_slice() {
         return Ok(());
     }
-    out.add(b" (")?;
-    add_masked(out, Mask::NoColon, text)?;
-    out.add(b")")
+    add_masked(out, Mask::NoColon, text)
 }
 
-/// Adds the author of a game, as the script has it, in parentheses; nothing if the game names none.
+/// The author of a game, as a remark has it; empty if the game names none.
 #[tactic(auto, unfolding(crate::specs::Blocks::author_words))]
-pub fn add_author<'a, A: Allocator>(
-    alloc: &'a A,
-    out: &mut Text<'_, A>,
-    game: &[u8],
-) -> Result<(), AllocError>
-    ensures { OnOk result (out.new ≡ out.old ++ author_words (tags_of game.now)) }
+pub fn author_of<'a, A: Allocator>(alloc: &'a A, game: &[u8]) -> Result<Text<'a, A>, AllocError>
+    ensures { IfOk result (λ author. author ≡ author_words (tags_of game.now)) }
 {
-    match tag_value(game, tag_name(TagName::White)) {
-        None => Ok(()),
-        Some(raw) => {
-            let value = unescape(alloc, raw)?;
-            let text = spell_out(alloc, value.as_slice())?;
-            add_name(out, short_text(text.as_slice()))
-        }
+    let mut author = Text::new(alloc);
+    if let Some(raw) = tag_value(game, tag_name(TagName::White)) {
+        let value = unescape(alloc, raw)?;
+        let text = spell_out(alloc, value.as_slice())?;
+        add_name(&mut author, short_text(text.as_slice()))?;
+    }
+    Ok(author)
+}
+
+fn original_named(name: TagName) -> Original
+    ensures { result ≡ original_named name }
+{
+    match name {
+        TagName::Event => Original::Event,
+        TagName::Site => Original::Site,
+        TagName::Date => Original::Date,
+        TagName::Round => Original::Round,
+        TagName::White => Original::White,
+        TagName::Black => Original::Black,
     }
 }
 
 /// Adds the original of a tag, if the text differs.
-fn add_was<A: Allocator>(
+fn add_was<'a, A: Allocator>(
+    alloc: &'a A,
     out: &mut Text<'_, A>,
     name: TagName,
     value: &[u8],
@@ -58,16 +66,16 @@ fn add_was<A: Allocator>(
     if text == trim_end(trim_start(value)) {
         return Ok(());
     }
-    add_pieces(
-        out,
-        &[
-            Piece::Bytes(b"#! "),
-            Piece::Bytes(tag_name(name)),
-            Piece::Bytes(b" was: "),
-        ],
+    let mut original = Text::new(alloc);
+    add_masked(
+        &mut original,
+        Mask::Shown,
+        truncate(value, LONGEST_ORIGINAL),
     )?;
-    add_masked(out, Mask::Shown, truncate(value, LONGEST_ORIGINAL))?;
-    out.add(b"\n")
+    add_remark(
+        out,
+        &Remark::Original(original_named(name), original.as_slice()),
+    )
 }
 
 #[tactic(auto, unfolding(crate::specs::Blocks::was_line))]
@@ -84,7 +92,13 @@ fn add_was_line<'a, A: Allocator>(
         Some(raw) => {
             let value = unescape(alloc, raw)?;
             let text = spell_out(alloc, value.as_slice())?;
-            add_was(out, name, value.as_slice(), short_text(text.as_slice()))
+            add_was(
+                alloc,
+                out,
+                name,
+                value.as_slice(),
+                short_text(text.as_slice()),
+            )
         }
     }
 }

@@ -3,18 +3,18 @@ ghost use Rattle.std.specs.Prelude.{◌≡◌, ◌++◌, [], OnOk, IfOk};
 ghost use Rattle.std.specs.Option.{option_map};
 ghost use Rattle.study_games.specs.Games.{game_seen};
 ghost use Rattle.study_import.specs.Tails.{position_text, tail_in, named_seen};
-ghost use Rattle.study_import.specs.Blocks.{has_more_men, tail_of_game, tail_of, tail_line, tail_block, block_by};
+ghost use Rattle.study_import.specs.Blocks.{has_more_men, tail_of_game, tail_of, tail_block, block_by};
 ghost use Rattle.study_import.specs.BlocksRead.{Adds};
 
 use crate::block::{Setting, add_game, add_start, fen_in};
 use crate::importer::Choice;
-use crate::pieces::{Piece, add_pieces};
 use crate::places::Entry;
 use crate::tails::{Named, add_tail, position_text};
 use std::alloc::{AllocError, Allocator};
 use study_command::as_text;
 use study_games::{Game, count_tags, tag_value};
 use study_notation::{FenFault, read_fen};
+use study_remark::{Remark, add_remark};
 use study_text::Text;
 
 /// Whether a game has more than four men.
@@ -66,21 +66,6 @@ fn add_tail_of<'t, 'a, A: Allocator>(
     }
 }
 
-/// Adds the line with the number of moves before a tail.
-#[tactic(auto, unfolding(crate::specs::Blocks::tail_line))]
-fn add_tail_line<A: Allocator>(out: &mut Text<'_, A>, skipped: u32) -> Result<(), AllocError>
-    ensures { OnOk result (out.new ≡ out.old ++ tail_line skipped) }
-{
-    add_pieces(
-        out,
-        &[
-            Piece::Bytes(b"#! a tail: moves before "),
-            Piece::Number(skipped),
-            Piece::Bytes(b"; its position is another program's word\n"),
-        ],
-    )
-}
-
 /// Adds the block of a tail.
 fn add_tail_block<'a, A: Allocator>(
     alloc: &'a A,
@@ -97,7 +82,7 @@ fn add_tail_block<'a, A: Allocator>(
         })) }
 {
     let fen = position_text(alloc, named.position)?;
-    add_tail_line(out, named.skipped)?;
+    add_remark(out, &Remark::Tail(named.skipped))?;
     add_start(alloc, out, setting, fen.as_slice())
 }
 

@@ -1,4 +1,4 @@
-//! Tests of study_import and of the program studyimport as a library.
+//! Tests of study_import, of study_remark and of the program studyimport as a library.
 #![tactic(auto)]
 
 #[cfg(test)]
@@ -7,6 +7,8 @@ mod games;
 mod numbering;
 #[cfg(test)]
 mod program;
+#[cfg(test)]
+mod remarks;
 #[cfg(test)]
 mod stipulations;
 #[cfg(test)]

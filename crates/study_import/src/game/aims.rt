@@ -9,25 +9,13 @@ ghost use Rattle.study_import.specs.Aims.{goal_by_verb, goal_behind_hero, aim_in
 ghost use Rattle.study_import.specs.Aims.{signed_by, aim_stated, is_problem, says_mover, names_mover, asks_goal, looks_stated, is_unread_comment};
 ghost use Rattle.study_import.specs.Aims.{is_no_text, is_unread_tag, aim_of_outcome, outcome_said, outcome_of_tag, outcome_wanted, no_doubts, from_source};
 ghost use Rattle.study_import.specs.Aims.{or_aim, aim_of_result, unless_unread, first_aim, other_outcome, result_differs, tag_differs, doubts_of};
-ghost use Rattle.study_import.specs.Aims.{aim_by_sources, unaimed_words, source_words};
+ghost use Rattle.study_import.specs.Aims.{aim_by_sources, unaimed_words};
 
 use study_board::Side;
 use study_command::read_place;
 use study_games::{Outcome, Said, next_word, say, trim_end, trim_start};
 use study_marks::{Goal, MateMoves, Stipulation};
-
-/// The source of a stipulation.
-#[derive(Clone, Copy)]
-pub enum AimSource {
-    /// The first comment, before the first move.
-    Comment,
-    StipulationTag,
-    ResultTag,
-    /// The result after the moves.
-    Result,
-    /// The caller.
-    Given,
-}
+use study_remark::Source;
 
 /// What speaks against a stipulation.
 #[derive(Clone, Copy)]
@@ -48,7 +36,7 @@ pub struct Doubts {
 #[derive(Clone, Copy)]
 pub struct Aim {
     pub stipulation: Stipulation,
-    pub source: AimSource,
+    pub source: Source,
     pub doubts: Doubts,
 }
 
@@ -511,7 +499,7 @@ fn no_doubts() -> Doubts
     }
 }
 
-fn from_source(source: AimSource, stipulation: Option<Stipulation>) -> Option<Aim>
+fn from_source(source: Source, stipulation: Option<Stipulation>) -> Option<Aim>
     ensures { result ≡ from_source source stipulation }
 {
     match stipulation {
@@ -524,7 +512,7 @@ fn from_source(source: AimSource, stipulation: Option<Stipulation>) -> Option<Ai
     }
 }
 
-fn aim_of_result(source: AimSource, outcome: Option<Outcome>) -> Option<Aim>
+fn aim_of_result(source: Source, outcome: Option<Outcome>) -> Option<Aim>
     ensures { result ≡ aim_of_result source outcome }
 {
     match outcome {
@@ -547,7 +535,7 @@ fn unless_unread(unread: bool, given: Option<Stipulation>, later: Option<Aim>) -
     ensures { result ≡ unless_unread unread given later }
 {
     if unread {
-        from_source(AimSource::Given, given)
+        from_source(Source::Given, given)
     } else {
         later
     }
@@ -558,19 +546,16 @@ fn first_aim(sources: &Sources) -> Option<Aim>
     ensures { result ≡ first_aim sources.now }
 {
     let by_end = or_aim(
-        aim_of_result(AimSource::Result, sources.result),
-        from_source(AimSource::Given, sources.given),
+        aim_of_result(Source::Result, sources.result),
+        from_source(Source::Given, sources.given),
     );
-    let by_result = or_aim(
-        aim_of_result(AimSource::ResultTag, sources.result_tag),
-        by_end,
-    );
+    let by_result = or_aim(aim_of_result(Source::ResultTag, sources.result_tag), by_end);
     let by_tag = or_aim(
-        from_source(AimSource::StipulationTag, sources.tag),
+        from_source(Source::StipulationTag, sources.tag),
         unless_unread(sources.tag_unread, sources.given, by_result),
     );
     or_aim(
-        from_source(AimSource::Comment, sources.comment),
+        from_source(Source::Comment, sources.comment),
         unless_unread(sources.comment_unread, sources.given, by_tag),
     )
 }
@@ -643,18 +628,5 @@ pub fn unaimed_words(sources: &Sources) -> &'static [u8]
         b"StipulationUnread at its tag Stipulation"
     } else {
         b"NoStipulation"
-    }
-}
-
-/// The words for the source of a stipulation.
-pub fn source_words(source: AimSource) -> &'static [u8]
-    ensures { result.now ≡ source_words source }
-{
-    match source {
-        AimSource::Comment => b"its comment",
-        AimSource::StipulationTag => b"its tag Stipulation",
-        AimSource::ResultTag => b"its tag Result",
-        AimSource::Result => b"its result",
-        AimSource::Given => b"the option",
     }
 }

@@ -1,0 +1,16 @@
+use Rattle.std.proofs.Common.{◌≡◌, length, true, ap, sym, subst, ◌∙◌}
+use Rattle.study_import.specs.Notes.{GameRead}
+use Rattle.study_import.specs.Movetext.{read_moves}
+use Rattle.study_import.specs.Behind.{to_the_end}
+use Rattle.study_import.specs.Blocks.{entry_seen, no_moves, game_read}
+use Rattle.study_import.proofs.StoppedBlock.{stopped_again}
+use Rattle.study_import.proofs.block.add_read.Goals as goal
+
+pub returns : goal.returns
+unfolding game_read
+returns g c =
+    let text = c.args.setting.now.entry.text.now in
+    let begun = c.in_ok-game.ensures in
+    stopped_again c.add_stopped.result c.args.out.now c.add_stopped.new.out c.args.setting.now.given (entry_seen c.args.setting.now.entry) c.args.start.now
+    c.in-Err.fault (to_the_end (read_moves (length text) true text (no_moves c.args.start.now)))
+    (rw c.copied.ensures at (rw begun at c.in-Err.ensures)) c.add_stopped.ensures.memory c.add_stopped.ensures.reported
