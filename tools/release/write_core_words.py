@@ -53,7 +53,8 @@ def reasons():
         name = names.get(inner) or names[outer]
         pairs.append((name.split()[0], sentences.get(inner) or sentences[outer]))
     after_tree = [name for name, _ in pairs].index("TreeFull") + 1
-    pairs.insert(after_tree, tuple(words_in(body(text, "reason_of"))))  # a broken shift, the one refusal that is no `Refusal`
+    broken, = words_in(re.search(r"^const SHIFT_BROKEN:.*;$", text, re.MULTILINE)[0])
+    pairs.insert(after_tree, ("ShiftBroken", broken))  # the one refusal that is no `Refusal`
     return "".join(f"  {name}: {quoted(words)},\n" for name, words in pairs)
 
 

@@ -2,3 +2,4 @@ pub mod Paths
 pub mod Parser
 pub mod Lines
 pub mod Laws
+pub mod Kinds

@@ -1,5 +1,6 @@
 //! The commands of a script.
 ghost use Rattle.std.specs.Prelude.{◌≡◌, ◌≤◌, true};
+ghost use Rattle.study_command.specs.Kinds.{kind_of};
 ghost use Rattle.study_command.specs.Paths.{is_path_word};
 
 use study_marks::{Stipulation, TagName};
@@ -48,6 +49,34 @@ pub enum Keyword {
     Tag,
     Solve,
     Pgn,
+}
+
+/// What a command is for.
+#[derive(Clone, Copy, Debug, PartialEq, Eq)]
+pub enum CommandKind {
+    /// It changes the study.
+    Edit,
+    /// It asks for something of the study, which stays as it is.
+    Question,
+    /// It concerns a table.
+    Table,
+}
+
+impl Keyword {
+    /// What the commands of this word are for.
+    pub fn kind(self) -> CommandKind
+        ensures { result ≡ kind_of self }
+    {
+        match self {
+            Keyword::FromFen(_) | Keyword::Stipulate | Keyword::Insert | Keyword::Tag => {
+                CommandKind::Edit
+            }
+            Keyword::Node(NodeCommand::Delete | NodeCommand::Promote) => CommandKind::Edit,
+            Keyword::Node(NodeCommand::Mark) => CommandKind::Question,
+            Keyword::Query(_) | Keyword::Solve | Keyword::Pgn => CommandKind::Question,
+            Keyword::Table(_) => CommandKind::Table,
+        }
+    }
 }
 
 /// Why a line is not a command. Faults are checked in this order, except that a wrong number of words after `stipulate` is reported as no stipulation, and

@@ -14,11 +14,11 @@ mod path_text;
 
 pub use arguments::{as_text, read_one_word};
 pub use command::{
-    Command, FenCommand, Keyword, NodeCommand, NodeQuery, PathText, SolveDepth, SyntaxFault,
-    TableCommand,
+    Command, CommandKind, FenCommand, Keyword, NodeCommand, NodeQuery, PathText, SolveDepth,
+    SyntaxFault, TableCommand,
 };
 pub use laws::lines_are_read_again;
 pub use line::{Line, LineFault, read_byte};
-pub use parser::{read_command, read_mate_moves, read_side};
+pub use parser::{read_command, read_keyword, read_mate_moves, read_side};
 pub use path::read_path;
 pub use path_text::{is_path_word, read_path_word, read_place};

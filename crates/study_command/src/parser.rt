@@ -48,8 +48,9 @@ fn begins_comment(word: &[u8]) -> bool
     }
 }
 
+/// The first word of a line that has a command.
 #[tactic(auto, unfolding(crate::specs::Parser::word_of))]
-fn read_keyword(word: &[u8]) -> Option<Keyword>
+pub fn read_keyword(word: &[u8]) -> Option<Keyword>
     ensures { result ≡ word_of word.now }
 {
     if word == b"position".as_slice() {

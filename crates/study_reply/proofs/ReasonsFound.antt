@@ -1,5 +1,5 @@
 -- The reason of a refusal is found by its text.
-use Rattle.std.proofs.Common.{◌≡◌, refl}
+use Rattle.std.proofs.Common.{◌≡◌, refl, sym}
 use Rattle.study_notation.specs.declared.fault.FenFault.{FenFault}
 use Rattle.study_notation.specs.declared.fault.FenFault.TheVariants as fen
 use Rattle.study_notation.specs.declared.fault.SanFault.{SanFault}
@@ -17,8 +17,10 @@ use Rattle.study_reply.specs.declared.refusal.Refusal.TheVariants.{AlreadyThere,
 use Rattle.study_reply.specs.declared.refusal.Refusal.TheVariants.{NoTable, MissingTable, AlreadyHeld, OtherClass}
 use Rattle.study_reply.specs.declared.refusal.Refusal.TheVariants.{NoFile, Device, File, TableRead, TableReadPage}
 use Rattle.study_reply.specs.declared.refusal.Refusal.TheVariants.{DistanceTooLarge}
-use Rattle.study_reply.specs.Names.{words_of}
-use Rattle.study_reply.specs.Reasons.{reason_of, refusal_reason, explained_refusals, TextsHaveReasons}
+use Rattle.study_marks.specs.declared.refusal.Refusal.{Refusal as EditRefusal}
+use Rattle.study_marks.specs.declared.refusal.Refusal.TheVariants as edit
+use Rattle.study_reply.specs.Names.{words_of, edit_words, of_probe}
+use Rattle.study_reply.specs.Reasons.{reason_of, refusal_reason, edit_reason, explained_refusals, TextsHaveReasons}
 
 of-form : (fault : SyntaxFault) → reason_of (words_of (Form fault)) ≡ refusal_reason (Form fault)
 unfolding words_of reason_of explained_refusals
@@ -96,3 +98,18 @@ of-refusal DistanceTooLarge = refl
 pub texts-have-reasons : TextsHaveReasons
 unfolding reason_of
 texts-have-reasons = (of-refusal, λ steps. refl)
+
+-- the reason of a refused edit is found by its text
+pub of-edit : {A : Type 0} → TextsHaveReasons → (e : EditRefusal A) → edit_reason e ≡ reason_of (edit_words e)
+of-edit law edit.NoSuchNode = sym (law.0 NoSuchNode)
+of-edit law edit.RootNotAllowed = sym (law.0 RootNotAllowed)
+of-edit law edit.AlreadyFirst = sym (law.0 AlreadyFirst)
+of-edit law edit.IllegalMove = sym (law.0 IllegalMove)
+of-edit law (edit.AlreadyThere k) = sym (law.0 (AlreadyThere k))
+of-edit law edit.TooDeep = sym (law.0 TooDeep)
+of-edit law edit.TreeFull = sym (law.0 TreeFull)
+of-edit law (edit.ShiftBroken steps) = sym (law.1 steps)
+of-edit law edit.TagText = sym (law.0 TagText)
+of-edit law edit.OutOfMemory = sym (law.0 OutOfMemory)
+of-edit law (edit.NoTable c) = sym (law.0 (NoTable c))
+of-edit law (edit.TableRead fault) = sym (law.0 (of_probe fault))

@@ -17,8 +17,10 @@ use Rattle.study_reply.specs.declared.refusal.Refusal.TheVariants.{Form, NoPosit
 use Rattle.study_reply.specs.declared.refusal.Refusal.TheVariants.{NotAClass, NoSuchNode, Fen, San}
 use Rattle.study_reply.specs.declared.refusal.Refusal.TheVariants.{RootNotAllowed, AlreadyFirst}
 use Rattle.study_reply.specs.declared.refusal.Refusal.TheVariants.{AlreadyThere, TooDeep, TreeFull, TagText}
-use Rattle.study_reply.specs.declared.refusal.Refusal.TheVariants.{NoTable, File, TableRead, TableReadPage}
-use Rattle.study_reply.specs.Names.{name_text, words_of}
+use Rattle.study_reply.specs.declared.refusal.Refusal.TheVariants.{NoTable, File, TableRead, TableReadPage, IllegalMove}
+use Rattle.study_marks.specs.declared.refusal.Refusal.{Refusal as EditRefusal}
+use Rattle.study_marks.specs.declared.refusal.Refusal.TheVariants as edit
+use Rattle.study_reply.specs.Names.{name_text, words_of, of_probe}
 
 abbrev pub form_reason : SyntaxFault → List ℕ
 form_reason form.BadByte = codes "a letter outside plain ASCII"
@@ -80,6 +82,21 @@ refusal_reason _ = default_reason
 -- why a shift is refused after which a move of the tree would not be legal
 abbrev pub shift_reason : List ℕ
 shift_reason = codes "a move of the tree is not legal from the new start"
+
+-- why an edit is refused, in words
+abbrev pub edit_reason : {A : Type 0} → EditRefusal A → List ℕ
+edit_reason edit.NoSuchNode = refusal_reason NoSuchNode
+edit_reason edit.RootNotAllowed = refusal_reason RootNotAllowed
+edit_reason edit.AlreadyFirst = refusal_reason AlreadyFirst
+edit_reason edit.IllegalMove = refusal_reason IllegalMove
+edit_reason (edit.AlreadyThere k) = refusal_reason (AlreadyThere k)
+edit_reason edit.TooDeep = refusal_reason TooDeep
+edit_reason edit.TreeFull = refusal_reason TreeFull
+edit_reason (edit.ShiftBroken steps) = shift_reason
+edit_reason edit.TagText = refusal_reason TagText
+edit_reason edit.OutOfMemory = refusal_reason OutOfMemory
+edit_reason (edit.NoTable c) = refusal_reason (NoTable c)
+edit_reason (edit.TableRead fault) = refusal_reason (of_probe fault)
 
 -- ---- the reason by the text of a refusal
 

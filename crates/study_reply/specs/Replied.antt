@@ -1,5 +1,5 @@
 -- The text of a reply, by the outcome of a command.
-use Rattle.std.specs.Prelude.{ℕ, List, [], ◌∷◌, ◌++◌, Result, Ok, Err, codes}
+use Rattle.std.specs.Prelude.{ℕ, List, [], ◌∷◌, ◌++◌, Option, Some, None, Result, Ok, Err, codes}
 use Rattle.study_notation.specs.FenSpelling.{fen_text}
 use Rattle.study_marks.specs.Study.{tag_name}
 use Rattle.study_tree.specs.Paths.{path_text}
@@ -31,6 +31,21 @@ abbrev pub refused_words : {A : Type 0} → LineRefusal A → List ℕ
 refused_words (Line refusal) = words_of refusal
 refused_words (Edit refusal) = edit_words refusal
 
+-- the reply to a refused line: `error NoTable KRK`
+abbrev pub error_text : {A : Type 0} → LineRefusal A → List ℕ
+error_text refused = reply_line (codes "error ") (refused_words refused)
+
 abbrev pub answer_text : {A : Type 0} → Result (Reply A) (LineRefusal A) → List ℕ
 answer_text (Ok reply) = reply_text reply
-answer_text (Err refused) = reply_line (codes "error ") (refused_words refused)
+answer_text (Err refused) = error_text refused
+
+-- the outcome of the line of a command
+abbrev pub of_command : {A : Type 0} → Result (Reply A) (LineRefusal A) → Result (Option (Reply A)) (LineRefusal A)
+of_command (Ok reply) = Ok (Some reply)
+of_command (Err refused) = Err refused
+
+-- the reply to a line: none to a line without a command
+abbrev pub line_text : {A : Type 0} → Result (Option (Reply A)) (LineRefusal A) → List ℕ
+line_text (Ok None) = []
+line_text (Ok (Some reply)) = reply_text reply
+line_text (Err refused) = error_text refused

@@ -16,6 +16,9 @@ pub use game::Game;
 pub use laws::texts_have_reasons;
 pub use reason::reason_of;
 pub use refusal::{Argument, Refusal};
-pub use reply::{Answer, LineRefusal, Reply, write_reply};
+pub use reply::{
+    Answer, LineAnswer, LineRefusal, Reply, of_command, refused_words, write_refused_words,
+    write_reply,
+};
 pub use reply_text::{of_probe, put_line, write_refusal};
 pub use table_reply::TableReply;

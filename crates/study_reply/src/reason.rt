@@ -1,10 +1,13 @@
 //! Why a line is refused, in words.
 ghost use Rattle.std.specs.Prelude.{◌≡◌, ◌≤◌, length};
-ghost use Rattle.study_reply.specs.Reasons.{form_reason, fen_reason, san_reason, refusal_reason};
+ghost use Rattle.study_reply.specs.Reasons.{form_reason, fen_reason, san_reason, refusal_reason, edit_reason};
 ghost use Rattle.study_reply.specs.Reasons.{word_length, first_word, explained_refusals, reason_among, reason_of};
 
 use crate::refusal::Refusal;
+use crate::reply_text::of_probe;
+use std::alloc::Allocator;
 use study_command::SyntaxFault;
+use study_marks::Refusal as EditRefusal;
 use study_material::Class;
 use study_notation::{FenFault, SanFault};
 use study_values::{FileFault, SourceFault};
@@ -46,6 +49,9 @@ static EXPLAINED: [Refusal; 34] = [
     Refusal::TableRead(SourceFault::Short),
     Refusal::OutOfMemory,
 ];
+
+/// Why a shift is refused after which a move of the tree would not be legal.
+const SHIFT_BROKEN: &[u8] = b"a move of the tree is not legal from the new start";
 
 /// Why a line is refused for which no words are known.
 const UNEXPLAINED: &[u8] = b"it cannot be done";
@@ -122,6 +128,26 @@ fn san_reason(fault: SanFault) -> &'static [u8]
     }
 }
 
+/// Why an edit is refused, in words.
+pub(crate) fn edit_reason<'a, A: Allocator>(refusal: &EditRefusal<'a, A>) -> &'static [u8]
+    ensures { result.now ≡ edit_reason refusal.now }
+{
+    match refusal {
+        EditRefusal::NoSuchNode => Refusal::NoSuchNode.reason(),
+        EditRefusal::RootNotAllowed => Refusal::RootNotAllowed.reason(),
+        EditRefusal::AlreadyFirst => Refusal::AlreadyFirst.reason(),
+        EditRefusal::IllegalMove => Refusal::IllegalMove.reason(),
+        EditRefusal::AlreadyThere(place) => Refusal::AlreadyThere(*place).reason(),
+        EditRefusal::TooDeep => Refusal::TooDeep.reason(),
+        EditRefusal::TreeFull => Refusal::TreeFull.reason(),
+        EditRefusal::ShiftBroken(_) => SHIFT_BROKEN,
+        EditRefusal::TagText => Refusal::TagText.reason(),
+        EditRefusal::OutOfMemory => Refusal::OutOfMemory.reason(),
+        EditRefusal::NoTable(class) => Refusal::NoTable(*class).reason(),
+        EditRefusal::TableRead(fault) => of_probe(*fault).reason(),
+    }
+}
+
 /// The number of bytes before the first space.
 fn word_length(text: &[u8]) -> usize
     ensures length { result ≡ word_length text.now }
@@ -152,7 +178,7 @@ pub fn reason_of(refusal: &[u8]) -> &'static [u8]
 {
     let name = first_word(refusal);
     if name == b"ShiftBroken".as_slice() {
-        b"a move of the tree is not legal from the new start"
+        SHIFT_BROKEN
     } else {
         reason_among(explained_refusals(), name)
     }

@@ -4,17 +4,20 @@ ghost use Rattle.std.specs.Io.KnownBytes.{Appends};
 ghost use Rattle.study_notation.specs.FenSpelling.{fen_text};
 ghost use Rattle.study_text.specs.Taken.{TakesPrefix};
 ghost use Rattle.study_reply.specs.Words.{reply_line, insert_text};
-ghost use Rattle.study_reply.specs.Replied.{reply_text, refused_words, answer_text};
+ghost use Rattle.study_reply.specs.Reasons.{reason_of};
+ghost use Rattle.study_reply.specs.Replied.{reply_text, refused_words, error_text, of_command, line_text};
 
 use crate::game::Game;
+use crate::laws::texts_have_reasons;
 use crate::path_text::{put_child, put_node, put_promoted};
+use crate::reason::edit_reason;
 use crate::refusal::Refusal;
 use crate::reply_text::{
-    put_line, put_mark, put_solution, put_stipulation, refuse_edit, write_moves, write_refusal,
+    put_edit_words, put_line, put_mark, put_solution, put_stipulation, put_words, write_moves,
 };
 use crate::table_reply::{TableReply, put_table_reply};
 use arrayvec::ArrayString;
-use std::alloc::Allocator;
+use std::alloc::{AllocError, Allocator};
 use std::io::Write;
 use study_marks::{Mark, Refusal as EditRefusal, Stipulation, TagName, tag_name};
 use study_notation::{Start, write_fen};
@@ -52,44 +55,100 @@ pub enum LineRefusal<'a, A: Allocator> {
 /// The outcome of a command, before its reply is written.
 pub type Answer<'a, A> = Result<Reply<'a, A>, LineRefusal<'a, A>>;
 
+/// The outcome of a line: of one without a command, nothing.
+pub type LineAnswer<'a, A> = Result<Option<Reply<'a, A>>, LineRefusal<'a, A>>;
+
+/// The outcome of the line of a command.
+pub fn of_command<'a, A: Allocator>(answer: Answer<'a, A>) -> LineAnswer<'a, A>
+    ensures { result ≡ of_command answer.entry }
+{
+    match answer {
+        Ok(reply) => Ok(Some(reply)),
+        Err(refused) => Err(refused),
+    }
+}
+
 /// Writes the reply to a line, and returns whether the line was refused.
 pub fn write_reply<'a, W: Write, A: Allocator>(
     out: &mut W,
-    answer: Answer<'a, A>,
+    answer: LineAnswer<'a, A>,
 ) -> Result<bool, DeviceFailed>
     ensures ok { OnOk result
-        (Appends (W.contents out.old) (W.contents out.new) (answer_text answer.entry)) }
+        (Appends (W.contents out.old) (W.contents out.new) (line_text answer.entry)) }
     ensures err { OnErr result
-        (TakesPrefix (W.contents out.old) (W.contents out.new) (answer_text answer.entry)) }
+        (TakesPrefix (W.contents out.old) (W.contents out.new) (line_text answer.entry)) }
     ensures refused { IfOk result (λ refused. refused ≡ is_err answer.entry) }
 {
     match answer {
-        Ok(reply) => {
+        Ok(None) => Ok(false),
+        Ok(Some(reply)) => {
             put_reply(out, reply)?;
             Ok(false)
         }
         Err(refused) => {
-            put_refused(out, refused)?;
+            put_refused(out, &refused)?;
             Ok(true)
         }
     }
 }
 
+impl<'a, A: Allocator> LineRefusal<'a, A> {
+    /// Why the line is refused, in words.
+    pub fn reason(&self) -> &'static [u8]
+        ensures { result.now ≡ reason_of (refused_words self.now) }
+    {
+        texts_have_reasons();
+        match self {
+            LineRefusal::Line(refusal) => refusal.reason(),
+            LineRefusal::Edit(refusal) => edit_reason(refusal),
+        }
+    }
+}
+
+/// Writes the words of a refusal, such as `NoTable KRK`.
+pub fn write_refused_words<'a, W: Write, A: Allocator>(
+    out: &mut W,
+    refused: &LineRefusal<'a, A>,
+) -> Result<(), DeviceFailed>
+    ensures ok { OnOk result
+        (Appends (W.contents out.old) (W.contents out.new) (refused_words refused.now)) }
+    ensures err { OnErr result
+        (TakesPrefix (W.contents out.old) (W.contents out.new) (refused_words refused.now)) }
+{
+    match refused {
+        LineRefusal::Line(refusal) => put_words(out, *refusal),
+        LineRefusal::Edit(refusal) => put_edit_words(out, refusal),
+    }
+}
+
+/// The words of a refusal as a text.
+pub fn refused_words<'a, 'b, A: Allocator, B: Allocator>(
+    alloc: &'a A,
+    refused: &LineRefusal<'b, B>,
+) -> Result<Vec<u8, &'a A>, AllocError>
+    ensures { IfOk result (λ words. words.items ≡ refused_words refused.now) }
+{
+    let mut words = Vec::new(alloc);
+    match write_refused_words(&mut words, refused) {
+        Ok(()) => Ok(words),
+        Err(_) => Err(AllocError),
+    }
+}
+
 fn put_refused<'a, W: Write, A: Allocator>(
     out: &mut W,
-    refused: LineRefusal<'a, A>,
+    refused: &LineRefusal<'a, A>,
 ) -> Result<(), DeviceFailed>
     ensures ok { OnOk result
         (Appends (W.contents out.old) (W.contents out.new)
-        (reply_line (codes "error ") (refused_words refused.entry))) }
+        (error_text refused.now)) }
     ensures err { OnErr result
         (TakesPrefix (W.contents out.old) (W.contents out.new)
-        (reply_line (codes "error ") (refused_words refused.entry))) }
+        (error_text refused.now)) }
 {
-    match refused {
-        LineRefusal::Line(refusal) => write_refusal(out, refusal),
-        LineRefusal::Edit(refusal) => refuse_edit(out, refusal),
-    }
+    write_text(out, b"error ")?;
+    write_refused_words(out, refused)?;
+    write_text(out, b"\n")
 }
 
 fn put_reply<'a, W: Write, A: Allocator>(

@@ -55,7 +55,7 @@ pub fn write_refusal<W: Write>(out: &mut W, refusal: Refusal) -> Result<(), Devi
 
 /// A refusal in words.
 #[tactic(auto, unfolding(crate::specs::Names::words_of))]
-fn put_words<W: Write>(out: &mut W, refusal: Refusal) -> Result<(), DeviceFailed>
+pub(crate) fn put_words<W: Write>(out: &mut W, refusal: Refusal) -> Result<(), DeviceFailed>
     ensures ok { OnOk result
         (Appends (W.contents out.old) (W.contents out.new) (words_of refusal)) }
     ensures err { OnErr result
@@ -170,31 +170,29 @@ pub fn put_solution<W: Write>(out: &mut W, plies: Option<u8>) -> Result<(), Devi
     put_line(out, b"solve plies ", buffer.format(plies).as_bytes())
 }
 
-/// Writes the refusal of an edit.
-pub fn refuse_edit<'a, W: Write, A: Allocator>(
+/// Writes the words of the refusal of an edit.
+pub(crate) fn put_edit_words<'a, W: Write, A: Allocator>(
     out: &mut W,
-    refusal: EditRefusal<'a, A>,
+    refusal: &EditRefusal<'a, A>,
 ) -> Result<(), DeviceFailed>
     ensures ok { OnOk result
-        (Appends (W.contents out.old) (W.contents out.new)
-        (reply_line (codes "error ") (edit_words refusal.entry))) }
+        (Appends (W.contents out.old) (W.contents out.new) (edit_words refusal.now)) }
     ensures err { OnErr result
-        (TakesPrefix (W.contents out.old) (W.contents out.new)
-        (reply_line (codes "error ") (edit_words refusal.entry))) }
+        (TakesPrefix (W.contents out.old) (W.contents out.new) (edit_words refusal.now)) }
 {
     match refusal {
-        EditRefusal::NoSuchNode => write_refusal(out, Refusal::NoSuchNode),
-        EditRefusal::RootNotAllowed => write_refusal(out, Refusal::RootNotAllowed),
-        EditRefusal::AlreadyFirst => write_refusal(out, Refusal::AlreadyFirst),
-        EditRefusal::IllegalMove => write_refusal(out, Refusal::IllegalMove),
-        EditRefusal::AlreadyThere(place) => write_refusal(out, Refusal::AlreadyThere(place)),
-        EditRefusal::TooDeep => write_refusal(out, Refusal::TooDeep),
-        EditRefusal::TreeFull => write_refusal(out, Refusal::TreeFull),
-        EditRefusal::ShiftBroken(path) => refuse_shift(out, path.steps()),
-        EditRefusal::TagText => write_refusal(out, Refusal::TagText),
-        EditRefusal::OutOfMemory => write_refusal(out, Refusal::OutOfMemory),
-        EditRefusal::NoTable(class) => write_refusal(out, Refusal::NoTable(class)),
-        EditRefusal::TableRead(fault) => write_refusal(out, of_probe(fault)),
+        EditRefusal::NoSuchNode => put_words(out, Refusal::NoSuchNode),
+        EditRefusal::RootNotAllowed => put_words(out, Refusal::RootNotAllowed),
+        EditRefusal::AlreadyFirst => put_words(out, Refusal::AlreadyFirst),
+        EditRefusal::IllegalMove => put_words(out, Refusal::IllegalMove),
+        EditRefusal::AlreadyThere(place) => put_words(out, Refusal::AlreadyThere(*place)),
+        EditRefusal::TooDeep => put_words(out, Refusal::TooDeep),
+        EditRefusal::TreeFull => put_words(out, Refusal::TreeFull),
+        EditRefusal::ShiftBroken(path) => put_shift_words(out, path.steps()),
+        EditRefusal::TagText => put_words(out, Refusal::TagText),
+        EditRefusal::OutOfMemory => put_words(out, Refusal::OutOfMemory),
+        EditRefusal::NoTable(class) => put_words(out, Refusal::NoTable(*class)),
+        EditRefusal::TableRead(fault) => put_words(out, of_probe(*fault)),
     }
 }
 
@@ -209,15 +207,15 @@ pub fn of_probe(fault: ProbeFault) -> Refusal
     }
 }
 
-fn refuse_shift<W: Write>(out: &mut W, steps: &[u16]) -> Result<(), DeviceFailed>
+/// `ShiftBroken 0.1`
+fn put_shift_words<W: Write>(out: &mut W, steps: &[u16]) -> Result<(), DeviceFailed>
     ensures ok { OnOk result (Appends (W.contents out.old) (W.contents out.new)
-        (reply_line (codes "error ") (codes "ShiftBroken " ++ path_text steps.now))) }
+        (codes "ShiftBroken " ++ path_text steps.now)) }
     ensures err { OnErr result (TakesPrefix (W.contents out.old) (W.contents out.new)
-        (reply_line (codes "error ") (codes "ShiftBroken " ++ path_text steps.now))) }
+        (codes "ShiftBroken " ++ path_text steps.now)) }
 {
-    write_text(out, b"error ShiftBroken ")?;
-    put_path(out, steps)?;
-    write_text(out, b"\n")
+    write_text(out, b"ShiftBroken ")?;
+    put_path(out, steps)
 }
 
 /// Writes a stipulation.
