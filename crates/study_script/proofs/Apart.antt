@@ -1,6 +1,8 @@
 -- A reply if studies are kept apart, by the reply if they are not.
 use Rattle.std.proofs.Common.{◌≡◌, ℕ, Bool, true, false, ◌&&◌, List, Option, Result, Ok, Err, refl, sym, subst, ◌∙◌}
-use Rattle.std.specs.Prelude.{IfOk, OnErr}
+use Rattle.std.specs.Prelude.{IfOk, OnErr, is_err}
+use Rattle.study_reply.specs.declared.reply.Reply.{Reply as Done}
+use Rattle.study_reply.specs.declared.reply.LineRefusal.{LineRefusal}
 use Rattle.study_material.specs.declared.class.Class.{Class}
 use Rattle.study_table.specs.Table.{Table}
 use Rattle.study_values.specs.declared.fault.SourceFault.{SourceFault}
@@ -9,20 +11,19 @@ use Rattle.study_script.specs.declared.document.Document.{Document as HeldDocume
 use Rattle.study_script.specs.declared.document.Document.TheVariants as held
 use Rattle.study_script.specs.declared.tables.Tables.{Tables}
 use Rattle.study_script.specs.State.{State}
-use Rattle.study_script.specs.Replies.{IsReply, IsReplyIn, begins_position, without_document, kept_apart}
+use Rattle.study_script.specs.Replies.{IsReply, IsReplyIn, begins_position, without_document}
+use Rattle.study_script.specs.Executed.{line_reply, ExecutedLine}
 use Rattle.study_script.specs.SessionHolds.{Answered, BrokenOff}
 use Rattle.study_script.specs.Session.{Known, SessionHolds}
 
-pub answered-apart : (s : State) (line : List ℕ) (H K : State → Type 0) (old new : Option (List ℕ)) (was : Bool)
-    → ((t : State) → H t → K (without_document (was && begins_position line) t))
-    → Answered (IsReply s line) H old new was → Answered (IsReplyIn true s line) K old new was
-answered-apart s line H K old new was f (o, reply, is, wrote, held, same) = (
+pub executed-apart : {A : Type 0} (s : State) (line : List ℕ) (H K : State → Type 0) (answer : Result (Option (Done A)) (LineRefusal A))
+    → (refused : Bool) → refused ≡ is_err answer → ((t : State) → H t → K (without_document (refused && begins_position line) t))
+    → ExecutedLine (IsReply s line) H answer → ExecutedLine (IsReplyIn true s line) K answer
+executed-apart s line H K answer refused e f (o, t, is, held) = (
   o,
-  kept_apart line reply,
-  (reply, is, refl),
-  wrote,
-  subst (λ (b : Bool). K (without_document (b && begins_position line) reply.state)) same (f reply.state held),
-  same,
+  without_document (is_err answer && begins_position line) t,
+  (line_reply t answer, is, refl),
+  subst (λ (b : Bool). K (without_document (b && begins_position line) t)) e (f t held),
 )
 
 -- the state after the document was emptied, or was not
@@ -66,6 +67,3 @@ pub in-mode-broken : {T E : Type 0} (r : Result T E) (separate own b : Bool) (s 
 in-mode-broken (Ok x) separate own b s line old new e k h = tt
 in-mode-broken (Err f) separate own b s line old new e k (o, reply, is, part) =
     (o, reply, subst (λ (m : Bool). IsReplyIn m s line o reply) (sym (e ∙ k)) is, part)
-
-pub one-broken-apart : (s : State) (line : List ℕ) (old new : Option (List ℕ)) → BrokenOff (IsReply s line) old new → BrokenOff (IsReplyIn true s line) old new
-one-broken-apart s line old new (o, reply, is, part) = (o, kept_apart line reply, (reply, is, refl), part)

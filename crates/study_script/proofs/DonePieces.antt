@@ -17,7 +17,7 @@ use Rattle.study_reply.specs.declared.table_reply.TableReply.TheVariants.{Built,
 use Rattle.study_reply.specs.declared.reply.Reply.{Reply}
 use Rattle.study_reply.specs.declared.reply.Reply.TheVariants as done
 use Rattle.study_reply.specs.declared.reply.LineRefusal.{LineRefusal}
-use Rattle.study_reply.specs.Replied.{reply_text, refused_words, answer_text}
+use Rattle.study_reply.specs.Replied.{reply_text, refused_words, of_command}
 use Rattle.study_reply.specs.TableReply.{table_text}
 use Rattle.study_reply.specs.Words.{reply_line, ends_line, list_text, moves_listed, solve_text, win_text, side_word, goal_words, path_after_move_up}
 use Rattle.study_reply.proofs.LineEnds.{ends-behind}
@@ -27,7 +27,8 @@ use Rattle.study_values.specs.Size.{pages_of}
 use Rattle.study_tree.specs.Paths.{path_text}
 use Rattle.study_marks.specs.Study.{tag_name}
 use Rattle.study_marks.specs.Marks.{value_words, on_move_text}
-use Rattle.study_script.specs.Written.{Piece, fronts, IsDone, IsPieceWhere, IsWritten, IsCutOff}
+use Rattle.study_script.specs.Written.{fronts, IsDone, IsPieceWhere}
+use Rattle.study_script.specs.Executed.{line_piece}
 
 -- ---- replies to successful commands
 
@@ -83,22 +84,6 @@ module _ {A : Type 0} where
 
   -- ---- the output for a command
 
-  abbrev answer_piece : Result (Reply A) (LineRefusal A) → Piece
-  answer_piece answer = record { text = answer_text answer; refused = is_err answer }
-
-  piece-of : (asked : Asked) (answer : Result (Reply A) (LineRefusal A)) → IsPieceWhere (Ok (Some asked)) (answer_piece answer)
+  pub piece-of : (asked : Asked) (answer : Result (Reply A) (LineRefusal A)) → IsPieceWhere (Ok (Some asked)) (line_piece (of_command answer))
   piece-of asked (Ok reply) = inr (reply-done reply, refl)
   piece-of asked (Err why) = inl (refused_words why, refl)
-
-  pub answer-written : {E : Type 0} (line : List ℕ) (asked : Asked) (answer : Result (Reply A) (LineRefusal A)) (r : Result Bool E) (old new : Option (List ℕ))
-      → command_of line ≡ Ok (Some asked) → OnOk r (Appends old new (answer_text answer)) → IfOk r (λ b. b ≡ is_err answer)
-      → IfOk r (IsWritten line old new)
-  answer-written line asked answer (Ok b) old new e wrote same =
-      (answer_piece answer, subst (λ (x : Asks). IsPieceWhere x (answer_piece answer)) (sym e) (piece-of asked answer), wrote, same)
-  answer-written line asked answer (Err f) old new e wrote same = tt
-
-  pub answer-cut-off : {T E : Type 0} (line : List ℕ) (asked : Asked) (answer : Result (Reply A) (LineRefusal A)) (r : Result T E) (old new : Option (List ℕ))
-      → command_of line ≡ Ok (Some asked) → OnErr r (TakesPrefix old new (answer_text answer)) → OnErr r (IsCutOff line old new)
-  answer-cut-off line asked answer (Ok x) old new e part = tt
-  answer-cut-off line asked answer (Err f) old new e part =
-      (answer_piece answer, subst (λ (x : Asks). IsPieceWhere x (answer_piece answer)) (sym e) (piece-of asked answer), part)

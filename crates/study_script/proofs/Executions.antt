@@ -9,12 +9,13 @@ use Rattle.study_reply.specs.declared.reply.Reply.{Reply as Done}
 use Rattle.study_reply.specs.declared.reply.Reply.TheVariants.{Table}
 use Rattle.study_reply.specs.declared.reply.LineRefusal.{LineRefusal}
 use Rattle.study_reply.specs.declared.reply.LineRefusal.TheVariants.{Line}
-use Rattle.study_reply.specs.Replied.{answer_text}
+use Rattle.study_reply.specs.Replied.{answer_text, of_command, line_text}
 use Rattle.study_script.specs.State.{State, Environment}
 use Rattle.study_script.specs.Replies.{Reply}
 use Rattle.study_script.specs.SessionHolds.{Answered, BrokenOff}
 use Rattle.study_script.specs.Decided.{decided_reply, Decided}
-use Rattle.study_script.specs.Executed.{reply_of, Executed}
+use Rattle.study_script.specs.Executed.{reply_of, Executed, line_reply, ExecutedLine, line_piece}
+use Rattle.study_script.specs.Written.{IsPiece, IsWritten, IsCutOff}
 
 module _ {A : Type 0} {I J : Environment → Reply → Type 0} {H K : State → Type 0} where
   pub executed_weaker : (answer : Result (Done A) (LineRefusal A)) → ((o : Environment) (r : Reply) → I o r → J o r)
@@ -31,16 +32,34 @@ module _ {A : Type 0} {I J : Environment → Reply → Type 0} {H K : State → 
       → ((o : Environment) (r : Reply) → I o r → H r.state → K r.state) → Executed I H answer → Executed J K answer
   executed_kept answer f g (o, t, is, holds) = (o, t, f o (reply_of t answer) is, g o (reply_of t answer) is holds)
 
-module _ {A : Type 0} (I : Environment → Reply → Type 0) (H : State → Type 0) (answer : Result (Done A) (LineRefusal A)) where
-  pub executed_answered : {E : Type 0} (r : Result Bool E) (old new : Option (List ℕ)) → Executed I H answer
-      → OnOk r (Appends old new (answer_text answer)) → IfOk r (λ b. b ≡ is_err answer) → IfOk r (Answered I H old new)
-  executed_answered (Ok b) old new (o, t, is, holds) wrote e = (o, reply_of t answer, is, wrote, holds, e)
+-- the outcome of the line of a command
+pub executed-line : {A : Type 0} (I : Environment → Reply → Type 0) (H : State → Type 0) (answer : Result (Done A) (LineRefusal A)) → Executed I H answer
+    → ExecutedLine I H (of_command answer)
+executed-line I H (Ok reply) d = d
+executed-line I H (Err refused) d = d
+
+module _ {A : Type 0} (I : Environment → Reply → Type 0) (H : State → Type 0) (answer : Result (Option (Done A)) (LineRefusal A)) where
+  pub executed_answered : {E : Type 0} (r : Result Bool E) (old new : Option (List ℕ)) → ExecutedLine I H answer
+      → OnOk r (Appends old new (line_text answer)) → IfOk r (λ b. b ≡ is_err answer) → IfOk r (Answered I H old new)
+  executed_answered (Ok b) old new (o, t, is, holds) wrote e = (o, line_reply t answer, is, wrote, holds, e)
   executed_answered (Err e) old new d wrote k = tt
 
-  pub executed_broken : {T E : Type 0} (r : Result T E) (old new : Option (List ℕ)) → Executed I H answer
-      → OnErr r (TakesPrefix old new (answer_text answer)) → OnErr r (BrokenOff I old new)
+  pub executed_broken : {T E : Type 0} (r : Result T E) (old new : Option (List ℕ)) → ExecutedLine I H answer
+      → OnErr r (TakesPrefix old new (line_text answer)) → OnErr r (BrokenOff I old new)
   executed_broken (Ok x) old new d part = tt
-  executed_broken (Err e) old new (o, t, is, holds) part = (o, reply_of t answer, is, part)
+  executed_broken (Err e) old new (o, t, is, holds) part = (o, line_reply t answer, is, part)
+
+-- what is written for a line
+module _ {A : Type 0} (line : List ℕ) (answer : Result (Option (Done A)) (LineRefusal A)) (is : IsPiece line (line_piece answer)) where
+  pub piece_written : {E : Type 0} (r : Result Bool E) (old new : Option (List ℕ)) → OnOk r (Appends old new (line_text answer))
+      → IfOk r (λ b. b ≡ is_err answer) → IfOk r (IsWritten line old new)
+  piece_written (Ok b) old new wrote same = (line_piece answer, is, wrote, same)
+  piece_written (Err f) old new wrote same = tt
+
+  pub piece_cut_off : {T E : Type 0} (r : Result T E) (old new : Option (List ℕ)) → OnErr r (TakesPrefix old new (line_text answer))
+      → OnErr r (IsCutOff line old new)
+  piece_cut_off (Ok x) old new part = tt
+  piece_cut_off (Err f) old new part = (line_piece answer, is, part)
 
 -- the outcome of a command of a class
 module _ (A : Type 0) (I : Environment → Reply → Type 0) (H : State → Type 0) (reported : Result TableReply Refusal) where

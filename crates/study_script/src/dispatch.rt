@@ -5,11 +5,11 @@ ghost use Rattle.study_script.specs.State.{State};
 ghost use Rattle.study_script.specs.Replies.{IsReply, IsReplyTo, IsReplyIn, begins_position};
 ghost use Rattle.study_script.specs.declared.document.Document.TheVariants as held;
 ghost use Rattle.study_script.specs.SessionHolds.{Answered, BrokenOff};
-ghost use Rattle.study_script.specs.Executed.{Executed};
+ghost use Rattle.study_script.specs.Executed.{Executed, ExecutedLine, line_piece};
 ghost use Rattle.study_script.specs.Session.{SessionHolds};
 ghost use Rattle.study_material.specs.declared.class.Class.{Class as AClass};
 ghost use Rattle.study_script.specs.Stores.{HonestOn, IsTrusted, IsTrustedAsked};
-ghost use Rattle.study_script.specs.Written.{IsWritten, IsCutOff};
+ghost use Rattle.study_script.specs.Written.{IsPiece, IsWritten, IsCutOff};
 
 use crate::changes::{insert, node_command, set_tag};
 use crate::document::Document;
@@ -21,8 +21,55 @@ use crate::tables::Tables;
 use std::alloc::Allocator;
 use std::io::Write;
 use study_command::{Command, read_command};
-use study_reply::{Answer, Refusal, write_refusal, write_reply};
+use study_reply::{Answer, LineAnswer, LineRefusal, Refusal, of_command, write_reply};
 use study_text::{DeviceFailed, next_word};
+
+/// Carries out a line, and returns the outcome. Nothing is written.
+pub fn execute_line<'a, S: TableStore, A: Allocator>(
+    alloc: &'a A,
+    document: &mut Document<'a, A>,
+    tables: &mut Tables<'a, S::Pages, A>,
+    store: &mut S,
+    line: &[u8],
+) -> LineAnswer<'a, A>
+    ensures done { (trusted : AClass → Bool) (s : State) → IsTrusted trusted line.now
+        → SessionHolds S.Pages.honest S.Pages.gives
+        (HonestOn trusted S.honest) S.files S.headers S.faults document.old tables.old store.old s
+        → ExecutedLine (IsReply s line.now)
+        (SessionHolds S.Pages.honest S.Pages.gives
+        (HonestOn trusted S.honest) S.files S.headers S.faults document.new tables.new store.new)
+        result }
+    ensures piece { IsPiece line.now (line_piece result) }
+{
+    match read_command(line) {
+        Ok(None) => Ok(None),
+        Ok(Some(command)) => of_command(execute(alloc, document, tables, store, &command)),
+        Err(fault) => Err(LineRefusal::Line(Refusal::Form(fault))),
+    }
+}
+
+/// `execute_line`, if studies are kept apart.
+pub fn execute_apart<'a, S: TableStore, A: Allocator>(
+    alloc: &'a A,
+    document: &mut Document<'a, A>,
+    tables: &mut Tables<'a, S::Pages, A>,
+    store: &mut S,
+    line: &[u8],
+) -> LineAnswer<'a, A>
+    ensures done { (trusted : AClass → Bool) (s : State) → IsTrusted trusted line.now
+        → SessionHolds S.Pages.honest S.Pages.gives
+        (HonestOn trusted S.honest) S.files S.headers S.faults document.old tables.old store.old s
+        → ExecutedLine (IsReplyIn true s line.now)
+        (SessionHolds S.Pages.honest S.Pages.gives
+        (HonestOn trusted S.honest) S.files S.headers S.faults document.new tables.new store.new)
+        result }
+    ensures piece { IsPiece line.now (line_piece result) }
+{
+    let answer = execute_line(alloc, document, tables, store, line);
+    let refused = answer.is_err();
+    clear_after(document, line, refused);
+    answer
+}
 
 /// Writes the reply to a line, keeps the state after it, and returns whether the line was refused.
 pub fn answer<'a, W: Write, S: TableStore, A: Allocator>(
@@ -43,21 +90,13 @@ pub fn answer<'a, W: Write, S: TableStore, A: Allocator>(
     ensures err { (trusted : AClass → Bool) (s : State) → IsTrusted trusted line.now
         → SessionHolds S.Pages.honest S.Pages.gives
         (HonestOn trusted S.honest) S.files S.headers S.faults document.old tables.old store.old s
-        → OnErr result (BrokenOff (IsReply s line.now) (W.contents out.old) (W.contents out.new)) }
+        → OnErr result
+        (BrokenOff (IsReply s line.now) (W.contents out.old) (W.contents out.new)) }
     ensures written { IfOk result (IsWritten line.now (W.contents out.old) (W.contents out.new)) }
     ensures cut_off { OnErr result (IsCutOff line.now (W.contents out.old) (W.contents out.new)) }
 {
-    match read_command(line) {
-        Ok(None) => Ok(false),
-        Ok(Some(command)) => {
-            let answer = execute(alloc, document, tables, store, &command);
-            write_reply(out, answer)
-        }
-        Err(fault) => {
-            write_refusal(out, Refusal::Form(fault))?;
-            Ok(true)
-        }
-    }
+    let answer = execute_line(alloc, document, tables, store, line);
+    write_reply(out, answer)
 }
 
 /// `answer`, if studies are kept apart.
@@ -84,9 +123,8 @@ pub fn answer_apart<'a, W: Write, S: TableStore, A: Allocator>(
     ensures written { IfOk result (IsWritten line.now (W.contents out.old) (W.contents out.new)) }
     ensures cut_off { OnErr result (IsCutOff line.now (W.contents out.old) (W.contents out.new)) }
 {
-    let refused = answer(alloc, document, tables, store, line, out)?;
-    clear_after(document, line, refused);
-    Ok(refused)
+    let answer = execute_apart(alloc, document, tables, store, line);
+    write_reply(out, answer)
 }
 
 /// Empties the document after a refused `position`.

@@ -6,7 +6,8 @@ ghost use Rattle.study_script.specs.Replies.{IsReplyIn};
 ghost use Rattle.study_script.specs.SessionHolds.{Answered, BrokenOff};
 ghost use Rattle.study_script.specs.Session.{SessionHolds};
 ghost use Rattle.study_script.specs.Stores.{HonestOn, IsTrusted};
-ghost use Rattle.study_script.specs.Written.{IsWritten, IsCutOff};
+ghost use Rattle.study_script.specs.Executed.{ExecutedLine, line_piece};
+ghost use Rattle.study_script.specs.Written.{IsPiece, IsWritten, IsCutOff};
 
 use crate::dispatch;
 use crate::document::Document;
@@ -14,6 +15,7 @@ use crate::store::TableStore;
 use crate::tables::Tables;
 use std::alloc::Allocator;
 use std::io::Write;
+use study_reply::LineAnswer;
 use study_text::DeviceFailed;
 
 /// Answers lines one by one, and has the state of a script.
@@ -74,6 +76,28 @@ impl<'a, 's, S: TableStore, A: Allocator> Interpreter for Session<'a, 's, S, A> 
 }
 
 impl<'a, 's, S: TableStore, A: Allocator> Session<'a, 's, S, A> {
+    /// Carries out a line as `answer_apart` does, and returns the outcome. Nothing is written.
+    pub fn execute_apart(&mut self, line: &[u8]) -> LineAnswer<'a, A>
+        ensures done { (trusted : AClass → Bool) (s : AState) → IsTrusted trusted line.now
+            → SessionHolds S.Pages.honest S.Pages.gives
+            (HonestOn trusted S.honest) S.files S.headers S.faults self.old.document self.old.tables
+            self.old.store.now s
+            → ExecutedLine (IsReplyIn true s line.now)
+            (SessionHolds S.Pages.honest S.Pages.gives
+            (HonestOn trusted S.honest) S.files S.headers S.faults self.new.document self.new.tables
+            self.new.store.now) result }
+        ensures piece { IsPiece line.now (line_piece result) }
+        ensures mode { self.new.separate ≡ self.old.separate }
+    {
+        dispatch::execute_apart(
+            self.alloc,
+            &mut self.document,
+            &mut self.tables,
+            self.store,
+            line,
+        )
+    }
+
     /// Answers a line as in a script in which studies are kept apart: a refused line whose first word is `position` leaves neither a position nor a study
     /// until the next accepted one. So no line that belongs to it edits the study before. The session's own setting is ignored.
     pub fn answer_apart<W: Write>(&mut self, line: &[u8], out: &mut W) -> Result<bool, DeviceFailed>
