@@ -6,6 +6,7 @@ use study_facts::EntryInfo;
 use study_marks::Bench;
 use study_page::{write_record, write_refused_record};
 use study_print::refusal_name;
+use study_reply::LineRefusal;
 use study_report::{Report, ReviewFault, WriteFault};
 use study_values::Values;
 
@@ -39,15 +40,16 @@ impl Report for Records {
         write_record(alloc, bench, values, info, out)
     }
 
-    fn add_refusal<'a, A: Allocator, W: Write>(
+    fn add_refusal<'a, 'b, A: Allocator, B: Allocator, W: Write>(
         &mut self,
         alloc: &'a A,
         number: u32,
         line: &[u8],
-        reply: &[u8],
+        refused: &LineRefusal<'b, B>,
         out: &mut W,
     ) -> Result<(), WriteFault> {
-        write_refused_record(alloc, number, line, refusal_name(reply), out)
+        let name = refusal_name(alloc, refused)?;
+        write_refused_record(alloc, number, line, name.as_slice(), out)
     }
 
     fn add_remark<'a, A: Allocator, W: Write>(

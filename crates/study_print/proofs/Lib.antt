@@ -4,3 +4,4 @@ pub mod PageReported
 pub mod Paragraphs
 pub mod BodyGrows
 pub mod FileNested
+mod Refused

@@ -14,6 +14,6 @@ mod script_pages;
 mod watch;
 
 pub use pages::{EntryCount, Pages};
-pub use refusals::refusal_name;
+pub use refusals::{refusal_name, write_refused};
 pub use script_pages::{write_pages, write_pages_over};
 pub use watch::{Unwatched, Watch};

@@ -2,7 +2,7 @@
 ghost use Rattle.std.specs.Prelude.{◌≡◌, []};
 
 use crate::entries::with_left_out;
-use crate::refusals::refusal_name;
+use crate::refusals::write_refused;
 use crate::remarks::write_remark;
 use crate::watch::Watch;
 use std::alloc::Allocator;
@@ -10,8 +10,8 @@ use std::io::Write;
 use study_facts::EntryInfo;
 use study_html::Html;
 use study_marks::Bench;
-use study_page::{Listed, write_page, write_refusal};
-use study_reply::reason_of;
+use study_page::{Listed, write_page};
+use study_reply::LineRefusal;
 use study_report::{Report, ReviewFault, WriteFault, is_left_out};
 use study_values::Values;
 
@@ -98,16 +98,15 @@ impl<'s, S: Allocator, N: Watch> Report for Pages<'s, S, N> {
         Ok(())
     }
 
-    fn add_refusal<'a, A: Allocator, W: Write>(
+    fn add_refusal<'a, 'b, A: Allocator, B: Allocator, W: Write>(
         &mut self,
         alloc: &'a A,
         number: u32,
         line: &[u8],
-        reply: &[u8],
+        refused: &LineRefusal<'b, B>,
         out: &mut W,
     ) -> Result<(), WriteFault> {
-        let refusal = refusal_name(reply);
-        write_refusal(alloc, number, line, refusal, reason_of(refusal), out)
+        write_refused(alloc, number, line, refused, out)
     }
 
     fn add_remark<'a, A: Allocator, W: Write>(

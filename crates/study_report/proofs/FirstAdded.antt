@@ -24,6 +24,7 @@ use Rattle.study_report.specs.declared.line_kind.LineKind.{LineKind}
 use Rattle.study_report.specs.declared.line_kind.LineKind.TheVariants.{Remark, PassedOver, NoClass, Study, Checked}
 use Rattle.study_report.specs.Reported.{Point, Added, IsAdded, IsAddedAs, IsPgnAfter, IsCheckedAfter, line_kind, refusal_count, study_count}
 use Rattle.study_facts.specs.declared.entry.EntryInfo.{EntryInfo}
+use Rattle.study_report.specs.declared.unread_line.Unread.{Unread}
 use Rattle.study_report.specs.Unread.{unread_after}
 use Rattle.study_report.proofs.LineAdds.{entry}
 use Rattle.study_report.specs.Reported.{nothing_added, refusal_added, Entry, last_entry, studies_on, listed_in, entries_in}
@@ -377,7 +378,7 @@ module _ (tells : PlainStudy → EntryInfo → List ℕ → Type 0) (refusal : �
 
   -- the lines so far are reported, the session has their state, and the counts are theirs
   pub record ReportedOn (holds : State → Type 0) (Lists : List Entry → Type 0) (script now old new : Option (List ℕ)) (first : State)
-      (n refused studies : ℕ) (unread : Option ℕ) : Type 0 where
+      (n refused studies : ℕ) (unread : Unread) : Type 0 where
     pub point : Point
     pub reported : HasReported Lists script now old new first point n refused
     pub held : holds point.state
@@ -413,7 +414,8 @@ module _ (tells : PlainStudy → EntryInfo → List ℕ → Type 0) (refusal : �
   counts-more p line a Checked (o, reply, is, after) = counts-checked p line reply a reply.refused after
 
   -- a study that is reported leaves what was not read of it
-  study-unread : (old : Option ℕ) (number : ℕ) (line : List ℕ) (reported : LineOutcome) → study_count reported ≡ 1 → unread_after old number line reported ≡ old
+  study-unread : (old : Unread) (number : ℕ) (line : List ℕ) (reported : LineOutcome) → study_count reported ≡ 1
+      → (unread_after old number line reported).own ≡ old.own
   study-unread old number line Nothing e = absurd cc
   study-unread old number line AStudy e = refl
   study-unread old number line ARefusal e = absurd cc
@@ -423,14 +425,14 @@ module _ (tells : PlainStudy → EntryInfo → List ℕ → Type 0) (refusal : �
 
   pub ReportedOn-more : (holds holds' : State → Type 0) (Lists Lists' : List Entry → Type 0) (document : Document)
       (script now next old mid new : Option (List ℕ)) (first : State)
-      (line : List ℕ) (n refused refused' studies studies' : ℕ) (unread unread' : Option ℕ) (reported : LineOutcome)
+      (line : List ℕ) (n refused refused' studies studies' : ℕ) (unread unread' : Unread) (reported : LineOutcome)
       (r : ReportedOn holds Lists script now old mid first n refused studies unread)
       → TakesLine now next true line → length line ≤ 1024
       → Adds (IsAdded tells refusal remark r.point line) holds' mid new reported
       → refused' ≡ refused + refusal_count reported → studies' ≡ studies + study_count reported
       → unread' ≡ unread_after unread (n + 1) line reported
       → ((s : State) → holds' s → document ≡ s.document)
-      → ((more : List Entry) → Lists more → Lists' (more ++ listed_in line reported document (record { number = studies + 1; unread = unread })))
+      → ((more : List Entry) → Lists more → Lists' (more ++ listed_in line reported document (record { number = studies + 1; unread = unread.own })))
       → ReportedOn holds' Lists' script next old new first (n + 1) refused' studies' unread'
   ReportedOn-more holds holds' Lists Lists' document script now next old mid new first line n refused refused' studies studies' unread unread' reported r t
       short
@@ -441,15 +443,16 @@ module _ (tells : PlainStudy → EntryInfo → List ℕ → Type 0) (refusal : �
         reported = reported_more Lists Lists' script now next old mid new first r.point line a n refused refused' r.reported t short is wrote
             (k ∙ ap (λ (x : LineOutcome). refused + refusal_count x) same)
             (λ more h. subst (λ (x : List Entry). Lists' (more ++ x))
-            (listed-same line reported a.reported document a.after.state.document (record { number = studies + 1; unread = unread }) (last_entry a.after)
+            (listed-same line reported a.reported document a.after.state.document (record { number = studies + 1; unread = unread.own }) (last_entry a.after)
             same (seen a.after.state held)
-            (λ one. same-entry (studies + 1) a.after.studies unread a.after.unread
+            (λ one. same-entry (studies + 1) a.after.studies unread.own a.after.unread.own
             (ap (λ i. i + 1) r.studies_are ∙ ap (λ i. r.point.studies + i) (sym one) ∙ sym counts.1)
-            (r.unread_is ∙ sym (study-unread r.point.unread (suc r.point.lines) line a.reported one) ∙ sym counts.2))) (l more h));
+            (ap (λ (u : Unread). u.own) r.unread_is ∙ sym (study-unread r.point.unread (suc r.point.lines) line a.reported one)
+            ∙ sym (ap (λ (u : Unread). u.own) counts.2)))) (l more h));
         held = held;
         lines_are = ap (λ i. i + 1) r.lines_are ∙ omega arith ∙ sym counts.0;
         unread_is = u ∙ ap (λ (x : LineOutcome). unread_after unread (n + 1) line x) same
-            ∙ ap (λ (x : Option ℕ). unread_after x (n + 1) line a.reported) r.unread_is
+            ∙ ap (λ (x : Unread). unread_after x (n + 1) line a.reported) r.unread_is
             ∙ ap (λ i. unread_after r.point.unread i line a.reported) (ap (λ i. i + 1) r.lines_are ∙ omega arith) ∙ sym counts.2;
         studies_are = j ∙ ap (λ (x : LineOutcome). studies + study_count x) same ∙ ap (λ i. i + study_count a.reported) r.studies_are ∙ sym counts.1;
       }

@@ -7,6 +7,10 @@ use Rattle.std.proofs.lemmas.List.{append-nil}
 use Rattle.std.proofs.lemmas.Result.{IfOk-weaker, IfErr-weaker}
 use Rattle.study_marks.specs.Edits.{PlainStudy}
 use Rattle.study_reply.specs.declared.refusal.Refusal.{Refusal}
+use Rattle.study_reply.specs.declared.reply.Reply.{Reply as Done}
+use Rattle.study_reply.specs.declared.reply.LineRefusal.{LineRefusal}
+use Rattle.study_reply.specs.Replied.{error_text, line_text}
+use Rattle.study_script.specs.Executed.{line_reply, ExecutedLine}
 use Rattle.study_script.specs.declared.running.RunFault.{RunFault}
 use Rattle.study_script.specs.declared.running.RunFault.TheVariants.{ReadDevice, WriteDevice, LineTooLong, TooManyLines, OutOfMemory}
 use Rattle.study_script.specs.State.{State, Document, study, Environment}
@@ -16,6 +20,7 @@ use Rattle.study_report.specs.declared.line_kind.LineKind.TheVariants.{Study, Ch
 use Rattle.study_report.specs.declared.line_outcome.LineOutcome.{LineOutcome}
 use Rattle.study_report.specs.declared.line_outcome.LineOutcome.TheVariants.{Nothing, Study as AStudy, Refusal as ARefusal}
 use Rattle.study_facts.specs.declared.entry.EntryInfo.{EntryInfo}
+use Rattle.study_report.specs.declared.unread_line.Unread.{Unread}
 use Rattle.study_report.specs.declared.line_outcome.ReportPosition.{ReportPosition}
 use Rattle.study_report.specs.Reported.{study_count, Entry, entry_at, next_entry, IsAt, games_in, listed_in}
 use Rattle.study_report.specs.Reported.{Point, Added, IsLeftOut, IsStudyReported, IsAddedAs, IsPgnAfter, IsCheckedAfter}
@@ -29,7 +34,7 @@ entry number unread = record { number = number; unread = unread }
 pub at-next : (p : Point) (at : ReportPosition) → IsAt p at → entry_at at ≡ next_entry p
 at-next p at (lines, studies, unread) =
     let n : at.studies + 1 ≡ suc p.studies = omega (arith, studies) in
-    ap (λ (i : ℕ). entry i at.unread) n ∙ ap (λ (u : Option ℕ). entry (suc p.studies) u) unread
+    ap (λ (i : ℕ). entry i at.unread.own) n ∙ ap (λ (u : Unread). entry (suc p.studies) u.own) unread
 
 -- what holds of every text written for a refusal
 abbrev pub RefusalWritten : List ℕ → Option (List ℕ) → Option (List ℕ) → LineOutcome → Type 0
@@ -204,3 +209,20 @@ pub replied : (H : State → Type 0) (s : State) (line old taken : List ℕ) (wa
     → Answered (IsReplyIn true s line) H (Some old) (Some taken) was → IsReplied s line H taken was
 replied H s line old taken was none (o, reply, is, wrote, held, same) =
     (o, reply, is, wrote ∙ ap (λ (t : List ℕ). t ++ reply.text) none, held, same)
+
+-- ---- what was executed
+
+module _ {A : Type 0} (s : State) (line : List ℕ) (H : State → Type 0) where
+  -- the reply to a line that was refused, or was not
+  pub executed-refused : (answer : Result (Option (Done A)) (LineRefusal A)) (why : LineRefusal A) → answer ≡ Err why
+      → ExecutedLine (IsReplyIn true s line) H answer
+      → IsReplied s line H (error_text why) true
+  executed-refused (Err w) why e (o, t, is, held) =
+      let same : w ≡ why = cc in
+      subst (λ (x : LineRefusal A). IsReplied s line H (error_text x) true) same (o, line_reply t (Err w), is, refl, held, refl)
+  executed-refused (Ok x) why e d = absurd cc
+
+  pub executed-done : (answer : Result (Option (Done A)) (LineRefusal A)) (x : Option (Done A)) → answer ≡ Ok x → ExecutedLine (IsReplyIn true s line) H answer
+      → IsReplied s line H (line_text answer) false
+  executed-done (Ok y) x e (o, t, is, held) = (o, line_reply t (Ok y), is, refl, held, refl)
+  executed-done (Err w) x e d = absurd cc

@@ -18,7 +18,11 @@ use Rattle.study_reply.specs.Words.{reply_line}
 use Rattle.study_script.specs.declared.running.RunFault.{RunFault}
 use Rattle.study_script.specs.declared.running.RunFault.TheVariants.{ReadDevice, WriteDevice, LineTooLong, TooManyLines, OutOfMemory}
 use Rattle.study_script.specs.State.{Document, study}
-use Rattle.study_script.specs.Written.{Piece, IsPieceWhere, IsWritten}
+use Rattle.study_reply.specs.declared.reply.Reply.{Reply as Done}
+use Rattle.study_reply.specs.declared.reply.LineRefusal.{LineRefusal}
+use Rattle.study_reply.specs.Replied.{error_text, line_text}
+use Rattle.study_script.specs.Executed.{line_piece}
+use Rattle.study_script.specs.Written.{Piece, IsPiece, IsPieceWhere}
 use Rattle.study_script.proofs.FirstLines.{first_left, none_left}
 use Rattle.study_report.specs.declared.line_kind.LineKind.{LineKind}
 use Rattle.study_report.specs.declared.line_kind.LineKind.TheVariants.{Remark, PassedOver, NoClass, Study, Checked}
@@ -32,8 +36,17 @@ use Rattle.study_report.proofs.LineAdds.{RefusalWritten, RemarkWritten}
 -- ---- a line
 
 -- the reply that a session wrote into memory
-pub replied-piece : (line old taken : List ℕ) (was : Bool) → old ≡ [] → IsWritten line (Some old) (Some taken) was → IsReplyPiece line taken was
-replied-piece line old taken was none (piece, is, wrote, same) = (piece, is, wrote ∙ ap (λ (t : List ℕ). t ++ piece.text) none, same)
+module _ {A : Type 0} (line : List ℕ) where
+  pub refused-piece : (answer : Result (Option (Done A)) (LineRefusal A)) (why : LineRefusal A) → answer ≡ Err why → IsPiece line (line_piece answer)
+      → IsReplyPiece line (error_text why) true
+  refused-piece answer why e is =
+      let piece = line_piece {A = A} (Err why) in
+      (piece, subst (λ (a : Result (Option (Done A)) (LineRefusal A)). IsPiece line (line_piece a)) e is, refl, refl)
+
+  pub done-piece : (answer : Result (Option (Done A)) (LineRefusal A)) (x : Option (Done A)) → answer ≡ Ok x → IsPiece line (line_piece answer)
+      → IsReplyPiece line (line_text answer) false
+  done-piece (Ok y) x e is = (line_piece {A = A} (Ok y), is, refl, refl)
+  done-piece (Err w) x e is = absurd cc
 
 refused-words : (asks : Asks) (piece : Piece) → IsPieceWhere asks piece → piece.refused ≡ true
     → (words : List ℕ) × (piece.text ≡ reply_line (codes "error ") words)

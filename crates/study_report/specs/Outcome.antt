@@ -13,6 +13,7 @@ use Rattle.study_script.specs.State.{State, empty}
 use Rattle.study_material.specs.declared.class.Class.{Class}
 use Rattle.study_script.specs.Outcome.{AreShort, AreLeft, Shape as ScriptShape}
 use Rattle.study_facts.specs.declared.entry.EntryInfo.{EntryInfo}
+use Rattle.study_report.specs.Unread.{none_unread}
 use Rattle.study_report.specs.Reported.{Point, Added, IsAdded, refusal_count, Entry, entries_in}
 
 -- no study and no start; the tables of these classes are loaded and may fail in any way; nothing is known of files
@@ -26,7 +27,7 @@ over_tables classes paged = record {
 
 -- before the first line: no line was read or refused, and no study was reported
 abbrev pub start_point : State → Point
-start_point s = record { state = s; lines = 0; studies = 0; unread = None }
+start_point s = record { state = s; lines = 0; studies = 0; unread = none_unread }
 
 -- the texts of the lines, one after the other
 abbrev pub report_text : List Added → List ℕ

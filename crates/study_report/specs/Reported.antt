@@ -19,6 +19,7 @@ use Rattle.study_report.specs.declared.line_outcome.ReportPosition.{ReportPositi
 use Rattle.study_report.specs.declared.line_outcome.LineOutcome.{LineOutcome}
 use Rattle.study_report.specs.declared.line_outcome.LineOutcome.TheVariants.{Nothing, Study as AStudy, Refusal as ARefusal}
 use Rattle.study_report.specs.Remarks.{is_remark, is_left_out}
+use Rattle.study_report.specs.declared.unread_line.Unread.{Unread}
 use Rattle.study_report.specs.Unread.{unread_after}
 use Rattle.study_facts.specs.declared.entry.EntryInfo.{EntryInfo}
 
@@ -40,13 +41,12 @@ line_kind line = if is_remark line then Remark else kind_in (command_of line)
 
 -- ---- what a line adds
 
--- between two lines: the state of the script, the number of lines read, the number of studies reported, and the first refused edit of the study in
--- the document
+-- between two lines: the state of the script, the number of lines read, the number of studies reported, and the refused edits of the study in the document
 pub record Point : Type 0 where
   pub state : State
   pub lines : ℕ
   pub studies : ℕ
-  pub unread : Option ℕ
+  pub unread : Unread
 
 -- the place of the next line
 abbrev pub IsAt : Point → ReportPosition → Type 0
@@ -54,13 +54,13 @@ IsAt p at = (at.line ≡ suc p.lines) × (at.studies ≡ p.studies) × (at.unrea
 
 -- the study that was reported last, and the next one, as entries
 abbrev pub last_entry : Point → EntryInfo
-last_entry p = record { number = p.studies; unread = p.unread }
+last_entry p = record { number = p.studies; unread = p.unread.own }
 
 abbrev pub next_entry : Point → EntryInfo
-next_entry p = record { number = suc p.studies; unread = p.unread }
+next_entry p = record { number = suc p.studies; unread = p.unread.own }
 
 abbrev pub entry_at : ReportPosition → EntryInfo
-entry_at at = record { number = at.studies + 1; unread = at.unread }
+entry_at at = record { number = at.studies + 1; unread = at.unread.own }
 
 -- the text that a line adds, the point after it, and what it reported
 pub record Added : Type 0 where

@@ -1,32 +1,64 @@
--- The line of a study that was not read.
-use Rattle.std.specs.Prelude.{ℕ, Bool, false, not, ◌||◌, List, [], ◌∷◌, Option, Some, None, if◌then◌else◌, codes}
-use Rattle.std.specs.Str.{bytes_eq}
+-- The refused edits of a study, for which a report says that the study was not read.
+use Rattle.std.specs.Prelude.{ℕ, Bool, true, false, List, [], ◌∷◌, Option, Some, None, if◌then◌else◌}
 use Rattle.study_text.specs.Words.{words}
+use Rattle.study_command.specs.declared.command.Keyword.{Keyword}
+use Rattle.study_command.specs.declared.command.Keyword.TheVariants.{Pgn}
+use Rattle.study_command.specs.declared.command.CommandKind.{CommandKind}
+use Rattle.study_command.specs.declared.command.CommandKind.TheVariants.{Edit, Question, Table}
+use Rattle.study_command.specs.Parser.{word_of}
+use Rattle.study_command.specs.Kinds.{kind_of}
 use Rattle.study_script.specs.Replies.{begins_position}
+use Rattle.study_report.specs.declared.unread_line.Unread.{Unread}
 use Rattle.study_report.specs.declared.line_outcome.LineOutcome.{LineOutcome}
 use Rattle.study_report.specs.declared.line_outcome.LineOutcome.TheVariants.{Nothing, Study as AStudy, Refusal as ARefusal}
 
--- the first word of a question, or of a line of a table: a study is the same without it
-unfoldable pub is_question : List ℕ → Bool
-is_question word =
-    bytes_eq word (codes "mark") || (bytes_eq word (codes "moves") || (bytes_eq word (codes "fen") || (bytes_eq word (codes "solve")
-    || (bytes_eq word (codes "pgn") || (bytes_eq word (codes "build") || (bytes_eq word (codes "load") || (bytes_eq word (codes "save")
-    || bytes_eq word (codes "verify"))))))))
+abbrev pub is_of_edit : CommandKind → Bool
+is_of_edit Edit = true
+is_of_edit Question = false
+is_of_edit Table = false
 
-abbrev pub gives : List (List ℕ) → Bool
-gives [] = false
-gives (first ∷ more) = not (is_question first)
+-- the word of an edit; one that begins no command was meant as one
+abbrev pub edits : Option Keyword → Bool
+edits None = true
+edits (Some word) = is_of_edit (kind_of word)
 
--- a line that gives something to a study, or was meant to: its first word is none of a question or a table
+abbrev pub begins_edit : List (List ℕ) → Bool
+begins_edit [] = false
+begins_edit (first ∷ more) = edits (word_of first)
+
+-- a line that gives something to a study, or was meant to
 unfoldable pub is_edit : List ℕ → Bool
-is_edit line = gives (words line)
+is_edit line = begins_edit (words line)
+
+abbrev pub is_pgn_word : Option Keyword → Bool
+is_pgn_word (Some Pgn) = true
+is_pgn_word _ = false
+
+abbrev pub begins_pgn : List (List ℕ) → Bool
+begins_pgn [] = false
+begins_pgn (first ∷ more) = is_pgn_word (word_of first)
+
+-- the first word is `pgn`
+unfoldable pub is_pgn : List ℕ → Bool
+is_pgn line = begins_pgn (words line)
 
 abbrev pub first_of : Option ℕ → ℕ → Option ℕ
 first_of None number = Some number
 first_of (Some first) number = Some first
 
--- The first refused edit of the study in the document, after a line of this number: an accepted `position` begins another study.
-abbrev pub unread_after : Option ℕ → ℕ → List ℕ → LineOutcome → Option ℕ
-unread_after old number line Nothing = if begins_position line then None else old
-unread_after old number line AStudy = old
-unread_after old number line ARefusal = if is_edit line then first_of old number else old
+abbrev pub none_unread : Unread
+none_unread = record { own = None; ahead = None; reported = false }
+
+-- An edit that is refused after its study was reported may belong to the next study; a refused `pgn` ends a study that has no position.
+unfoldable pub unread_refused : Unread → ℕ → List ℕ → Unread
+unread_refused old number line =
+    if is_pgn line then record { own = old.own; ahead = None; reported = old.reported }
+    else (if is_edit line
+    then record { own = first_of old.own number; ahead = if old.reported then first_of old.ahead number else old.ahead; reported = old.reported }
+    else old)
+
+-- The refused edits after a line of this number: an accepted `position` begins another study, to which those after the last report belong.
+abbrev pub unread_after : Unread → ℕ → List ℕ → LineOutcome → Unread
+unread_after old number line Nothing = if begins_position line then record { own = old.ahead; ahead = None; reported = false } else old
+unread_after old number line AStudy = record { own = old.own; ahead = None; reported = true }
+unread_after old number line ARefusal = unread_refused old number line

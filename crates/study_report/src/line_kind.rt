@@ -4,7 +4,7 @@ ghost use Rattle.study_command.specs.Parser.{command_of};
 ghost use Rattle.study_script.specs.Replies.{class_parsed};
 ghost use Rattle.study_report.specs.Reported.{kind_in, line_kind, class_kind};
 
-use crate::remarks::{is_left_out, is_omission, is_original};
+use crate::remarks::is_shown;
 use study_command::{Command, read_command};
 use study_material::Class;
 
@@ -27,7 +27,7 @@ pub enum LineKind {
 pub fn kind_of(line: &[u8]) -> LineKind
     ensures { result ≡ line_kind line.now }
 {
-    if is_left_out(line) || is_original(line) || is_omission(line) {
+    if is_shown(line) {
         return LineKind::Remark;
     }
     command_kind(line)

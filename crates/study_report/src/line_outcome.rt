@@ -2,12 +2,14 @@
 ghost use Rattle.std.specs.Prelude.{◌≡◌};
 ghost use Rattle.study_report.specs.Reported.{study_count, refusal_count};
 
-/// The number of a line, the number of studies reported before it, and the first refused edit of the study in the document.
+use crate::unread_line::Unread;
+
+/// The number of a line, the number of studies reported before it, and the refused edits of the study in the document.
 #[derive(Clone, Copy, Debug)]
 pub struct ReportPosition {
     pub line: u32,
     pub studies: u32,
-    pub unread: Option<u32>,
+    pub unread: Unread,
 }
 
 /// The outcome of one line.

@@ -1,7 +1,8 @@
 //! A report in lines of plain text, a fact a line.
-ghost use Rattle.std.specs.Prelude.{◌≡◌, drop, OnOk, OnErr};
+ghost use Rattle.std.specs.Prelude.{◌++◌, ◌∷◌, [], OnOk, OnErr};
 ghost use Rattle.std.specs.Io.KnownBytes.{Appends};
 ghost use Rattle.study_text.specs.Taken.{TakesPrefix};
+ghost use Rattle.study_reply.specs.Replied.{refused_words, error_text};
 ghost use Rattle.study_report.specs.Lines.{refusal_line, no_remark};
 
 use crate::report::Report;
@@ -10,6 +11,7 @@ use std::alloc::Allocator;
 use std::io::Write;
 use study_facts::{EntryInfo, ReviewFault, WriteFault};
 use study_marks::Bench;
+use study_reply::{LineRefusal, write_refused_words};
 use study_review::write_review;
 use study_text::{DeviceFailed, write_text};
 use study_values::Values;
@@ -19,6 +21,7 @@ use study_values::Values;
 pub struct Lines;
 
 impl Report for Lines {
+    ghost use Rattle.study_reply.specs.Replied.{refused_words, error_text};
     ghost use Rattle.study_report.specs.Lines.{IsReviewAs, IsReviewForm};
 
     ghost tells = { λ plain info text. IsReviewAs plain info text };
@@ -43,15 +46,15 @@ impl Report for Lines {
         write_review(alloc, bench, values, info.number, out)
     }
 
-    fn add_refusal<'a, A: Allocator, W: Write>(
+    fn add_refusal<'a, 'b, A: Allocator, B: Allocator, W: Write>(
         &mut self,
         _alloc: &'a A,
         number: u32,
         _line: &[u8],
-        reply: &[u8],
+        refused: &LineRefusal<'b, B>,
         out: &mut W,
     ) -> Result<(), WriteFault> {
-        put_refusal(out, number, reply)?;
+        put_refusal(out, number, refused)?;
         Ok(())
     }
 
@@ -65,25 +68,37 @@ impl Report for Lines {
     }
 }
 
-/// The reply to a refused line without `error `.
-pub fn refusal_words(reply: &[u8]) -> &[u8]
-    ensures { result.now ≡ drop 6 reply.now }
-{
-    if reply.len() < 6 {
-        return &reply[reply.len()..];
-    }
-    &reply[6..]
-}
-
-fn put_refusal<W: Write>(out: &mut W, number: u32, reply: &[u8]) -> Result<(), DeviceFailed>
+/// Writes `refused 7 NoTable KRK`.
+fn put_refusal<'b, W: Write, B: Allocator>(
+    out: &mut W,
+    number: u32,
+    refused: &LineRefusal<'b, B>,
+) -> Result<(), DeviceFailed>
     ensures ok { OnOk result
-        (Appends (W.contents out.old) (W.contents out.new) (refusal_line number reply.now)) }
+        (Appends (W.contents out.old) (W.contents out.new)
+        (refusal_line number (error_text refused.now))) }
     ensures err { OnErr result
-        (TakesPrefix (W.contents out.old) (W.contents out.new) (refusal_line number reply.now)) }
+        (TakesPrefix (W.contents out.old) (W.contents out.new)
+        (refusal_line number (error_text refused.now))) }
 {
     write_text(out, b"refused ")?;
     let mut buffer = Buffer::new();
     write_text(out, buffer.format(number).as_bytes())?;
     write_text(out, b" ")?;
-    write_text(out, refusal_words(reply))
+    write_refused_line(out, refused)
+}
+
+/// Writes the words of a refusal as a line.
+fn write_refused_line<'b, W: Write, B: Allocator>(
+    out: &mut W,
+    refused: &LineRefusal<'b, B>,
+) -> Result<(), DeviceFailed>
+    ensures ok { OnOk result
+        (Appends (W.contents out.old) (W.contents out.new) (refused_words refused.now ++ 10 ∷ [])) }
+    ensures err { OnErr result
+        (TakesPrefix (W.contents out.old) (W.contents out.new)
+        (refused_words refused.now ++ 10 ∷ [])) }
+{
+    write_refused_words(out, refused)?;
+    write_text(out, b"\n")
 }

@@ -9,12 +9,14 @@ ghost use Rattle.study_marks.specs.Study.{plain_study};
 ghost use Rattle.study_facts.specs.Asked.{within};
 ghost use Rattle.study_facts.specs.Order.{HasReviewed};
 ghost use Rattle.study_facts.specs.declared.entry.EntryInfo.{EntryInfo as AnEntry};
+ghost use Rattle.study_reply.specs.Replied.{error_text};
 ghost use Rattle.study_report.specs.Reported.{Entry, study_entry, games_in};
 
 use std::alloc::Allocator;
 use std::io::Write;
 use study_facts::{EntryInfo, ReviewFault, WriteFault};
 use study_marks::Bench;
+use study_reply::LineRefusal;
 use study_values::Values;
 
 /// The text of a report for a study, for a refused line, and for a remark.
@@ -66,21 +68,21 @@ pub trait Report {
         ensures asked { HasReviewed (within (marked_study bench.now).start.position V.source)
             values.old result values.new };
 
-    /// Reports a refused line: its number, its bytes, and the script's reply to it.
-    fn add_refusal<'a, A: Allocator, W: Write>(
+    /// Reports a refused line: its number, its bytes, and why it is refused.
+    fn add_refusal<'a, 'b, A: Allocator, B: Allocator, W: Write>(
         &mut self,
         alloc: &'a A,
         number: u32,
         line: &[u8],
-        reply: &[u8],
+        refused: &LineRefusal<'b, B>,
         out: &mut W,
     ) -> Result<(), WriteFault>
         ensures reported { OnOk result
             (Appends (W.contents out.old) (W.contents out.new)
-            (refusal number line.now reply.now)) }
+            (refusal number line.now (error_text refused.now))) }
         ensures device { result ≡ Err WriteFault.Device
             → TakesPrefix (W.contents out.old) (W.contents out.new)
-            (refusal number line.now reply.now) }
+            (refusal number line.now (error_text refused.now)) }
         ensures memory { result ≡ Err WriteFault.OutOfMemory → out.new ≡ out.old }
         ensures listed { (reported : List Entry) → lists self.old reported
             → lists self.new reported };

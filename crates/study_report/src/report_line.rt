@@ -1,17 +1,19 @@
 //! What a line adds to a report.
-ghost use Rattle.std.specs.Prelude.{◌≡◌, ◌<◌, ◌+◌, ◌⊎◌, ℕ, suc, List, ◌++◌, IfOk, IfErr, codes};
+ghost use Rattle.std.specs.Prelude.{◌≡◌, ◌<◌, ◌+◌, ◌⊎◌, ℕ, suc, false, List, ◌++◌, IfOk, IfErr, codes};
 ghost use Rattle.std.specs.Io.KnownBytes.{Appends};
 ghost use Rattle.study_marks.specs.Edits.{PlainStudy};
 ghost use Rattle.study_reply.specs.Names.{words_of};
+ghost use Rattle.study_reply.specs.Replied.{error_text};
 ghost use Rattle.study_reply.specs.Words.{reply_line};
 ghost use Rattle.study_script.specs.declared.running.RunFault.TheVariants.{WriteDevice, OutOfMemory};
 ghost use Rattle.study_script.specs.State.{State, study};
 ghost use Rattle.study_script.specs.SessionHolds.{Holds, document_seen};
 ghost use Rattle.study_script.specs.Session.{SessionHolds};
 ghost use Rattle.study_script.specs.Stores.{HonestOn, IsTrusted};
-ghost use Rattle.study_report.specs.Reported.{Point, line_kind, IsAdded, IsAddedAs, IsAt, IsStudyReported, study_count, Entry, entry_at, games_in, listed_in};
-ghost use Rattle.study_report.specs.Written.{none_trusted, Adds, StopsIn, Stops, IsReplied};
-ghost use Rattle.study_report.specs.Parts.{IsReplyPiece, IsPart, IsPartAs, WritesPart};
+ghost use Rattle.study_report.specs.Reported.{Point, line_kind, IsAdded, IsAddedAs, IsAt, IsStudyReported, lacks_study, study_count};
+ghost use Rattle.study_report.specs.Reported.{Entry, entry_at, games_in, listed_in};
+ghost use Rattle.study_report.specs.Written.{none_trusted, Adds, StopsIn, Stops};
+ghost use Rattle.study_report.specs.Parts.{IsPart, IsPartAs, WritesPart};
 
 use crate::line_kind::{LineKind, kind_of};
 use crate::line_outcome::{LineOutcome, ReportPosition};
@@ -20,60 +22,30 @@ use crate::section::{add_section, lacks_study};
 use std::alloc::Allocator;
 use std::io::Write;
 use study_facts::{EntryInfo, ReviewFault, WriteFault};
-use study_reply::{Refusal, of_probe, write_refusal};
+use study_reply::{LineRefusal, Refusal, of_probe};
 use study_script::{Document, RunFault, Session, TableStore, Tables};
 use study_tablefile::PageSource;
-use study_text::MemoryWriter;
-
-/// The reply to a line, in memory.
-#[derive(Drop)]
-struct LineReply<'a, A: Allocator> {
-    text: MemoryWriter<'a, A>,
-    refused: bool,
-}
-
-/// Answers a line as a script does that keeps studies apart.
-fn reply_in_memory<'a, 's, S: TableStore, A: Allocator>(
-    session: &mut Session<'a, 's, S, A>,
-    line: &[u8],
-) -> Result<LineReply<'a, A>, RunFault>
-    ensures ok { (s : State) → IsTrusted none_trusted line.now
-        → SessionHolds S.Pages.honest S.Pages.gives
-        (HonestOn none_trusted S.honest) S.files S.headers S.faults
-        session.old.document session.old.tables session.old.store.now s
-        → IfOk result (λ r. IsReplied s line.now
-        (SessionHolds S.Pages.honest S.Pages.gives
-        (HonestOn none_trusted S.honest) S.files S.headers S.faults
-        session.new.document session.new.tables session.new.store.now)
-        r.text.taken.items r.refused) }
-    ensures written { IfOk result (λ r. IsReplyPiece line.now r.text.taken.items r.refused) }
-    ensures err { IfErr result (λ e. e ≡ OutOfMemory) }
-{
-    let mut text = MemoryWriter::new(session.alloc);
-    match session.answer_apart(line, &mut text) {
-        Ok(refused) => Ok(LineReply { text, refused }),
-        Err(_) => Err(RunFault::OutOfMemory),
-    }
-}
 
 /// Reports a refused line.
-fn add_refusal<'a, A: Allocator, W: Write, T: Report>(
+fn add_refusal<'a, 'b, A: Allocator, B: Allocator, W: Write, T: Report>(
     alloc: &'a A,
     report: &mut T,
     number: u32,
     line: &[u8],
-    reply: &[u8],
+    refused: &LineRefusal<'b, B>,
     out: &mut W,
 ) -> Result<LineOutcome, RunFault>
     ensures ok { IfOk result (λ reported. (reported ≡ LineOutcome.Refusal)
-        × Appends (W.contents out.old) (W.contents out.new) (T.refusal number line.now reply.now)) }
+        × Appends (W.contents out.old) (W.contents out.new)
+        (T.refusal number line.now (error_text refused.now))) }
     ensures err { IfErr result
-        (StopsIn (T.refusal number line.now reply.now) (W.contents out.old) (W.contents out.new)) }
+        (StopsIn (T.refusal number line.now (error_text refused.now))
+        (W.contents out.old) (W.contents out.new)) }
     ensures listed { (reported : List Entry) → T.lists report.old reported
         → T.lists report.new reported }
     ensures stops { IfErr result (λ e. (e ≡ WriteDevice) ⊎ (e ≡ OutOfMemory)) }
 {
-    match report.add_refusal(alloc, number, line, reply, out) {
+    match report.add_refusal(alloc, number, line, refused, out) {
         Ok(()) => Ok(LineOutcome::Refusal),
         Err(WriteFault::OutOfMemory) => Err(RunFault::OutOfMemory),
         Err(WriteFault::Device) => Err(RunFault::WriteDevice),
@@ -99,11 +71,8 @@ fn refuse_line<'a, A: Allocator, W: Write, T: Report>(
         → T.lists report.new reported }
     ensures stops { IfErr result (λ e. (e ≡ WriteDevice) ⊎ (e ≡ OutOfMemory)) }
 {
-    let mut reply = MemoryWriter::new(alloc);
-    if write_refusal(&mut reply, refusal).is_err() {
-        return Err(RunFault::OutOfMemory);
-    }
-    add_refusal(alloc, report, number, line, reply.taken.as_slice(), out)
+    let refused: LineRefusal<'a, A> = LineRefusal::Line(refusal);
+    add_refusal(alloc, report, number, line, &refused, out)
 }
 
 /// Shows a remark.
@@ -165,15 +134,13 @@ fn answer_silently<'a, 's, S: TableStore, A: Allocator, W: Write, T: Report>(
         (W.contents out.old) (W.contents out.new)) }
     ensures stops { IfErr result (λ e. (e ≡ WriteDevice) ⊎ (e ≡ OutOfMemory)) }
 {
-    let reply = reply_in_memory(session, line)?;
-    if reply.refused {
-        let bytes = reply.text.taken.as_slice();
-        return add_refusal(session.alloc, report, number, line, bytes, out);
+    match session.execute_apart(line) {
+        Ok(_) => Ok(LineOutcome::Nothing),
+        Err(refused) => add_refusal(session.alloc, report, number, line, &refused, out),
     }
-    Ok(LineOutcome::Nothing)
 }
 
-/// Reports the study in the document, after so many studies; if that cannot be done, the line is refused.
+/// Reports the study in the document, after so many studies; if that cannot be done, the line is refused. No PGN is made.
 fn report_study<'a, P: PageSource, A: Allocator, W: Write, T: Report>(
     alloc: &'a A,
     document: &Document<'a, A>,
@@ -184,6 +151,7 @@ fn report_study<'a, P: PageSource, A: Allocator, W: Write, T: Report>(
     out: &mut W,
 ) -> Result<LineOutcome, RunFault>
     requires few { at.studies < 100000 }
+    requires here { lacks_study (document_seen document.now) ≡ false }
     ensures ok { (p : Point) (s : State) (plain : PlainStudy)
         → Holds P.honest P.gives document.now tables.old s → s.document ≡ study plain
         → IsAt p at
@@ -208,12 +176,9 @@ fn report_study<'a, P: PageSource, A: Allocator, W: Write, T: Report>(
         (W.contents out.old) (W.contents out.new)) }
     ensures stops { IfErr result (λ e. (e ≡ WriteDevice) ⊎ (e ≡ OutOfMemory)) }
 {
-    if lacks_study(document) {
-        return refuse_line(alloc, report, at.line, line, Refusal::NoStudy, out);
-    }
     let info = EntryInfo {
         number: at.studies + 1,
-        unread: at.unread,
+        unread: at.unread.own,
     };
     match add_section(alloc, document, tables, report, info, out) {
         Ok(()) => Ok(LineOutcome::Study),
@@ -270,14 +235,11 @@ fn add_pgn<'a, 's, S: TableStore, A: Allocator, W: Write, T: Report>(
         (W.contents out.old) (W.contents out.new)) }
     ensures stops { IfErr result (λ e. (e ≡ WriteDevice) ⊎ (e ≡ OutOfMemory)) }
 {
-    let alloc = session.alloc;
-    let reply = reply_in_memory(session, line)?;
-    if reply.refused {
-        let bytes = reply.text.taken.as_slice();
-        return add_refusal(alloc, report, at.line, line, bytes, out);
+    if lacks_study(&session.document) {
+        return refuse_line(session.alloc, report, at.line, line, Refusal::NoStudy, out);
     }
     report_study(
-        alloc,
+        session.alloc,
         &session.document,
         &mut session.tables,
         report,

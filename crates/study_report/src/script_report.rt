@@ -14,7 +14,7 @@ use crate::line_outcome::ReportPosition;
 use crate::no_files::NoFiles;
 use crate::report::Report;
 use crate::report_line::add_line;
-use crate::unread_line::unread_after;
+use crate::unread_line::{Unread, unread_after};
 use std::alloc::Allocator;
 use std::io::{Read, Write};
 use study_command::{Line, LineFault, read_byte};
@@ -75,7 +75,7 @@ pub fn report_session<'a, 's, R: Read, W: Write, S: TableStore, A: Allocator, T:
 {
     let mut refused = 0u32;
     let mut studies = 0u32;
-    let mut unread = None;
+    let mut unread = Unread::none();
     for n in 0..100_000u32 {
         match line.read(script) {
             Err(LineFault::Device) => return Err(RunFault::ReadDevice),

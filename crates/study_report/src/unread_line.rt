@@ -1,25 +1,34 @@
 //! The line of a study that was not read.
 ghost use Rattle.std.specs.Prelude.{◌≡◌};
-ghost use Rattle.study_report.specs.Unread.{is_question, is_edit, first_of, unread_after};
+ghost use Rattle.study_report.specs.Unread.{is_edit, is_pgn, first_of, none_unread, unread_after, unread_refused};
 
 use crate::line_outcome::LineOutcome;
+use study_command::{CommandKind, Keyword, read_keyword};
 use study_script::begins_position;
 use study_text::next_word;
 
-/// Whether a line with this first word is a question, or of a table.
-#[tactic(auto, unfolding(crate::specs::Unread::is_question))]
-fn is_question(word: &[u8]) -> bool
-    ensures { result ≡ is_question word.now }
-{
-    word == b"mark".as_slice()
-        || word == b"moves".as_slice()
-        || word == b"fen".as_slice()
-        || word == b"solve".as_slice()
-        || word == b"pgn".as_slice()
-        || word == b"build".as_slice()
-        || word == b"load".as_slice()
-        || word == b"save".as_slice()
-        || word == b"verify".as_slice()
+/// The refused edits of the study in the document, and of the one after it.
+#[derive(Clone, Copy, Debug, PartialEq, Eq)]
+pub struct Unread {
+    /// The line of the first refused edit of the study in the document.
+    pub own: Option<u32>,
+    /// That of the first refused edit after the study was reported: it may belong to the next study.
+    pub ahead: Option<u32>,
+    /// Whether the study was reported.
+    pub reported: bool,
+}
+
+impl Unread {
+    /// Before the first line.
+    pub fn none() -> Unread
+        ensures { result ≡ none_unread }
+    {
+        Unread {
+            own: None,
+            ahead: None,
+            reported: false,
+        }
+    }
 }
 
 /// Whether a line gives something to a study, or was meant to.
@@ -28,7 +37,24 @@ fn is_edit(line: &[u8]) -> bool
     ensures { result ≡ is_edit line.now }
 {
     match next_word(line) {
-        Some((first, _)) => !is_question(first),
+        Some((first, _)) => match read_keyword(first) {
+            Some(word) => word.kind() == CommandKind::Edit,
+            None => true,
+        },
+        None => false,
+    }
+}
+
+/// Whether the first word of a line is `pgn`.
+#[tactic(auto, unfolding(crate::specs::Unread::is_pgn))]
+fn is_pgn(line: &[u8]) -> bool
+    ensures { result ≡ is_pgn line.now }
+{
+    match next_word(line) {
+        Some((first, _)) => match read_keyword(first) {
+            Some(Keyword::Pgn) => true,
+            _ => false,
+        },
         None => false,
     }
 }
@@ -42,19 +68,49 @@ fn first_of(old: Option<u32>, number: u32) -> Option<u32>
     }
 }
 
-/// The first refused edit of the study in the document, after the line of this number.
-pub fn unread_after(old: Option<u32>, number: u32, line: &[u8], outcome: LineOutcome) -> Option<u32>
+/// After a refused line of this number.
+#[tactic(auto, unfolding(crate::specs::Unread::unread_refused))]
+fn after_refusal(old: Unread, number: u32, line: &[u8]) -> Unread
+    ensures { result ≡ unread_refused old number line.now }
+{
+    if is_pgn(line) {
+        return Unread { ahead: None, ..old };
+    }
+    if !is_edit(line) {
+        return old;
+    }
+    Unread {
+        own: first_of(old.own, number),
+        ahead: if old.reported {
+            first_of(old.ahead, number)
+        } else {
+            old.ahead
+        },
+        reported: old.reported,
+    }
+}
+
+/// The refused edits after the line of this number.
+pub fn unread_after(old: Unread, number: u32, line: &[u8], outcome: LineOutcome) -> Unread
     ensures { result ≡ unread_after old number line.now outcome }
 {
     match outcome {
-        LineOutcome::Nothing => { if begins_position(line) { None } else { old } }
-        LineOutcome::Study => old,
-        LineOutcome::Refusal => {
-            if is_edit(line) {
-                first_of(old, number)
+        LineOutcome::Nothing => {
+            if begins_position(line) {
+                Unread {
+                    own: old.ahead,
+                    ahead: None,
+                    reported: false,
+                }
             } else {
                 old
             }
         }
+        LineOutcome::Study => Unread {
+            own: old.own,
+            ahead: None,
+            reported: true,
+        },
+        LineOutcome::Refusal => after_refusal(old, number, line),
     }
 }

@@ -3,9 +3,9 @@ use std::alloc::Allocator;
 use std::io::Write;
 use study_facts::EntryInfo;
 use study_marks::Bench;
-use study_page::{write_place, write_refusal};
-use study_print::refusal_name;
-use study_reply::reason_of;
+use study_page::write_place;
+use study_print::write_refused;
+use study_reply::LineRefusal;
 use study_report::{Report, ReviewFault, WriteFault};
 use study_values::Values;
 
@@ -46,16 +46,15 @@ impl Report for Sheet {
         }
     }
 
-    fn add_refusal<'a, A: Allocator, W: Write>(
+    fn add_refusal<'a, 'b, A: Allocator, B: Allocator, W: Write>(
         &mut self,
         alloc: &'a A,
         number: u32,
         line: &[u8],
-        reply: &[u8],
+        refused: &LineRefusal<'b, B>,
         out: &mut W,
     ) -> Result<(), WriteFault> {
-        let refusal = refusal_name(reply);
-        write_refusal(alloc, number, line, refusal, reason_of(refusal), out)
+        write_refused(alloc, number, line, refused, out)
     }
 
     fn add_remark<'a, A: Allocator, W: Write>(

@@ -7,13 +7,13 @@ use study_list::write_list;
 use study_script::{RunFault, Summary};
 use study_text::{MemoryReader, MemoryWriter, WhenFull};
 
-/// A study without a move, of which a field needs quotation marks, a refused line, a study whose stipulation does not hold, and remarks of studyimport.
+/// A study without a move, of which a field needs quotation marks, a refused question, a study whose stipulation does not hold, and remarks of studyimport.
 const SCRIPT: &str = "position k7/8/8/8/8/8/8/K7 w - - 0 1
 stipulate white draw
 tag Event He said \"mate\", twice
 tag White R & D
 pgn
-delete 7, please
+mark 7, please
 position k7/8/8/8/8/8/8/K7 b - - 0 5
 stipulate white win
 tag Event ?
@@ -30,13 +30,13 @@ pgn
 
 const LIST: &str = "Number,Title,Author,FEN,Stipulation,Verdict\r
 1,\"He said \"\"mate\"\", twice\",R & D,k7/8/8/8/8/8/8/K7 w - - 0 1,White to draw,holds\r
-,\"line 6: delete 7, please\",,,,refused: BadArguments\r
+,\"line 6: mark 7, please\",,,,refused: BadArguments\r
 2,,,k7/8/8/8/8/8/8/K7 b - - 0 5,White to win,wrong\r
 ,\"game 3, line 31 (Kasparyan, G.)\",,,,\"left out: 7 men\"\r
 ,\"game 4, line 52, column 17\",,,,\"NoSuchMove at \"\"Kb6\"\"\"\r
 ";
 
-/// Studies of which a question, a move, a tag, a line of a table and an unknown command are refused.
+/// Studies of which a question, a move, a tag, a line of a table and an unknown command are refused, and one whose tag is refused before its position.
 const NOT_READ: &str = "position k7/8/8/8/8/8/8/K7 w - - 0 1
 stipulate white draw
 mark 5
@@ -48,6 +48,9 @@ position k7/8/8/8/8/8/8/K7 b - - 0 5
 load XYZ
 pgn
 insrt root Kb8
+pgn
+tag Foo y
+position k7/8/8/8/8/8/8/K7 w - - 0 1
 pgn
 ";
 
@@ -61,6 +64,8 @@ const NOT_READ_LIST: &str = "Number,Title,Author,FEN,Stipulation,Verdict\r
 3,,,k7/8/8/8/8/8/8/K7 b - - 0 5,White to draw,holds\r
 ,line 11: insrt root Kb8,,,,refused: UnknownCommand\r
 4,,,k7/8/8/8/8/8/8/K7 b - - 0 5,White to draw,not read: line 11\r
+,line 13: tag Foo y,,,,refused: UnknownTag\r
+5,,,k7/8/8/8/8/8/8/K7 w - - 0 1,White to draw,not read: line 13\r
 ";
 
 /// The list that is written to this writer, and the result.
@@ -92,8 +97,8 @@ fn each_study_has_its_record(rt: HostRuntime) -> Result<(), Fail> {
     Ok(())
 }
 
-/// A study has no verdict if a line of it was refused before its `pgn`: questions and lines of tables are none of it, and the next `position` begins
-/// another study.
+/// A study has no verdict if a line of it was refused, behind its `position` or behind the `pgn` of the study before: questions and lines of tables are
+/// none of it.
 #[test]
 fn a_study_that_is_not_read_has_no_verdict(rt: HostRuntime) -> Result<(), Fail> {
     let alloc = rt.alloc();

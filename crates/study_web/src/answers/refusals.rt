@@ -4,6 +4,7 @@ use std::alloc::Allocator;
 use std::io::Write;
 use study_facts::{EntryInfo, ReviewFault};
 use study_marks::Bench;
+use study_reply::LineRefusal;
 use study_report::{Lines, Report, WriteFault};
 use study_values::Values;
 
@@ -38,15 +39,15 @@ impl Report for Refusals {
         Ok(())
     }
 
-    fn add_refusal<'a, A: Allocator, W: Write>(
+    fn add_refusal<'a, 'b, A: Allocator, B: Allocator, W: Write>(
         &mut self,
         alloc: &'a A,
         number: u32,
         line: &[u8],
-        reply: &[u8],
+        refused: &LineRefusal<'b, B>,
         out: &mut W,
     ) -> Result<(), WriteFault> {
-        Lines.add_refusal(alloc, number, line, reply, out)
+        Lines.add_refusal(alloc, number, line, refused, out)
     }
 
     fn add_remark<'a, A: Allocator, W: Write>(

@@ -1,4 +1,5 @@
-use Rattle.std.proofs.Common.{◌++◌, codes, decimal, drop}
+use Rattle.std.proofs.Common.{◌++◌, ◌∷◌, [], codes, decimal}
+use Rattle.study_reply.specs.Replied.{refused_words}
 use Rattle.study_text.proofs.TextTaken.{TakesPrefix-first, TakesPrefix-second, OnErr-known}
 use Rattle.std.proofs.lemmas.Result.{on_err_weaker}
 use Rattle.study_report.proofs.lines.put_refusal.Goals as goal
@@ -6,25 +7,26 @@ use Rattle.study_report.proofs.lines.put_refusal.Goals as goal
 pub returns-in_err-write_text-clause-err : goal.returns-in_err-write_text-clause-err
 returns-in_err-write_text-clause-err g c =
     OnErr-known _ _ (TakesPrefix-first (g.W.Write.contents c.args.out.now) (g.W.Write.contents c.write_text.new.out)
-    (codes "refused ") (decimal c.args.number ++ (codes " " ++ drop 6 c.args.reply.now)) c.in_err-write_text.ensures.err)
+    (codes "refused ") (decimal c.args.number ++ (codes " " ++ (refused_words c.args.refused.now ++ 10 ∷ []))) c.in_err-write_text.ensures.err)
 
 pub returns-in_err-write_text-2-clause-err : goal.returns-in_err-write_text-2-clause-err
 returns-in_err-write_text-2-clause-err g c =
     OnErr-known _ _ (TakesPrefix-second (g.W.Write.contents c.args.out.now) (g.W.Write.contents c.write_text.new.out)
-    (g.W.Write.contents c.write_text-2.new.out) (codes "refused ") (decimal c.args.number ++ (codes " " ++ drop 6 c.args.reply.now))
+    (g.W.Write.contents c.write_text-2.new.out) (codes "refused ") (decimal c.args.number ++ (codes " " ++ (refused_words c.args.refused.now ++ 10 ∷ [])))
     c.in_ok-write_text.ensures.ok
     (TakesPrefix-first (g.W.Write.contents c.write_text.new.out) (g.W.Write.contents c.write_text-2.new.out) (decimal c.args.number)
-    (codes " " ++ drop 6 c.args.reply.now) (rw (c.as_bytes.ensures.value, c.format.ensures.text) at c.in_err-write_text-2.ensures.err)))
+    (codes " " ++ (refused_words c.args.refused.now ++ 10 ∷ [])) (rw (c.as_bytes.ensures.value, c.format.ensures.text) at c.in_err-write_text-2.ensures.err)))
 
 pub returns-in_err-write_text-3-clause-err : goal.returns-in_err-write_text-3-clause-err
 returns-in_err-write_text-3-clause-err g c =
     OnErr-known _ _ (TakesPrefix-second (g.W.Write.contents c.args.out.now) (g.W.Write.contents c.write_text.new.out)
-    (g.W.Write.contents c.write_text-3.new.out) (codes "refused ") (decimal c.args.number ++ (codes " " ++ drop 6 c.args.reply.now))
+    (g.W.Write.contents c.write_text-3.new.out) (codes "refused ") (decimal c.args.number ++ (codes " " ++ (refused_words c.args.refused.now ++ 10 ∷ [])))
     c.in_ok-write_text.ensures.ok
     (TakesPrefix-second (g.W.Write.contents c.write_text.new.out) (g.W.Write.contents c.write_text-2.new.out) (g.W.Write.contents c.write_text-3.new.out)
-    (decimal c.args.number) (codes " " ++ drop 6 c.args.reply.now) (rw (c.as_bytes.ensures.value, c.format.ensures.text) at c.in_ok-write_text-2.ensures.ok)
-    (TakesPrefix-first (g.W.Write.contents c.write_text-2.new.out) (g.W.Write.contents c.write_text-3.new.out) (codes " ") (drop 6 c.args.reply.now)
-    c.in_err-write_text-3.ensures.err)))
+    (decimal c.args.number) (codes " " ++ (refused_words c.args.refused.now ++ 10 ∷ []))
+    (rw (c.as_bytes.ensures.value, c.format.ensures.text) at c.in_ok-write_text-2.ensures.ok)
+    (TakesPrefix-first (g.W.Write.contents c.write_text-2.new.out) (g.W.Write.contents c.write_text-3.new.out) (codes " ")
+    ((refused_words c.args.refused.now ++ 10 ∷ [])) c.in_err-write_text-3.ensures.err)))
 
 pub returns-clause-err : goal.returns-clause-err
 returns-clause-err g c =
@@ -32,9 +34,10 @@ returns-clause-err g c =
     let one = g.W.Write.contents c.write_text.new.out in
     let two = g.W.Write.contents c.write_text-2.new.out in
     let three = g.W.Write.contents c.write_text-3.new.out in
-    let new = g.W.Write.contents c.write_text-4.new.out in
-    on_err_weaker _ (λ h. TakesPrefix-second old one new (codes "refused ") (decimal c.args.number ++ (codes " " ++ drop 6 c.args.reply.now))
-    c.in_ok-write_text.ensures.ok (TakesPrefix-second one two new (decimal c.args.number) (codes " " ++ drop 6 c.args.reply.now)
+    let new = g.W.Write.contents c.write_refused_line.new.out in
+    on_err_weaker _ (λ h. TakesPrefix-second old one new (codes "refused ")
+    (decimal c.args.number ++ (codes " " ++ (refused_words c.args.refused.now ++ 10 ∷ [])))
+    c.in_ok-write_text.ensures.ok (TakesPrefix-second one two new (decimal c.args.number) (codes " " ++ (refused_words c.args.refused.now ++ 10 ∷ []))
     (rw (c.as_bytes.ensures.value, c.format.ensures.text) at c.in_ok-write_text-2.ensures.ok)
-    (TakesPrefix-second two three new (codes " ") (drop 6 c.args.reply.now) c.in_ok-write_text-3.ensures.ok
-    (rw c.refusal_words.ensures at h)))) c.write_text-4.ensures.err
+    (TakesPrefix-second two three new (codes " ") ((refused_words c.args.refused.now ++ 10 ∷ [])) c.in_ok-write_text-3.ensures.ok
+    h))) c.write_refused_line.ensures.err

@@ -31,25 +31,25 @@ returns-in-Err-OutOfMemory-clause-ok g c = λ p s plain held b at.
     refusal-adds g.T.Report.tells g.T.Report.refusal g.T.Report.remark (IsStudyReported g.T.Report.tells g.T.Report.refusal g.T.Report.remark p s
     c.args.line.now)
     (λ t. (t ≡ s) × Holds g.P.PageSource.honest g.P.PageSource.gives c.args.document.now c.add_section.new.tables t)
-    p c.args.line.now (refused_reply s OutOfMemory) c.args.at.line bytes c.refuse_line-in-Err-OutOfMemory.result
-    (g.W.Write.contents c.args.out.now) (g.W.Write.contents c.refuse_line-in-Err-OutOfMemory.new.out) at.0 refl
+    p c.args.line.now (refused_reply s OutOfMemory) c.args.at.line bytes c.refuse_line.result
+    (g.W.Write.contents c.args.out.now) (g.W.Write.contents c.refuse_line.new.out) at.0 refl
     (left-out g.T.Report.tells g.T.Report.refusal g.T.Report.remark p s c.args.line.now plain OutOfMemory b (inl refl)) (
       refl,
       c.add_section.ensures.holds s held,
     )
-    (subst (λ w. IfOk c.refuse_line-in-Err-OutOfMemory.result (RefusalWritten (g.T.Report.refusal c.args.at.line c.args.line.now bytes) (g.W.Write.contents w)
-    (g.W.Write.contents c.refuse_line-in-Err-OutOfMemory.new.out))) (c.in-Err-OutOfMemory.ensures.memory cc) c.refuse_line-in-Err-OutOfMemory.ensures.ok)
+    (subst (λ w. IfOk c.refuse_line.result (RefusalWritten (g.T.Report.refusal c.args.at.line c.args.line.now bytes) (g.W.Write.contents w)
+    (g.W.Write.contents c.refuse_line.new.out))) (c.in-Err-OutOfMemory.ensures.memory cc) c.refuse_line.ensures.ok)
 
 pub returns-in-Err-OutOfMemory-clause-err : goal.returns-in-Err-OutOfMemory-clause-err
 returns-in-Err-OutOfMemory-clause-err g c = λ p s plain held b at.
     let bytes = reply_line (codes "error ") (words_of OutOfMemory) in
     refusal-stops g.T.Report.tells g.T.Report.refusal g.T.Report.remark (IsStudyReported g.T.Report.tells g.T.Report.refusal g.T.Report.remark p s
     c.args.line.now)
-    p c.args.line.now (refused_reply s OutOfMemory) c.args.at.line bytes c.refuse_line-in-Err-OutOfMemory.result
-    (g.W.Write.contents c.args.out.now) (g.W.Write.contents c.refuse_line-in-Err-OutOfMemory.new.out) at.0 refl
+    p c.args.line.now (refused_reply s OutOfMemory) c.args.at.line bytes c.refuse_line.result
+    (g.W.Write.contents c.args.out.now) (g.W.Write.contents c.refuse_line.new.out) at.0 refl
     (left-out g.T.Report.tells g.T.Report.refusal g.T.Report.remark p s c.args.line.now plain OutOfMemory b (inl refl))
-    (subst (λ w. IfErr c.refuse_line-in-Err-OutOfMemory.result (StopsIn (g.T.Report.refusal c.args.at.line c.args.line.now bytes) (g.W.Write.contents w)
-    (g.W.Write.contents c.refuse_line-in-Err-OutOfMemory.new.out))) (c.in-Err-OutOfMemory.ensures.memory cc) c.refuse_line-in-Err-OutOfMemory.ensures.err)
+    (subst (λ w. IfErr c.refuse_line.result (StopsIn (g.T.Report.refusal c.args.at.line c.args.line.now bytes) (g.W.Write.contents w)
+    (g.W.Write.contents c.refuse_line.new.out))) (c.in-Err-OutOfMemory.ensures.memory cc) c.refuse_line.ensures.err)
 
 pub returns-in-Err-Values-clause-ok : goal.returns-in-Err-Values-clause-ok
 returns-in-Err-Values-clause-ok g c = λ p s plain held b at.
@@ -83,10 +83,10 @@ returns-in-Err-Values-clause-err g c = λ p s plain held b at.
 
 pub returns-in-Err-OutOfMemory-clause-listed : goal.returns-in-Err-OutOfMemory-clause-listed
 returns-in-Err-OutOfMemory-clause-listed g c s reported held kept =
-    refusal-listed (g.T.Report.lists c.refuse_line-in-Err-OutOfMemory.new.report) c.refuse_line-in-Err-OutOfMemory.result reported c.args.line.now s.document
+    refusal-listed (g.T.Report.lists c.refuse_line.new.report) c.refuse_line.result reported c.args.line.now s.document
     (entry_at c.args.at) _
-    (g.W.Write.contents _) (g.W.Write.contents c.refuse_line-in-Err-OutOfMemory.new.out) c.refuse_line-in-Err-OutOfMemory.ensures.ok
-    (c.refuse_line-in-Err-OutOfMemory.ensures.listed reported (c.in-Err-OutOfMemory.ensures.unlisted reported kept))
+    (g.W.Write.contents _) (g.W.Write.contents c.refuse_line.new.out) c.refuse_line.ensures.ok
+    (c.refuse_line.ensures.listed reported (c.in-Err-OutOfMemory.ensures.unlisted reported kept))
 
 pub returns-in-Err-Values-clause-listed : goal.returns-in-Err-Values-clause-listed
 returns-in-Err-Values-clause-listed g c s reported held kept =
@@ -95,38 +95,18 @@ returns-in-Err-Values-clause-listed g c s reported held kept =
     (g.W.Write.contents _) (g.W.Write.contents c.refuse_line-in-Err-Values.new.out) c.refuse_line-in-Err-Values.ensures.ok
     (c.refuse_line-in-Err-Values.ensures.listed reported (c.in-Err-Values.ensures.unlisted reported kept))
 
-pub returns-then-lacks_study-clause-ok : goal.returns-then-lacks_study-clause-ok
-returns-then-lacks_study-clause-ok g c = λ p s plain held b at.
-    absurd (no-study (document_seen c.args.document.now) plain (held.document ∙ b) (sym c.lacks_study.ensures ∙ c.if-lacks_study.true))
-
-pub returns-then-lacks_study-clause-err : goal.returns-then-lacks_study-clause-err
-returns-then-lacks_study-clause-err g c = λ p s plain held b at.
-    absurd (no-study (document_seen c.args.document.now) plain (held.document ∙ b) (sym c.lacks_study.ensures ∙ c.if-lacks_study.true))
-
-pub returns-then-lacks_study-clause-listed : goal.returns-then-lacks_study-clause-listed
-returns-then-lacks_study-clause-listed g c s reported held kept =
-    refusal-listed (g.T.Report.lists c.refuse_line.new.report) c.refuse_line.result reported c.args.line.now s.document (entry_at c.args.at) _
-    (g.W.Write.contents _) (g.W.Write.contents c.refuse_line.new.out) c.refuse_line.ensures.ok
-    (c.refuse_line.ensures.listed reported kept)
-
-pub returns-then-lacks_study-clause-written : goal.returns-then-lacks_study-clause-written
-returns-then-lacks_study-clause-written g c =
-    refusal-part g.T.Report.form g.T.Report.refusal g.T.Report.remark c.args.line.now c.args.at.line (c.args.at.studies + 1) (words_of NoStudy)
-    c.refuse_line.result
-    (g.W.Write.contents c.args.out.now) (g.W.Write.contents c.refuse_line.new.out) c.refuse_line.ensures.ok
-
 pub returns-in-Ok-clause-written : goal.returns-in-Ok-clause-written
 returns-in-Ok-clause-written g c =
     study-in g.T.Report.form g.T.Report.refusal g.T.Report.remark c.args.line.now c.args.at.line (c.args.at.studies + 1)
     (g.W.Write.contents c.args.out.now) (g.W.Write.contents c.add_section.new.out)
-    (c.in-Ok.ensures.formed (sym c.lacks_study.ensures ∙ c.if-lacks_study.false))
+    (c.in-Ok.ensures.formed c.requires.here)
 
 pub returns-in-Err-OutOfMemory-clause-written : goal.returns-in-Err-OutOfMemory-clause-written
 returns-in-Err-OutOfMemory-clause-written g c =
     left-out-part g.T.Report.form g.T.Report.refusal g.T.Report.remark c.args.line.now c.args.at.line (c.args.at.studies + 1) OutOfMemory
-    c.refuse_line-in-Err-OutOfMemory.result
-    (g.W.Write.contents c.args.out.now) (g.W.Write.contents c.add_section.new.out) (g.W.Write.contents c.refuse_line-in-Err-OutOfMemory.new.out)
-    (ap (λ w. g.W.Write.contents w) (c.in-Err-OutOfMemory.ensures.memory cc)) c.refuse_line-in-Err-OutOfMemory.ensures.ok
+    c.refuse_line.result
+    (g.W.Write.contents c.args.out.now) (g.W.Write.contents c.add_section.new.out) (g.W.Write.contents c.refuse_line.new.out)
+    (ap (λ w. g.W.Write.contents w) (c.in-Err-OutOfMemory.ensures.memory cc)) c.refuse_line.ensures.ok
 
 pub returns-in-Err-Values-clause-written : goal.returns-in-Err-Values-clause-written
 returns-in-Err-Values-clause-written g c =
@@ -135,13 +115,10 @@ returns-in-Err-Values-clause-written g c =
     (g.W.Write.contents c.args.out.now) (g.W.Write.contents c.add_section.new.out) (g.W.Write.contents c.refuse_line-in-Err-Values.new.out)
     (ap (λ w. g.W.Write.contents w) (c.in-Err-Values.ensures.no_value c.in-Err-Values.fault cc)) c.refuse_line-in-Err-Values.ensures.ok
 
-pub returns-then-lacks_study-clause-unlisted : goal.returns-then-lacks_study-clause-unlisted
-returns-then-lacks_study-clause-unlisted g c = λ reported kept. on-err c.refuse_line.result _ (c.refuse_line.ensures.listed reported kept)
-
 pub returns-in-Err-OutOfMemory-clause-unlisted : goal.returns-in-Err-OutOfMemory-clause-unlisted
 returns-in-Err-OutOfMemory-clause-unlisted g c = λ reported kept.
-    on-err c.refuse_line-in-Err-OutOfMemory.result _
-    (c.refuse_line-in-Err-OutOfMemory.ensures.listed reported (c.in-Err-OutOfMemory.ensures.unlisted reported kept))
+    on-err c.refuse_line.result _
+    (c.refuse_line.ensures.listed reported (c.in-Err-OutOfMemory.ensures.unlisted reported kept))
 
 pub returns-in-Err-Values-clause-unlisted : goal.returns-in-Err-Values-clause-unlisted
 returns-in-Err-Values-clause-unlisted g c = λ reported kept.
