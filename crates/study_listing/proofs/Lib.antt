@@ -10,3 +10,4 @@ pub mod Keys
 pub mod KeyImages
 pub mod EachListed
 pub mod Pieces
+pub mod Stops

@@ -1,13 +1,19 @@
 -- The listed image has men on the wanted squares, and there is one if some image has.
 use Rattle.std.proofs.Common.{◌≡◌, ◌⊎◌, Bool, true, false, List, [], ◌∷◌, Option, Some, None, is_some, inl, inr, refl, sym, ap, subst, ◌∙◌}
 use Rattle.std.specs.List.{list_any}
-use Rattle.std.specs.Prelude.{◌&&◌, ◌||◌, not, if◌then◌else◌}
+use Rattle.std.specs.Prelude.{◌&&◌, ◌||◌, not, if◌then◌else◌, Result, Ok, Err, IfOk, IfSome}
 use Rattle.study_board.specs.declared.symmetry.Symmetry.{Symmetry}
 use Rattle.study_board.specs.Men.{is_pawn}
 use Rattle.study_board.specs.Position.{Position, IsValid}
 use Rattle.study_board.proofs.ImagesOfImages.{image_unturned}
 use Rattle.study_board.specs.Symmetry.{image, admits}
+use Rattle.study_material.specs.declared.class.Class.{Class}
+use Rattle.study_material.specs.Needs.{IsNeeded, NeedsClass}
+use Rattle.study_zugzwang.specs.Zugzwang.{handed_on}
+use Rattle.study_search.specs.Faults.{NeedsNoMore}
+use Rattle.study_search.specs.Laws.{colours_swapped}
 use Rattle.study_search.specs.Pairs.{counterpart}
+use Rattle.study_search.proofs.Faults.{needs-image, needs-across}
 use Rattle.study_listing.specs.declared.filters.Placed.{Placed}
 use Rattle.study_listing.specs.declared.filters.Selection.{Selection}
 use Rattle.study_listing.specs.Filters.{no_filters, are_placed, turned_by, turns, or_else, image_placed, first_placed, HasImagePlaced}
@@ -177,3 +183,32 @@ module _ (s : Selection) (p : Position) where
 
 pub images-listed_image : ImagesAreShown
 images-listed_image s p = shown-rightly s p
+
+-- ---- the classes that an image needs
+
+needs-of : (ws : List (Option Placed)) (p q : Position) (gs : List Symmetry) → first_placed ws p gs ≡ Some q → NeedsNoMore p q
+needs-of ws p q [] e = absurd (cc e)
+needs-of ws p q (g ∷ gs) e = go (admits p g && are_placed ws (image g p)) (λ later. needs-of ws p q gs later) e
+  where
+    go : (b : Bool) → (first_placed ws p gs ≡ Some q → NeedsNoMore p q)
+        → or_else (if b then Some (image g p) else None) (first_placed ws p gs) ≡ Some q → NeedsNoMore p q
+    go true rest same = needs-image p q g (cc same)
+    go false rest later = rest later
+
+pub placed-needs : (ws : List (Option Placed)) (p : Position) (r : Option Position) (gs : List Symmetry) → r ≡ first_placed ws p gs
+    → IfSome r (λ q. NeedsNoMore p q)
+placed-needs ws p None gs e = tt
+placed-needs ws p (Some q) gs e = needs-of ws p q gs (sym e)
+
+-- the same of the image of a position with the other side to move
+pub counterpart-needs : (p o q : Position) (r : Option Position) → o ≡ handed_on p → q ≡ image colours_swapped o → IfSome r (λ x. NeedsNoMore q x)
+    → IfSome r (λ x. NeedsNoMore p x)
+counterpart-needs p o q None e f h = tt
+counterpart-needs p o q (Some x) e f h = λ c n. needs-across p o e c (needs-image o q colours_swapped f c (h c n))
+
+-- and of a position of a class
+pub image-needs : {E : Type 0} (class : Class) (p : Position) (r : Result (Option Position) E) → ((c : Class) → NeedsClass p c → IsNeeded class c)
+    → IfOk r (λ at. IfSome at (λ q. NeedsNoMore p q)) → IfOk r (λ at. IfSome at (λ q. (c : Class) → NeedsClass q c → IsNeeded class c))
+image-needs class p (Err e) of h = tt
+image-needs class p (Ok None) of h = tt
+image-needs class p (Ok (Some q)) of h = λ c n. of c (h c n)

@@ -4,6 +4,7 @@
 ghost use Rattle.std.specs.Prelude.{◌≡◌, true, IfOk, IfErr, IfSome};
 ghost use Rattle.study_moves.specs.Rules.{is_legal};
 ghost use Rattle.study_values.specs.Game.{IsValueOf};
+ghost use Rattle.study_material.specs.Needs.{NeedsClass};
 ghost use Rattle.study_search.specs.Faults.{CanReport, HasSameTables};
 ghost use Rattle.study_listing.specs.Facts.{AreFacts, IsOtherValue, IsOneKey, SaidIf, has_other, has_key};
 
@@ -61,7 +62,7 @@ fn find_key<V: Values>(
     ensures game { V.source.is_honest values.old → IsValueOf p.now value
         → IfOk result (IsOneKey p.now) }
     ensures legal { IfOk result (λ key. IfSome key (λ m. is_legal p.now m ≡ true)) }
-    ensures faults { IfErr result (CanReport V.source values.old) }
+    ensures faults { IfErr result (CanReport V.source (NeedsClass p.now) values.old) }
     ensures honest { V.source.is_honest values.old → V.source.is_honest values.new }
     ensures tables { HasSameTables V.source values.old values.new }
 {
@@ -83,7 +84,7 @@ fn key_if<V: Values>(
     ensures game { V.source.is_honest values.old → IsValueOf p.now value
         → IfOk result (SaidIf wanted (IsOneKey p.now)) }
     ensures legal { IfOk result (λ key. IfSome key (λ m. is_legal p.now m ≡ true)) }
-    ensures faults { IfErr result (CanReport V.source values.old) }
+    ensures faults { IfErr result (CanReport V.source (NeedsClass p.now) values.old) }
     ensures honest { V.source.is_honest values.old → V.source.is_honest values.new }
     ensures tables { HasSameTables V.source values.old values.new }
 {
@@ -96,7 +97,7 @@ fn key_if<V: Values>(
 /// The value with the other side to move, if that position is valid.
 fn other_value<V: Values>(p: &Position, values: &mut V) -> Result<Option<Value>, ProbeFault>
     ensures game { V.source.is_honest values.old → IfOk result (IsOtherValue p.now) }
-    ensures faults { IfErr result (CanReport V.source values.old) }
+    ensures faults { IfErr result (CanReport V.source (NeedsClass p.now) values.old) }
     ensures honest { V.source.is_honest values.old → V.source.is_honest values.new }
     ensures tables { HasSameTables V.source values.old values.new }
 {
@@ -117,7 +118,7 @@ fn other_if<V: Values>(
 ) -> Result<Option<Value>, ProbeFault>
     ensures game { V.source.is_honest values.old
         → IfOk result (SaidIf wanted (IsOtherValue p.now)) }
-    ensures faults { IfErr result (CanReport V.source values.old) }
+    ensures faults { IfErr result (CanReport V.source (NeedsClass p.now) values.old) }
     ensures honest { V.source.is_honest values.old → V.source.is_honest values.new }
     ensures tables { HasSameTables V.source values.old values.new }
 {
@@ -136,7 +137,7 @@ pub fn facts_of<V: Values>(
     ensures game { V.source.is_honest values.old
         → IfOk result (AreFacts wanted.other wanted.key p.now) }
     ensures legal { IfOk result (λ f. IfSome f.key (λ m. is_legal p.now m ≡ true)) }
-    ensures faults { IfErr result (CanReport V.source values.old) }
+    ensures faults { IfErr result (CanReport V.source (NeedsClass p.now) values.old) }
     ensures honest { V.source.is_honest values.old → V.source.is_honest values.new }
     ensures tables { HasSameTables V.source values.old values.new }
 {

@@ -4,7 +4,8 @@
 ghost use Rattle.std.specs.Prelude.{◌≡◌, ◌↔◌, true, IfOk, IfErr, IfSome};
 ghost use Rattle.std.specs.List.{list_any};
 ghost use Rattle.study_moves.specs.Rules.{is_legal};
-ghost use Rattle.study_search.specs.Faults.{CanReport, HasSameTables};
+ghost use Rattle.study_material.specs.Needs.{NeedsClass};
+ghost use Rattle.study_search.specs.Faults.{CanReport, HasSameTables, NeedsNoMore};
 ghost use Rattle.study_listing.specs.Filters.{is_from_to, is_within, is_placed, has_placed, are_placed, turned_by, turns};
 ghost use Rattle.study_listing.specs.Filters.{image_placed, first_placed, is_let_through, is_key_let_through, HasKeyLetThrough, HasWantedKey, no_filters};
 
@@ -158,7 +159,8 @@ fn first_of(wanted: &[Option<Placed>], p: &Position, by: &[Symmetry]) -> Option<
 
 /// The first image of a position, starting with the identity, that has the men that the filters name.
 pub(crate) fn first_placed(wanted: &[Option<Placed>], p: &Position) -> Option<Position>
-    ensures { result ≡ first_placed wanted.now p.now turns }
+    ensures value { result ≡ first_placed wanted.now p.now turns }
+    ensures needs { IfSome result (λ q. NeedsNoMore p.now q) }
 {
     first_of(wanted, p, turns().as_slice())
 }
@@ -182,7 +184,7 @@ fn has_key_let_through<V: Values>(
 ) -> Result<bool, ProbeFault>
     ensures game { V.source.is_honest values.old
         → IfOk result (λ b. (b ≡ true) ↔ HasKeyLetThrough filters.now p.now) }
-    ensures faults { IfErr result (CanReport V.source values.old) }
+    ensures faults { IfErr result (CanReport V.source (NeedsClass p.now) values.old) }
     ensures honest { V.source.is_honest values.old → V.source.is_honest values.new }
     ensures tables { HasSameTables V.source values.old values.new }
 {
@@ -204,7 +206,7 @@ pub(crate) fn has_wanted_key<V: Values>(
 ) -> Result<bool, ProbeFault>
     ensures game { V.source.is_honest values.old
         → IfOk result (λ b. (b ≡ true) ↔ HasWantedKey filters.now p.now) }
-    ensures faults { IfErr result (CanReport V.source values.old) }
+    ensures faults { IfErr result (CanReport V.source (NeedsClass p.now) values.old) }
     ensures honest { V.source.is_honest values.old → V.source.is_honest values.new }
     ensures tables { HasSameTables V.source values.old values.new }
 {

@@ -4,7 +4,9 @@
 ghost use Rattle.std.specs.Prelude.{◌≡◌, ◌↔◌, true, Some, is_some, IfOk, IfErr, IfSome, IfNone};
 ghost use Rattle.study_board.specs.Position.{IsValid, Position as APosition};
 ghost use Rattle.study_index.specs.Computed.{position_numbered};
-ghost use Rattle.study_search.specs.Faults.{CanReport, HasSameTables};
+ghost use Rattle.study_material.specs.declared.class.Class.{Class as AClass};
+ghost use Rattle.study_material.specs.Needs.{IsNeeded, NeedsClass};
+ghost use Rattle.study_search.specs.Faults.{CanReport, HasSameTables, NeedsNoMore};
 ghost use Rattle.study_search.specs.Finding.{IsFound, IsLookedFor};
 ghost use Rattle.study_search.specs.Pairs.{counterpart};
 ghost use Rattle.study_zugzwang.specs.Zugzwang.{handed_on};
@@ -64,7 +66,7 @@ fn is_one_of_pair<V: Values>(
 ) -> Result<bool, ProbeFault>
     ensures game { V.source.is_honest values.old → IsLookedFor search.now p.now
         → IfOk result (λ b. (b ≡ true) ↔ IsOneOfPair search.now p.now) }
-    ensures faults { IfErr result (CanReport V.source values.old) }
+    ensures faults { IfErr result (CanReport V.source (NeedsClass p.now) values.old) }
     ensures honest { V.source.is_honest values.old → V.source.is_honest values.new }
     ensures tables { HasSameTables V.source values.old values.new }
 {
@@ -77,8 +79,9 @@ fn is_one_of_pair<V: Values>(
 
 /// The colour image of a position with the other side to move, if it has men on the wanted squares.
 fn counterpart_placed(selection: &Selection, p: &Position) -> Option<Position>
-    ensures { IsValid (handed_on p.now)
+    ensures value { IsValid (handed_on p.now)
         → result ≡ first_placed selection.now.filters.men (counterpart p.now) turns }
+    ensures needs { IfSome result (λ q. NeedsNoMore p.now q) }
 {
     let other = handed_on(p)?;
     let swapped = Symmetry {
@@ -92,8 +95,9 @@ fn counterpart_placed(selection: &Selection, p: &Position) -> Option<Position>
 
 /// The same for a mutual zugzwang that has two placements.
 fn second_placed(selection: &Selection, p: &Position) -> Option<Position>
-    ensures { (is_paired selection.now.search ≡ true → IsValid (handed_on p.now))
+    ensures value { (is_paired selection.now.search ≡ true → IsValid (handed_on p.now))
         → result ≡ second_placed selection.now p.now }
+    ensures needs { IfSome result (λ q. NeedsNoMore p.now q) }
 {
     let paired = is_paired(&selection.search);
     if paired {
@@ -104,8 +108,9 @@ fn second_placed(selection: &Selection, p: &Position) -> Option<Position>
 
 /// The image of a position that is listed: the first with men on the wanted squares.
 fn listed_image(selection: &Selection, p: &Position) -> Option<Position>
-    ensures { (is_paired selection.now.search ≡ true → IsValid (handed_on p.now))
+    ensures value { (is_paired selection.now.search ≡ true → IsValid (handed_on p.now))
         → result ≡ listed_image selection.now p.now }
+    ensures needs { IfSome result (λ q. NeedsNoMore p.now q) }
 {
     match first_placed(selection.filters.men.as_slice(), p) {
         Some(image) => Some(image),
@@ -122,7 +127,7 @@ fn is_listed<V: Values>(
     ensures game { V.source.is_honest values.old → IsLookedFor selection.now.search p.now
         → is_some (listed_image selection.now p.now) ≡ true
         → IfOk result (λ b. (b ≡ true) ↔ IsListed selection.now p.now) }
-    ensures faults { IfErr result (CanReport V.source values.old) }
+    ensures faults { IfErr result (CanReport V.source (NeedsClass p.now) values.old) }
     ensures honest { V.source.is_honest values.old → V.source.is_honest values.new }
     ensures tables { HasSameTables V.source values.old values.new }
 {
@@ -145,7 +150,8 @@ fn image_listed<V: Values>(
         → IfOk result (λ at. IfSome at (λ q. listed_image selection.now p.now ≡ Some q)) }
     ensures none { V.source.is_honest values.old → IsLookedFor selection.now.search p.now
         → IfOk result (λ at. IfNone at (¬ (IsListed selection.now p.now))) }
-    ensures faults { IfErr result (CanReport V.source values.old) }
+    ensures needs { IfOk result (λ at. IfSome at (λ q. NeedsNoMore p.now q)) }
+    ensures faults { IfErr result (CanReport V.source (NeedsClass p.now) values.old) }
     ensures honest { V.source.is_honest values.old → V.source.is_honest values.new }
     ensures tables { HasSameTables V.source values.old values.new }
 {
@@ -173,7 +179,9 @@ pub(crate) fn listed_at<V: Values>(
         × (listed_image selection.now p ≡ Some q))) }
     ensures none { V.source.is_honest values.old → IsFound selection.now.search number
         → IfOk result (λ at. IfNone at (¬ (IsListedAt selection.now number))) }
-    ensures faults { IfErr result (CanReport V.source values.old) }
+    ensures needs { IfOk result (λ at. IfSome at (λ q. (c : AClass)
+        → NeedsClass q c → IsNeeded selection.now.search.class c)) }
+    ensures faults { IfErr result (CanReport V.source (IsNeeded selection.now.search.class) values.old) }
     ensures honest { V.source.is_honest values.old → V.source.is_honest values.new }
     ensures tables { HasSameTables V.source values.old values.new }
 {
@@ -196,7 +204,7 @@ pub(crate) fn text_at<V: Values>(
         → IfOk result (λ at. IfSome at (λ text. IsTextAt selection.now form number text.bytes)) }
     ensures none { V.source.is_honest values.old → IsFound selection.now.search number
         → IfOk result (λ at. IfNone at (¬ (IsListedAt selection.now number))) }
-    ensures faults { IfErr result (CanReport V.source values.old) }
+    ensures faults { IfErr result (CanReport V.source (IsNeeded selection.now.search.class) values.old) }
     ensures honest { V.source.is_honest values.old → V.source.is_honest values.new }
     ensures tables { HasSameTables V.source values.old values.new }
 {

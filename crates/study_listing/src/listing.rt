@@ -1,13 +1,15 @@
 //! The list of the found positions, written as they are found.
 #![tactic(auto, using(study_search::proofs::Faults::can_report, study_search::proofs::Faults::if_reported))]
 
-ghost use Rattle.std.specs.Prelude.{◌≡◌, ◌≤◌, ◌<◌, ℕ, Some, IfOk, IfErr, IsErrOf};
+ghost use Rattle.std.specs.Prelude.{◌≡◌, ◌≤◌, ◌<◌, ℕ, Some, IfOk, IfErr, IfSome, IsErrOf};
+ghost use Rattle.study_material.specs.Needs.{IsNeeded};
 ghost use Rattle.study_search.specs.Faults.{CanReport, HasSameTables};
 ghost use Rattle.study_search.specs.declared.themes.Theme.TheVariants as theme;
 ghost use Rattle.study_values.specs.declared.values.ProbeFault.{ProbeFault as AFault};
 ghost use Rattle.study_values.specs.Number.{cells_of};
 ghost use Rattle.study_listing.specs.Filters.{no_filters};
 ghost use Rattle.study_listing.specs.Lists.{AreSoMany, HasWritten, HasWrittenSome, HasStopped, IsSelectionOf};
+ghost use Rattle.study_listing.specs.Requests.{class_of_request};
 ghost use Rattle.study_listing.specs.Stops.{CanStop};
 
 use crate::fault::Stop;
@@ -68,7 +70,7 @@ pub fn count_numbers<V: CellPages, H: Watch>(
 ) -> Result<u32, ProbeFault>
     ensures count { V.source.is_honest values.old
         → IfOk result (AreSoMany selection.now numbers.from numbers.to) }
-    ensures faults { IfErr result (CanReport V.source values.old) }
+    ensures faults { IfErr result (CanReport V.source (IsNeeded selection.now.search.class) values.old) }
     ensures honest { V.source.is_honest values.old → V.source.is_honest values.new }
     ensures tables { HasSameTables V.source values.old values.new }
 {
@@ -117,7 +119,7 @@ pub fn list_numbers<V: CellPages, W: Write, H: Watch>(
         → HasStopped selection.now form numbers.from numbers.to
         (W.contents out.old) (W.contents out.new) }
     ensures fits { ¬ (IsErrOf result Stop.TooManyStudies) }
-    ensures faults { IfErr result (CanStop V.source values.old) }
+    ensures faults { IfErr result (CanStop V.source (IsNeeded selection.now.search.class) values.old) }
     ensures honest { V.source.is_honest values.old → V.source.is_honest values.new }
     ensures tables { HasSameTables V.source values.old values.new }
 {
@@ -155,7 +157,7 @@ pub fn count_found<V: CellPages, H: Watch>(
 ) -> Result<u32, ProbeFault>
     ensures count { V.source.is_honest values.old
         → IfOk result (AreSoMany selection.now 0 (cells_of selection.now.search.class)) }
-    ensures faults { IfErr result (CanReport V.source values.old) }
+    ensures faults { IfErr result (CanReport V.source (IsNeeded selection.now.search.class) values.old) }
     ensures honest { V.source.is_honest values.old → V.source.is_honest values.new }
     ensures tables { HasSameTables V.source values.old values.new }
 {
@@ -184,7 +186,7 @@ fn list_lines<V: CellPages, W: Write, H: Watch>(
         → HasStopped selection.now Form.Lines 0 (cells_of selection.now.search.class)
         (W.contents out.old) (W.contents out.new) }
     ensures fits { ¬ (IsErrOf result Stop.TooManyStudies) }
-    ensures faults { IfErr result (CanStop V.source values.old) }
+    ensures faults { IfErr result (CanStop V.source (IsNeeded selection.now.search.class) values.old) }
     ensures honest { V.source.is_honest values.old → V.source.is_honest values.new }
     ensures tables { HasSameTables V.source values.old values.new }
 {
@@ -217,7 +219,7 @@ fn list_studies<V: CellPages, W: Write, H: Watch>(
     ensures device { V.source.is_honest values.old → IsErrOf result Stop.WriteDevice
         → HasStopped selection.now Form.Script 0 (cells_of selection.now.search.class)
         (W.contents out.old) (W.contents out.new) }
-    ensures faults { IfErr result (CanStop V.source values.old) }
+    ensures faults { IfErr result (CanStop V.source (IsNeeded selection.now.search.class) values.old) }
     ensures honest { V.source.is_honest values.old → V.source.is_honest values.new }
     ensures tables { HasSameTables V.source values.old values.new }
 {
@@ -261,7 +263,7 @@ pub fn list_found<V: CellPages, W: Write, H: Watch>(
     ensures device { V.source.is_honest values.old → IsErrOf result Stop.WriteDevice
         → HasStopped selection.now form 0 (cells_of selection.now.search.class)
         (W.contents out.old) (W.contents out.new) }
-    ensures faults { IfErr result (CanStop V.source values.old) }
+    ensures faults { IfErr result (CanStop V.source (IsNeeded selection.now.search.class) values.old) }
     ensures honest { V.source.is_honest values.old → V.source.is_honest values.new }
     ensures tables { HasSameTables V.source values.old values.new }
 {
@@ -277,7 +279,10 @@ pub fn selection_of<V: Values>(
     values: &mut V,
 ) -> Result<Option<Selection>, ProbeFault>
     ensures game { V.source.is_honest values.old → IfOk result (IsSelectionOf request.now) }
-    ensures faults { IfErr result (CanReport V.source values.old) }
+    ensures class { IfOk result (λ s. IfSome s (λ s.
+        s.search.class ≡ class_of_request request.now)) }
+    ensures faults { IfErr result
+        (CanReport V.source (IsNeeded (class_of_request request.now)) values.old) }
     ensures honest { V.source.is_honest values.old → V.source.is_honest values.new }
     ensures tables { HasSameTables V.source values.old values.new }
 {

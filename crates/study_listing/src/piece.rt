@@ -1,13 +1,15 @@
 //! A list piece by piece.
 #![tactic(auto, using(study_search::proofs::Faults::can_report, study_search::proofs::Faults::if_reported))]
 
-ghost use Rattle.std.specs.Prelude.{◌≡◌, ◌∷◌, [], false, IfErr, OnOk, IsErrOf};
+ghost use Rattle.std.specs.Prelude.{◌≡◌, ◌∷◌, [], IfErr, IfSome, OnOk, IsErrOf};
 ghost use Rattle.std.specs.Io.KnownBytes.{Appends};
 ghost use Rattle.study_material.specs.declared.class.Class.{Class as AClass};
-ghost use Rattle.study_values.specs.declared.fault.SourceFault.{SourceFault as ASourceFault};
+ghost use Rattle.study_material.specs.Needs.{IsNeeded};
+ghost use Rattle.study_search.specs.Faults.{CanReport};
 ghost use Rattle.study_listing.specs.Lists.{IsSelectionOf};
+ghost use Rattle.study_listing.specs.Requests.{class_of_request};
 ghost use Rattle.study_listing.specs.Pieces.{AreLookedAt, AreHeld, end_of, how_far, IsMissing, HasWrittenPiece, HasWrittenLines};
-ghost use Rattle.study_listing.specs.Stops.{CanStop, StopsUndamaged};
+ghost use Rattle.study_listing.specs.Stops.{CanStop};
 
 use crate::fault::Stop;
 use crate::filters::Selection;
@@ -46,6 +48,8 @@ pub fn classes_for(request: &Request) -> ArrayVec<Class, CLASS_COUNT>
 pub fn need_tables<V: Values>(request: &Request, values: &V) -> Result<(), ProbeFault>
     ensures held { OnOk result (AreHeld request.now (V.source.held values.now)) }
     ensures missing { IfErr result (IsMissing request.now (V.source.held values.now)) }
+    ensures faults { IfErr result
+        (CanReport V.source (IsNeeded (class_of_request request.now)) values.now) }
 {
     let classes = classes_for(request);
     for class in classes.as_slice() {
@@ -75,7 +79,8 @@ fn write_lines<V: CellPages, W: Write>(
         (HasWrittenLines selection numbers.from numbers.to
         (W.contents out.old) (W.contents out.new)) }
     ensures fits { ¬ (IsErrOf result Stop.TooManyStudies) }
-    ensures faults { IfErr result (CanStop V.source values.old) }
+    ensures faults { (class : AClass) → IfSome selection (λ s. s.search.class ≡ class)
+        → IfErr result (CanStop V.source (IsNeeded class) values.old) }
 {
     match selection {
         None => Ok(()),
@@ -126,7 +131,8 @@ fn write_selected<V: CellPages, W: Write>(
     ensures text { V.source.is_honest values.old → IsSelectionOf piece.now.request selection
         → OnOk result (HasWrittenPiece piece.now (W.contents out.old) (W.contents out.new)) }
     ensures fits { ¬ (IsErrOf result Stop.TooManyStudies) }
-    ensures faults { IfErr result (CanStop V.source values.old) }
+    ensures faults { (class : AClass) → IfSome selection (λ s. s.search.class ≡ class)
+        → IfErr result (CanStop V.source (IsNeeded class) values.old) }
 {
     let end = end_of(piece);
     let numbers = Numbers {
@@ -148,11 +154,8 @@ pub fn write_piece<V: CellPages, W: Write>(
 ) -> Result<(), Stop>
     ensures text { V.source.is_honest values.old
         → OnOk result (HasWrittenPiece piece.now (W.contents out.old) (W.contents out.new)) }
-    ensures no_table { (c : AClass) → IsErrOf result (Stop.Values (ProbeFault.NoTable c))
-        → V.source.held values.old c ≡ false }
-    ensures failed_so { (f : ASourceFault) → IsErrOf result (Stop.Values (ProbeFault.TableRead f))
-        → (c : AClass) × V.source.may_fail values.old c f }
-    ensures no_damage { V.source.is_honest values.old → IfErr result StopsUndamaged }
+    ensures faults { IfErr result
+        (CanStop V.source (IsNeeded (class_of_request piece.now.request)) values.old) }
     ensures fits { ¬ (IsErrOf result Stop.TooManyStudies) }
 {
     if let Err(fault) = need_tables(&piece.request, values) {

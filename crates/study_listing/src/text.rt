@@ -4,6 +4,7 @@
 ghost use Rattle.std.specs.Prelude.{◌≡◌, ◌≤◌, ◌+◌, ◌++◌, true, IfOk, IfErr, IfSome};
 ghost use Rattle.arrayvec.specs.ArrayString.{array_string_len};
 ghost use Rattle.study_moves.specs.Rules.{is_legal};
+ghost use Rattle.study_material.specs.Needs.{NeedsClass};
 ghost use Rattle.study_search.specs.Faults.{CanReport, HasSameTables};
 ghost use Rattle.study_search.specs.declared.themes.Theme.{Theme as ATheme};
 ghost use Rattle.study_marks.specs.Marks.{value_words};
@@ -171,7 +172,7 @@ fn study_of(p: &Position, facts: &Facts) -> Listed
 fn line_text<V: Values>(p: &Position, theme: Theme, values: &mut V) -> Result<Listed, ProbeFault>
     ensures game { V.source.is_honest values.old
         → IfOk result (λ text. IsTextOf Form.Lines theme p.now text.bytes) }
-    ensures faults { IfErr result (CanReport V.source values.old) }
+    ensures faults { IfErr result (CanReport V.source (NeedsClass p.now) values.old) }
     ensures honest { V.source.is_honest values.old → V.source.is_honest values.new }
     ensures tables { HasSameTables V.source values.old values.new }
 {
@@ -186,7 +187,7 @@ fn line_text<V: Values>(p: &Position, theme: Theme, values: &mut V) -> Result<Li
 fn study_text<V: Values>(p: &Position, values: &mut V) -> Result<Listed, ProbeFault>
     ensures game { V.source.is_honest values.old → (t : ATheme)
         → IfOk result (λ text. IsTextOf Form.Script t p.now text.bytes) }
-    ensures faults { IfErr result (CanReport V.source values.old) }
+    ensures faults { IfErr result (CanReport V.source (NeedsClass p.now) values.old) }
     ensures honest { V.source.is_honest values.old → V.source.is_honest values.new }
     ensures tables { HasSameTables V.source values.old values.new }
 {
@@ -209,7 +210,7 @@ pub fn text_of<V: Values>(
 ) -> Result<Listed, ProbeFault>
     ensures game { V.source.is_honest values.old
         → IfOk result (λ text. IsTextOf form theme p.now text.bytes) }
-    ensures faults { IfErr result (CanReport V.source values.old) }
+    ensures faults { IfErr result (CanReport V.source (NeedsClass p.now) values.old) }
     ensures honest { V.source.is_honest values.old → V.source.is_honest values.new }
     ensures tables { HasSameTables V.source values.old values.new }
 {

@@ -7,6 +7,7 @@ ghost use Rattle.study_values.specs.Cells.{value_of};
 ghost use Rattle.study_board.specs.Position.{IsValid};
 ghost use Rattle.study_zugzwang.specs.Zugzwang.{half_points, handed_on};
 ghost use Rattle.study_search.specs.declared.themes.Theme.TheVariants as theme;
+ghost use Rattle.study_material.specs.Needs.{IsNeeded};
 ghost use Rattle.study_search.specs.Faults.{CanReport, HasSameTables};
 ghost use Rattle.study_prober.specs.CellPages.{AreValuesOf};
 ghost use Rattle.study_search.specs.Finding.{IsFound, IsNext};
@@ -136,7 +137,7 @@ fn read_page<V: CellPages>(
 ) -> Result<(), ProbeFault>
     requires { 4096 * page < 2 * side_step class }
     ensures game { V.source.is_honest values.old → OnOk result (AreValuesOf class page into.new) }
-    ensures faults { IfErr result (CanReport V.source values.old) }
+    ensures faults { IfErr result (CanReport V.source (IsNeeded class) values.old) }
     ensures honest { V.source.is_honest values.old → V.source.is_honest values.new }
     ensures tables { HasSameTables V.source values.old values.new }
 {
@@ -172,7 +173,7 @@ fn next_facing<V: CellPages>(
     ensures game { V.source.is_honest values.old → AreValuesOf class page own.now
         → IfOk result (IsNext (IsZugzwangAt class) from to) }
     ensures within { IfOk result (λ next. IfSome next (λ n. (from ≤ n) × (n < to))) }
-    ensures faults { IfErr result (CanReport V.source values.old) }
+    ensures faults { IfErr result (CanReport V.source (IsNeeded class) values.old) }
     ensures honest { V.source.is_honest values.old → V.source.is_honest values.new }
     ensures tables { HasSameTables V.source values.old values.new }
 {
@@ -200,7 +201,7 @@ fn next_on_page<V: CellPages>(
     ensures game { V.source.is_honest values.old
         → IfOk result (IsNext (IsZugzwangAt class) from to) }
     ensures within { IfOk result (λ next. IfSome next (λ n. (from ≤ n) × (n < to))) }
-    ensures faults { IfErr result (CanReport V.source values.old) }
+    ensures faults { IfErr result (CanReport V.source (IsNeeded class) values.old) }
     ensures honest { V.source.is_honest values.old → V.source.is_honest values.new }
     ensures tables { HasSameTables V.source values.old values.new }
 {
@@ -255,7 +256,7 @@ fn next_on<V: CellPages>(
     ensures game { V.source.is_honest values.old
         → IfOk result (IsNext (IsFoundOn search.now page) from to) }
     ensures within { IfOk result (λ next. IfSome next (λ n. (from ≤ n) × (n < to))) }
-    ensures faults { IfErr result (CanReport V.source values.old) }
+    ensures faults { IfErr result (CanReport V.source (IsNeeded search.now.class) values.old) }
     ensures honest { V.source.is_honest values.old → V.source.is_honest values.new }
     ensures tables { HasSameTables V.source values.old values.new }
 {
@@ -292,7 +293,7 @@ pub fn next_zugzwang<V: CellPages>(
     ensures game { V.source.is_honest values.old
         → IfOk result (IsNext (IsFound search.now) from to) }
     ensures within { IfOk result (λ next. IfSome next (λ n. (from ≤ n) × (n < to))) }
-    ensures faults { IfErr result (CanReport V.source values.old) }
+    ensures faults { IfErr result (CanReport V.source (IsNeeded search.now.class) values.old) }
     ensures honest { V.source.is_honest values.old → V.source.is_honest values.new }
     ensures tables { HasSameTables V.source values.old values.new }
 {

@@ -3,6 +3,7 @@
 
 ghost use Rattle.std.specs.Prelude.{◌≡◌, ◌↔◌, ℕ, Some, IfOk, IfErr};
 ghost use Rattle.study_moves.specs.Game.{IsWon};
+ghost use Rattle.study_material.specs.Needs.{IsNeeded, NeedsClass};
 ghost use Rattle.study_search.specs.Faults.{CanReport, HasSameTables};
 ghost use Rattle.study_search.specs.Longest.{option_max, mate_by, MatesIn, MatesAt, IsLongest};
 
@@ -40,7 +41,7 @@ fn mate_by(value: Value) -> Option<u8>
 pub fn mate_of<V: Values>(p: &Position, values: &mut V) -> Result<Option<u8>, ProbeFault>
     ensures game { V.source.is_honest values.old
         → IfOk result (λ mate. (k : ℕ) → (mate ≡ Some k) ↔ IsWon p.now k) }
-    ensures faults { IfErr result (CanReport V.source values.old) }
+    ensures faults { IfErr result (CanReport V.source (NeedsClass p.now) values.old) }
     ensures honest { V.source.is_honest values.old → V.source.is_honest values.new }
     ensures tables { HasSameTables V.source values.old values.new }
 {
@@ -55,7 +56,7 @@ pub fn mate_of<V: Values>(p: &Position, values: &mut V) -> Result<Option<u8>, Pr
 fn mate_for<V: Values>(p: &Position, side: Side, values: &mut V) -> Result<Option<u8>, ProbeFault>
     ensures game { V.source.is_honest values.old
         → IfOk result (λ mate. (k : ℕ) → (mate ≡ Some k) ↔ MatesIn side k p.now) }
-    ensures faults { IfErr result (CanReport V.source values.old) }
+    ensures faults { IfErr result (CanReport V.source (NeedsClass p.now) values.old) }
     ensures honest { V.source.is_honest values.old → V.source.is_honest values.new }
     ensures tables { HasSameTables V.source values.old values.new }
 {
@@ -75,7 +76,7 @@ fn mate_at<V: Values>(
 ) -> Result<Option<u8>, ProbeFault>
     ensures game { V.source.is_honest values.old
         → IfOk result (λ mate. (k : ℕ) → (mate ≡ Some k) ↔ MatesAt class side number k) }
-    ensures faults { IfErr result (CanReport V.source values.old) }
+    ensures faults { IfErr result (CanReport V.source (IsNeeded class) values.old) }
     ensures honest { V.source.is_honest values.old → V.source.is_honest values.new }
     ensures tables { HasSameTables V.source values.old values.new }
 {
@@ -96,7 +97,7 @@ pub fn longest_mate<V: Values>(
     values: &mut V,
 ) -> Result<Option<u8>, ProbeFault>
     ensures game { V.source.is_honest values.old → IfOk result (IsLongest class side) }
-    ensures faults { IfErr result (CanReport V.source values.old) }
+    ensures faults { IfErr result (CanReport V.source (IsNeeded class) values.old) }
     ensures honest { V.source.is_honest values.old → V.source.is_honest values.new }
     ensures tables { HasSameTables V.source values.old values.new }
 {

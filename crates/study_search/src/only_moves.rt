@@ -4,7 +4,8 @@
 ghost use Rattle.std.specs.Prelude.{◌≡◌, ◌≤◌, ◌<◌, ◌↔◌, Some, true, length, IfOk, IfErr, IfSome};
 ghost use Rattle.std.specs.List.{All};
 ghost use Rattle.study_moves.specs.declared.moves.Move.{Move as AMove};
-ghost use Rattle.study_moves.specs.Rules.{is_legal};
+ghost use Rattle.study_moves.specs.Rules.{is_legal, after};
+ghost use Rattle.study_material.specs.Needs.{NeedsClass};
 ghost use Rattle.study_search.specs.Faults.{CanReport, HasSameTables};
 ghost use Rattle.study_search.specs.OnlyMoves.{has_outcome, keeps_outcome, Has, Holds, IsOnlyMove, IsKey, HasOnlyMoves};
 ghost use Rattle.study_search.specs.Listed.{SomeLeads, IsOnlyAmong};
@@ -51,7 +52,7 @@ pub(crate) fn has<V: Values>(
 ) -> Result<bool, ProbeFault>
     ensures game { V.source.is_honest values.old
         → IfOk result (λ b. (b ≡ true) ↔ Has outcome p.now) }
-    ensures faults { IfErr result (CanReport V.source values.old) }
+    ensures faults { IfErr result (CanReport V.source (NeedsClass p.now) values.old) }
     ensures honest { V.source.is_honest values.old → V.source.is_honest values.new }
     ensures tables { HasSameTables V.source values.old values.new }
 {
@@ -66,7 +67,7 @@ pub(crate) fn has<V: Values>(
 fn holds<V: Values>(q: &Position, outcome: Outcome, values: &mut V) -> Result<bool, ProbeFault>
     ensures game { V.source.is_honest values.old
         → IfOk result (λ b. (b ≡ true) ↔ Holds outcome q.now) }
-    ensures faults { IfErr result (CanReport V.source values.old) }
+    ensures faults { IfErr result (CanReport V.source (NeedsClass q.now) values.old) }
     ensures honest { V.source.is_honest values.old → V.source.is_honest values.new }
     ensures tables { HasSameTables V.source values.old values.new }
 {
@@ -75,6 +76,25 @@ fn holds<V: Values>(q: &Position, outcome: Outcome, values: &mut V) -> Result<bo
         Err(fault) => Err(fault),
         Ok(value) => Ok(keeps_outcome(outcome, value)),
     }
+}
+
+/// Whether the move keeps the outcome.
+fn holds_after<V: Values>(
+    p: &Position,
+    m: Move,
+    outcome: Outcome,
+    values: &mut V,
+) -> Result<bool, ProbeFault>
+    requires legal { is_legal p.now m ≡ true }
+    ensures game { V.source.is_honest values.old
+        → IfOk result (λ b. (b ≡ true) ↔ Holds outcome (after p.now m)) }
+    ensures faults { IfErr result (CanReport V.source (NeedsClass p.now) values.old) }
+    ensures honest { V.source.is_honest values.old → V.source.is_honest values.new }
+    ensures tables { HasSameTables V.source values.old values.new }
+{
+    let _men = p.men();
+    let next = played(p, m);
+    holds(&next, outcome, values)
 }
 
 /// Whether one of these moves holds.
@@ -87,15 +107,14 @@ fn some_holds<V: Values>(
     requires legal { All (λ m. is_legal p.now m ≡ true) moves.now }
     ensures game { V.source.is_honest values.old
         → IfOk result (λ b. (b ≡ true) ↔ SomeLeads (Holds outcome) p.now moves.now) }
-    ensures faults { IfErr result (CanReport V.source values.old) }
+    ensures faults { IfErr result (CanReport V.source (NeedsClass p.now) values.old) }
     ensures honest { V.source.is_honest values.old → V.source.is_honest values.new }
     ensures tables { HasSameTables V.source values.old values.new }
 {
     match moves.split_first() {
         None => Ok(false),
         Some((m, rest)) => {
-            let next = played(p, *m);
-            match holds(&next, outcome, values) {
+            match holds_after(p, *m, outcome, values) {
                 Err(fault) => Err(fault),
                 Ok(true) => Ok(true),
                 Ok(false) => some_holds(p, outcome, rest, values),
@@ -116,15 +135,14 @@ fn only_among<V: Values>(
         → IfOk result (λ only. (m : AMove) → (only ≡ Some m)
         ↔ IsOnlyAmong outcome p.now m moves.now) }
     ensures legal { IfOk result (λ only. IfSome only (λ m. is_legal p.now m ≡ true)) }
-    ensures faults { IfErr result (CanReport V.source values.old) }
+    ensures faults { IfErr result (CanReport V.source (NeedsClass p.now) values.old) }
     ensures honest { V.source.is_honest values.old → V.source.is_honest values.new }
     ensures tables { HasSameTables V.source values.old values.new }
 {
     match moves.split_first() {
         None => Ok(None),
         Some((m, rest)) => {
-            let next = played(p, *m);
-            match holds(&next, outcome, values) {
+            match holds_after(p, *m, outcome, values) {
                 Err(fault) => Err(fault),
                 Ok(false) => only_among(p, outcome, rest, values),
                 Ok(true) => match some_holds(p, outcome, rest, values) {
@@ -146,7 +164,7 @@ pub fn only_move<V: Values>(
     ensures game { V.source.is_honest values.old
         → IfOk result (λ only. (m : AMove) → (only ≡ Some m) ↔ IsOnlyMove outcome p.now m) }
     ensures legal { IfOk result (λ only. IfSome only (λ m. is_legal p.now m ≡ true)) }
-    ensures faults { IfErr result (CanReport V.source values.old) }
+    ensures faults { IfErr result (CanReport V.source (NeedsClass p.now) values.old) }
     ensures honest { V.source.is_honest values.old → V.source.is_honest values.new }
     ensures tables { HasSameTables V.source values.old values.new }
 {
@@ -163,7 +181,7 @@ pub fn key_move<V: Values>(
     ensures game { V.source.is_honest values.old
         → IfOk result (λ only. (m : AMove) → (only ≡ Some m) ↔ IsKey outcome p.now m) }
     ensures legal { IfOk result (λ only. IfSome only (λ m. is_legal p.now m ≡ true)) }
-    ensures faults { IfErr result (CanReport V.source values.old) }
+    ensures faults { IfErr result (CanReport V.source (NeedsClass p.now) values.old) }
     ensures honest { V.source.is_honest values.old → V.source.is_honest values.new }
     ensures tables { HasSameTables V.source values.old values.new }
 {
@@ -188,13 +206,14 @@ fn some_reply_leads<V: Values>(
     requires some { 0 < n }
     ensures game { V.source.is_honest values.old
         → IfOk result (λ b. (b ≡ true) ↔ SomeLeads (HasOnlyMoves outcome n) q.now replies.now) }
-    ensures faults { IfErr result (CanReport V.source values.old) }
+    ensures faults { IfErr result (CanReport V.source (NeedsClass q.now) values.old) }
     ensures honest { V.source.is_honest values.old → V.source.is_honest values.new }
     ensures tables { HasSameTables V.source values.old values.new }
 {
     match replies.split_first() {
         None => Ok(false),
         Some((r, rest)) => {
+            let _men = q.men();
             let next = played(q, *r);
             match has_only_moves_on(&next, outcome, n, values) {
                 Err(fault) => Err(fault),
@@ -217,7 +236,7 @@ fn finds_only_moves<V: Values>(
     requires { 0 < n }
     ensures game { V.source.is_honest values.old → (outcome ≡ Outcome.Draw → Has Outcome.Draw p.now)
         → IfOk result (λ b. (b ≡ true) ↔ HasOnlyMoves outcome n p.now) }
-    ensures faults { IfErr result (CanReport V.source values.old) }
+    ensures faults { IfErr result (CanReport V.source (NeedsClass p.now) values.old) }
     ensures honest { V.source.is_honest values.old → V.source.is_honest values.new }
     ensures tables { HasSameTables V.source values.old values.new }
 {
@@ -248,7 +267,7 @@ fn has_only_moves_on<V: Values>(
     requires { 0 < n }
     ensures game { V.source.is_honest values.old
         → IfOk result (λ b. (b ≡ true) ↔ HasOnlyMoves outcome n p.now) }
-    ensures faults { IfErr result (CanReport V.source values.old) }
+    ensures faults { IfErr result (CanReport V.source (NeedsClass p.now) values.old) }
     ensures honest { V.source.is_honest values.old → V.source.is_honest values.new }
     ensures tables { HasSameTables V.source values.old values.new }
 {
@@ -268,7 +287,7 @@ pub fn has_only_moves<V: Values>(
 ) -> Result<bool, ProbeFault>
     ensures game { V.source.is_honest values.old
         → IfOk result (λ b. (b ≡ true) ↔ HasOnlyMoves outcome n p.now) }
-    ensures faults { IfErr result (CanReport V.source values.old) }
+    ensures faults { IfErr result (CanReport V.source (NeedsClass p.now) values.old) }
     ensures honest { V.source.is_honest values.old → V.source.is_honest values.new }
     ensures tables { HasSameTables V.source values.old values.new }
 {

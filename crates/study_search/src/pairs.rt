@@ -1,11 +1,12 @@
 //! Which of the two placements of a mutual zugzwang is listed if both sides have the same men.
 #![tactic(auto, using(crate::proofs::Faults::can_report, crate::proofs::Faults::if_reported))]
 
-ghost use Rattle.std.specs.Prelude.{◌≡◌, ◌↔◌, ◌≤◌, true, IfOk, IfErr};
+ghost use Rattle.std.specs.Prelude.{◌≡◌, ◌⊎◌, ◌↔◌, ◌≤◌, true, IfOk, IfErr};
 ghost use Rattle.study_board.specs.Position.{IsValid};
 ghost use Rattle.study_moves.specs.Game.{IsDrawn};
 ghost use Rattle.study_values.specs.Index.{index_of};
 ghost use Rattle.study_zugzwang.specs.Zugzwang.{handed_on};
+ghost use Rattle.study_material.specs.Needs.{NeedsClass};
 ghost use Rattle.study_search.specs.Faults.{CanReport, HasSameTables};
 ghost use Rattle.study_search.specs.Pairs.{ComesFirst, IsListedOfTwo};
 
@@ -23,7 +24,7 @@ fn has_lower_number<V: Values>(
 ) -> Result<bool, ProbeFault>
     ensures game { V.source.is_honest values.old
         → IfOk result (λ b. (b ≡ true) ↔ (¬ (IsDrawn q.now) × (index_of p.now ≤ index_of q.now))) }
-    ensures faults { IfErr result (CanReport V.source values.old) }
+    ensures faults { IfErr result (CanReport V.source (NeedsClass q.now) values.old) }
     ensures honest { V.source.is_honest values.old → V.source.is_honest values.new }
     ensures tables { HasSameTables V.source values.old values.new }
 {
@@ -42,7 +43,8 @@ fn has_lower_number<V: Values>(
 fn comes_first<V: Values>(p: &Position, q: &Position, values: &mut V) -> Result<bool, ProbeFault>
     ensures game { V.source.is_honest values.old
         → IfOk result (λ b. (b ≡ true) ↔ ComesFirst p.now q.now) }
-    ensures faults { IfErr result (CanReport V.source values.old) }
+    ensures faults { IfErr result
+        (CanReport V.source (λ c. NeedsClass p.now c ⊎ NeedsClass q.now c) values.old) }
     ensures honest { V.source.is_honest values.old → V.source.is_honest values.new }
     ensures tables { HasSameTables V.source values.old values.new }
 {
@@ -57,7 +59,7 @@ fn comes_first<V: Values>(p: &Position, q: &Position, values: &mut V) -> Result<
 pub fn is_listed_of_two<V: Values>(p: &Position, values: &mut V) -> Result<bool, ProbeFault>
     ensures game { V.source.is_honest values.old → IsValid (handed_on p.now)
         → IfOk result (λ b. (b ≡ true) ↔ IsListedOfTwo p.now) }
-    ensures faults { IfErr result (CanReport V.source values.old) }
+    ensures faults { IfErr result (CanReport V.source (NeedsClass p.now) values.old) }
     ensures honest { V.source.is_honest values.old → V.source.is_honest values.new }
     ensures tables { HasSameTables V.source values.old values.new }
 {

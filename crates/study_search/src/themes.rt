@@ -4,7 +4,9 @@
 ghost use Rattle.std.specs.Prelude.{◌≡◌, ◌↔◌, true, IfOk, IfErr};
 ghost use Rattle.std.specs.List.{All, list_any};
 ghost use Rattle.study_moves.specs.Game.{IsWon};
-ghost use Rattle.study_moves.specs.Rules.{is_legal};
+ghost use Rattle.study_moves.specs.Rules.{is_legal, after};
+ghost use Rattle.study_zugzwang.specs.Zugzwang.{IsZugzwang};
+ghost use Rattle.study_material.specs.Needs.{NeedsClass};
 ghost use Rattle.study_search.specs.Faults.{CanReport, HasSameTables};
 ghost use Rattle.study_search.specs.Listed.{SomeLeads};
 ghost use Rattle.study_search.specs.Themes.{is_underpromoted, Underpromotes, LeadsIntoZugzwang, spoiling_outcome, FailsIntoZugzwang, HasTheme};
@@ -51,7 +53,7 @@ fn underpromotes<V: Values>(
 ) -> Result<bool, ProbeFault>
     ensures game { V.source.is_honest values.old
         → IfOk result (λ b. (b ≡ true) ↔ Underpromotes outcome p.now) }
-    ensures faults { IfErr result (CanReport V.source values.old) }
+    ensures faults { IfErr result (CanReport V.source (NeedsClass p.now) values.old) }
     ensures honest { V.source.is_honest values.old → V.source.is_honest values.new }
     ensures tables { HasSameTables V.source values.old values.new }
 {
@@ -65,7 +67,7 @@ fn underpromotes<V: Values>(
 fn draws_by_underpromotion<V: Values>(p: &Position, values: &mut V) -> Result<bool, ProbeFault>
     ensures game { V.source.is_honest values.old
         → IfOk result (λ b. (b ≡ true) ↔ Underpromotes Outcome.Draw p.now) }
-    ensures faults { IfErr result (CanReport V.source values.old) }
+    ensures faults { IfErr result (CanReport V.source (NeedsClass p.now) values.old) }
     ensures honest { V.source.is_honest values.old → V.source.is_honest values.new }
     ensures tables { HasSameTables V.source values.old values.new }
 {
@@ -83,7 +85,7 @@ fn some_underpromotes(moves: &[Move]) -> bool
 fn holds_by_underpromotion<V: Values>(p: &Position, values: &mut V) -> Result<bool, ProbeFault>
     ensures game { V.source.is_honest values.old
         → IfOk result (λ b. (b ≡ true) ↔ HasTheme Theme.Underpromotion p.now) }
-    ensures faults { IfErr result (CanReport V.source values.old) }
+    ensures faults { IfErr result (CanReport V.source (NeedsClass p.now) values.old) }
     ensures honest { V.source.is_honest values.old → V.source.is_honest values.new }
     ensures tables { HasSameTables V.source values.old values.new }
 {
@@ -99,6 +101,20 @@ fn holds_by_underpromotion<V: Values>(p: &Position, values: &mut V) -> Result<bo
     }
 }
 
+/// Whether the move leads to a mutual zugzwang.
+fn leads_to_zugzwang<V: Values>(p: &Position, m: Move, values: &mut V) -> Result<bool, ProbeFault>
+    requires legal { is_legal p.now m ≡ true }
+    ensures game { V.source.is_honest values.old
+        → IfOk result (λ b. (b ≡ true) ↔ IsZugzwang (after p.now m)) }
+    ensures faults { IfErr result (CanReport V.source (NeedsClass p.now) values.old) }
+    ensures honest { V.source.is_honest values.old → V.source.is_honest values.new }
+    ensures tables { HasSameTables V.source values.old values.new }
+{
+    let _men = p.men();
+    let next = played(p, m);
+    is_zugzwang(&next, values)
+}
+
 /// Whether exactly one move keeps the outcome, and it leads to a mutual zugzwang.
 fn leads_into_zugzwang<V: Values>(
     p: &Position,
@@ -107,17 +123,14 @@ fn leads_into_zugzwang<V: Values>(
 ) -> Result<bool, ProbeFault>
     ensures game { V.source.is_honest values.old
         → IfOk result (λ b. (b ≡ true) ↔ LeadsIntoZugzwang outcome p.now) }
-    ensures faults { IfErr result (CanReport V.source values.old) }
+    ensures faults { IfErr result (CanReport V.source (NeedsClass p.now) values.old) }
     ensures honest { V.source.is_honest values.old → V.source.is_honest values.new }
     ensures tables { HasSameTables V.source values.old values.new }
 {
     match key_move(p, outcome, values) {
         Err(fault) => Err(fault),
         Ok(None) => Ok(false),
-        Ok(Some(m)) => {
-            let next = played(p, m);
-            is_zugzwang(&next, values)
-        }
+        Ok(Some(m)) => leads_to_zugzwang(p, m, values),
     }
 }
 
@@ -139,17 +152,14 @@ fn fails_into_zugzwang<V: Values>(
 ) -> Result<bool, ProbeFault>
     ensures game { V.source.is_honest values.old
         → IfOk result (λ b. (b ≡ true) ↔ FailsIntoZugzwang outcome q.now) }
-    ensures faults { IfErr result (CanReport V.source values.old) }
+    ensures faults { IfErr result (CanReport V.source (NeedsClass q.now) values.old) }
     ensures honest { V.source.is_honest values.old → V.source.is_honest values.new }
     ensures tables { HasSameTables V.source values.old values.new }
 {
     match only_move(q, spoiling_outcome(outcome), values) {
         Err(fault) => Err(fault),
         Ok(None) => Ok(false),
-        Ok(Some(r)) => {
-            let next = played(q, r);
-            is_zugzwang(&next, values)
-        }
+        Ok(Some(r)) => leads_to_zugzwang(q, r, values),
     }
 }
 
@@ -163,13 +173,14 @@ fn some_fails_into_zugzwang<V: Values>(
     requires legal { All (λ m. is_legal p.now m ≡ true) moves.now }
     ensures game { V.source.is_honest values.old
         → IfOk result (λ b. (b ≡ true) ↔ SomeLeads (FailsIntoZugzwang outcome) p.now moves.now) }
-    ensures faults { IfErr result (CanReport V.source values.old) }
+    ensures faults { IfErr result (CanReport V.source (NeedsClass p.now) values.old) }
     ensures honest { V.source.is_honest values.old → V.source.is_honest values.new }
     ensures tables { HasSameTables V.source values.old values.new }
 {
     match moves.split_first() {
         None => Ok(false),
         Some((m, rest)) => {
+            let _men = p.men();
             let next = played(p, *m);
             match fails_into_zugzwang(&next, outcome, values) {
                 Err(fault) => Err(fault),
@@ -188,7 +199,7 @@ fn has_zugzwang_try<V: Values>(
 ) -> Result<bool, ProbeFault>
     ensures game { V.source.is_honest values.old
         → IfOk result (λ b. (b ≡ true) ↔ HasTheme (Theme.ZugzwangTry outcome) p.now) }
-    ensures faults { IfErr result (CanReport V.source values.old) }
+    ensures faults { IfErr result (CanReport V.source (NeedsClass p.now) values.old) }
     ensures honest { V.source.is_honest values.old → V.source.is_honest values.new }
     ensures tables { HasSameTables V.source values.old values.new }
 {
@@ -206,7 +217,7 @@ fn has_zugzwang_try<V: Values>(
 fn mates_in<V: Values>(p: &Position, plies: u8, values: &mut V) -> Result<bool, ProbeFault>
     ensures game { V.source.is_honest values.old
         → IfOk result (λ b. (b ≡ true) ↔ IsWon p.now plies) }
-    ensures faults { IfErr result (CanReport V.source values.old) }
+    ensures faults { IfErr result (CanReport V.source (NeedsClass p.now) values.old) }
     ensures honest { V.source.is_honest values.old → V.source.is_honest values.new }
     ensures tables { HasSameTables V.source values.old values.new }
 {
@@ -221,7 +232,7 @@ fn mates_in<V: Values>(p: &Position, plies: u8, values: &mut V) -> Result<bool, 
 pub fn has_theme<V: Values>(p: &Position, theme: Theme, values: &mut V) -> Result<bool, ProbeFault>
     ensures game { V.source.is_honest values.old
         → IfOk result (λ b. (b ≡ true) ↔ HasTheme theme p.now) }
-    ensures faults { IfErr result (CanReport V.source values.old) }
+    ensures faults { IfErr result (CanReport V.source (NeedsClass p.now) values.old) }
     ensures honest { V.source.is_honest values.old → V.source.is_honest values.new }
     ensures tables { HasSameTables V.source values.old values.new }
 {

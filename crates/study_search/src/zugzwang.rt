@@ -3,6 +3,7 @@
 
 ghost use Rattle.std.specs.Prelude.{◌≡◌, ◌<◌, ◌↔◌, true, IfOk, IfErr};
 ghost use Rattle.study_zugzwang.specs.Zugzwang.{Scores, ScoresLessThan, IsZugzwang};
+ghost use Rattle.study_material.specs.Needs.{NeedsClass};
 ghost use Rattle.study_search.specs.Faults.{CanReport, HasSameTables};
 ghost use Rattle.study_search.specs.Listed.{OtherScoresLess};
 
@@ -16,7 +17,7 @@ use study_zugzwang::{half_points, handed_on};
 fn score<V: Values>(p: &Position, values: &mut V) -> Result<u8, ProbeFault>
     ensures game { V.source.is_honest values.old → IfOk result (Scores p.now) }
     ensures few { IfOk result (λ k. k < 3) }
-    ensures faults { IfErr result (CanReport V.source values.old) }
+    ensures faults { IfErr result (CanReport V.source (NeedsClass p.now) values.old) }
     ensures honest { V.source.is_honest values.old → V.source.is_honest values.new }
     ensures tables { HasSameTables V.source values.old values.new }
 {
@@ -29,7 +30,7 @@ fn score<V: Values>(p: &Position, values: &mut V) -> Result<u8, ProbeFault>
 fn scores_less_than<V: Values>(p: &Position, limit: u8, values: &mut V) -> Result<bool, ProbeFault>
     ensures game { V.source.is_honest values.old
         → IfOk result (λ b. (b ≡ true) ↔ ScoresLessThan p.now limit) }
-    ensures faults { IfErr result (CanReport V.source values.old) }
+    ensures faults { IfErr result (CanReport V.source (NeedsClass p.now) values.old) }
     ensures honest { V.source.is_honest values.old → V.source.is_honest values.new }
     ensures tables { HasSameTables V.source values.old values.new }
 {
@@ -44,7 +45,7 @@ fn scores_less_than<V: Values>(p: &Position, limit: u8, values: &mut V) -> Resul
 fn other_scores_less<V: Values>(p: &Position, limit: u8, values: &mut V) -> Result<bool, ProbeFault>
     ensures game { V.source.is_honest values.old
         → IfOk result (λ b. (b ≡ true) ↔ OtherScoresLess p.now limit) }
-    ensures faults { IfErr result (CanReport V.source values.old) }
+    ensures faults { IfErr result (CanReport V.source (NeedsClass p.now) values.old) }
     ensures honest { V.source.is_honest values.old → V.source.is_honest values.new }
     ensures tables { HasSameTables V.source values.old values.new }
 {
@@ -62,7 +63,7 @@ fn other_scores_less<V: Values>(p: &Position, limit: u8, values: &mut V) -> Resu
 pub fn is_zugzwang<V: Values>(p: &Position, values: &mut V) -> Result<bool, ProbeFault>
     ensures game { V.source.is_honest values.old
         → IfOk result (λ b. (b ≡ true) ↔ IsZugzwang p.now) }
-    ensures faults { IfErr result (CanReport V.source values.old) }
+    ensures faults { IfErr result (CanReport V.source (NeedsClass p.now) values.old) }
     ensures honest { V.source.is_honest values.old → V.source.is_honest values.new }
     ensures tables { HasSameTables V.source values.old values.new }
 {

@@ -5,6 +5,7 @@ use Rattle.study_script.specs.declared.running.RunFault.{RunFault}
 use Rattle.study_script.specs.declared.running.RunFault.TheVariants as run_fault
 use Rattle.study_board.specs.Position.{Position, IsValid}
 use Rattle.study_material.specs.declared.class.Class.{Class}
+use Rattle.study_material.specs.Needs.{NeedsClass}
 use Rattle.study_notation.specs.declared.start.Start.{Start}
 use Rattle.study_values.specs.declared.fault.SourceFault.{SourceFault}
 use Rattle.study_facts.specs.Asked.{Stopped, within}
@@ -39,10 +40,10 @@ use Rattle.study_reply.specs.Names.{of_probe}
 use Rattle.study_web.specs.Answers.{IsWhole, MayEnd, IsNever, IsNoMemory, IsViewDenial, IsSurveyDenial}
 use Rattle.study_listing.specs.declared.fault.Stop.{Stop}
 use Rattle.study_listing.specs.declared.fault.Stop.TheVariants as stops
-use Rattle.study_listing.specs.Stops.{StopsUndamaged}
+use Rattle.study_listing.specs.Stops.{CanStop}
 use Rattle.study_search.specs.Faults.{CanReport}
 use Rattle.study_web.specs.Found.{of_stop}
-use Rattle.study_web.specs.Opened.{IsHeldAs, IsOfTables, IsOfValues, IsValueFault, IsSearchFault, IsOfSearch}
+use Rattle.study_web.specs.Opened.{IsHeldAs, IsOfTables, IsOfValues, IsUnreadValue, IsOfTablesFor, IsOfSearch}
 use Rattle.study_web.specs.Reported.{denial_text, IsDenied, IsAnswerFault}
 
 pub whole_denied : (IsIt : List ℕ → Type 0) (May : RequestFault → Type 0) (Stops : RunFault → Type 0) (d : RequestFault) (text : List ℕ) (ended : Ending)
@@ -85,39 +86,37 @@ survey_over h m Right start square (denial.Unread fault) is = inl is
 
 -- ---- why a search fails
 
-pub search_over : (h : Known) (m : Faults) (Right : Type 0) (d : RequestFault) → IsOfTables h m d → IsOfSearch h m Right d
-search_over h m Right d is = inl is
+pub values_over : (h : Known) (m : Faults) (Right : Type 0) (p : Position) (d : RequestFault) → IsOfTables h m d → IsOfValues h m Right p d
+values_over h m Right p d is = inl is
 
-pub search_stopped : (h : Known) (m : Faults) (Right : Type 0) (stop : Stop) → ((c : Class) → stop ≡ stops.Values (probe.NoTable c) → IsHeldAs (h c) false)
-    → ((f : SourceFault) → stop ≡ stops.Values (probe.TableRead f) → (c : Class) × (m c f ≡ true))
-    → (Right → StopsUndamaged stop) → IsOfSearch h m Right (of_stop stop)
-search_stopped h m Right (stops.Values fault) lacks fails right = inr (fault, no_value-in fault lacks fails right, refl)
-  where
-    no_value-in : (fault : ProbeFault) → ((c : Class) → stops.Values fault ≡ stops.Values (probe.NoTable c) → IsHeldAs (h c) false)
-        → ((f : SourceFault) → stops.Values fault ≡ stops.Values (probe.TableRead f) → (c : Class) × (m c f ≡ true))
-        → (Right → StopsUndamaged (stops.Values fault)) → IsSearchFault h m Right fault
-    no_value-in (probe.NoTable c) lacks fails right = lacks c refl
-    no_value-in (probe.TableRead f) lacks fails right = fails f refl
-    no_value-in (probe.PageDamaged c n) lacks fails right = right
-search_stopped h m Right stops.TooManyStudies lacks fails right = inl refl
-search_stopped h m Right stops.WriteDevice lacks fails right = inl refl
+pub search_over : (h : Known) (m : Faults) (Right : Type 0) (c : Class) (d : RequestFault) → IsOfTables h m d → IsOfSearch h m Right c d
+search_over h m Right c d is = inl is
 
 -- a value that was not read, as honest values may report
 pub search_reported : {V : Type 0} (source : ValueSource V)
-    → (h : Known) (m : Faults) (Right : Type 0) (v : V) (fault : ProbeFault) → CanReport source v fault
+    → (h : Known) (m : Faults) (Right : Type 0) (Needs : Class → Type 0) (v : V) (fault : ProbeFault) → CanReport source Needs v fault
     → ((c : Class) → IsHeldAs (h c) (source.held v c)) → ((c : Class) (f : SourceFault) → source.may_fail v c f → m c f ≡ true) → (Right → source.is_honest v)
-    → IsOfSearch h m Right (denial.Refused (of_probe fault))
-search_reported source h m Right v fault can known fails right = inr (fault, no_value-in fault can, refl)
+    → IsOfTablesFor h m Right Needs (denial.Refused (of_probe fault))
+search_reported source h m Right Needs v fault can known fails right = inr (fault, no_value-in fault can, refl)
   where
-    no_value-in : (fault : ProbeFault) → CanReport source v fault → IsSearchFault h m Right fault
-    no_value-in (probe.NoTable c) none = subst (IsHeldAs (h c)) none (known c)
-    no_value-in (probe.TableRead f) r = (r.0, fails r.0 f r.1)
+    no_value-in : (fault : ProbeFault) → CanReport source Needs v fault → IsUnreadValue h m Right Needs fault
+    no_value-in (probe.NoTable c) none = (subst (IsHeldAs (h c)) none.0 (known c), none.1)
+    no_value-in (probe.TableRead f) r = (r.0, r.2, fails r.0 f r.1)
     no_value-in (probe.PageDamaged c n) damaged = λ k. damaged (right k)
+
+-- the same for a search that stopped; writing into memory fails only for want of it
+pub search_stopped : {V : Type 0} (source : ValueSource V)
+    → (h : Known) (m : Faults) (Right : Type 0) (Needs : Class → Type 0) (v : V) (stop : Stop) → CanStop source Needs v stop
+    → ((c : Class) → IsHeldAs (h c) (source.held v c)) → ((c : Class) (f : SourceFault) → source.may_fail v c f → m c f ≡ true) → (Right → source.is_honest v)
+    → IsOfTablesFor h m Right Needs (of_stop stop)
+search_stopped source h m Right Needs v (stops.Values fault) can known fails right = search_reported source h m Right Needs v fault can known fails right
+search_stopped source h m Right Needs v stops.TooManyStudies can known fails right = inl refl
+search_stopped source h m Right Needs v stops.WriteDevice can known fails right = inl refl
 
 module _ {V : Type 0} (source : ValueSource V) where
   no_value : (h : Known) (m : Faults) (Right : Type 0) (p : Position) → IsValid p → (old new : V) (fault : ProbeFault)
       → Stopped (within p source) old fault new → ((c : Class) → IsHeldAs (h c) (source.held old c))
-      → ((c : Class) (f : SourceFault) → source.may_fail old c f → m c f ≡ true) → (Right → source.is_honest old) → IsValueFault h m Right p fault
+      → ((c : Class) (f : SourceFault) → source.may_fail old c f → m c f ≡ true) → (Right → source.is_honest old) → IsUnreadValue h m Right (NeedsClass p) fault
   no_value h m Right p valid old new (probe.NoTable c) is known fails right =
       (subst (IsHeldAs (h c)) (is.no_value c refl) (known c), missed-needed source p valid old new (probe.NoTable c) c is.evaluated refl)
   no_value h m Right p valid old new (probe.TableRead f) is known fails right =

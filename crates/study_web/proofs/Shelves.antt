@@ -4,6 +4,7 @@ use Rattle.std.specs.Prelude.{IfOk, IfErr}
 use Rattle.std.proofs.lemmas.List.{get_or-replicate}
 use Rattle.study_board.specs.Position.{Position}
 use Rattle.study_material.specs.declared.class.Class.{Class}
+use Rattle.study_material.specs.Needs.{IsNeeded, NeedsClass}
 use Rattle.study_material.specs.Class.{class_number}
 use Rattle.study_values.specs.declared.fault.SourceFault.{SourceFault}
 use Rattle.study_script.specs.declared.store.StoreFault.{StoreFault}
@@ -17,8 +18,8 @@ use Rattle.study_values.specs.declared.values.ProbeFault.TheVariants as probe
 use Rattle.study_reply.specs.declared.refusal.Refusal.{Refusal}
 use Rattle.study_web.specs.declared.request_fault.RequestFault.{RequestFault}
 use Rattle.study_web.specs.declared.request_fault.RequestFault.TheVariants as denial
-use Rattle.study_web.specs.Opened.{IsHeldAs, AreHandedIn, AreAllRight, IsBadFile, IsOfTables, IsValueFault, IsOfValues, IsOfFiles, IsOfFileValues}
-use Rattle.study_web.specs.Opened.{IsSearchFault, IsOfSearch, IsOfFileSearch}
+use Rattle.study_web.specs.Opened.{IsHeldAs, AreHandedIn, AreAllRight, IsBadFile, IsOfTables, IsOfValues, IsOfFiles, IsOfFileValues}
+use Rattle.study_web.specs.Opened.{IsUnreadValue, IsOfTablesFor, IsOfSearch, IsOfFileSearch}
 use Rattle.study_web.specs.Views.{OverStore, OverFiles}
 use Rattle.study_web.specs.Store.{is_written, known_file, faults_known, IsShelf, AreRightFiles}
 
@@ -95,24 +96,17 @@ module _ (h k : Class → Option (Result (List ℕ) StoreFault)) (m n : Class �
   still_named (Ok x) is = tt
   still_named (Err d) is = tables_alike d is
 
-  no_value_alike : (Right Sound : Type 0) → (Sound → Right) → (p : Position) (fault : ProbeFault) → IsValueFault h m Right p fault
-      → IsValueFault k n Sound p fault
-  no_value_alike Right Sound g p (probe.NoTable c) is = (subst (λ (o : Option (Result (List ℕ) StoreFault)). IsHeldAs o false) (same c) is.0, is.1)
-  no_value_alike Right Sound g p (probe.TableRead f) (c, needs, is) = (c, needs, sym (alike c f) ∙ is)
-  no_value_alike Right Sound g p (probe.PageDamaged c i) is = λ k. is (g k)
+  no_value_alike : (Right Sound : Type 0) → (Sound → Right) → (Needs : Class → Type 0) (fault : ProbeFault) → IsUnreadValue h m Right Needs fault
+      → IsUnreadValue k n Sound Needs fault
+  no_value_alike Right Sound g Needs (probe.NoTable c) is =
+      (subst (λ (o : Option (Result (List ℕ) StoreFault)). IsHeldAs o false) (same c) is.0, is.1)
+  no_value_alike Right Sound g Needs (probe.TableRead f) (c, needs, is) = (c, needs, sym (alike c f) ∙ is)
+  no_value_alike Right Sound g Needs (probe.PageDamaged c i) is = λ k. is (g k)
 
-  pub values_alike : (Right Sound : Type 0) → (Sound → Right) → (p : Position) (d : RequestFault) → IsOfValues h m Right p d → IsOfValues k n Sound p d
-  values_alike Right Sound g p d (inl is) = inl (tables_alike d is)
-  values_alike Right Sound g p d (inr (fault, is, same)) = inr (fault, no_value_alike Right Sound g p fault is, same)
-
-  search_no_value_alike : (Right Sound : Type 0) → (Sound → Right) → (fault : ProbeFault) → IsSearchFault h m Right fault → IsSearchFault k n Sound fault
-  search_no_value_alike Right Sound g (probe.NoTable c) is = subst (λ (o : Option (Result (List ℕ) StoreFault)). IsHeldAs o false) (same c) is
-  search_no_value_alike Right Sound g (probe.TableRead f) (c, is) = (c, sym (alike c f) ∙ is)
-  search_no_value_alike Right Sound g (probe.PageDamaged c i) is = λ k. is (g k)
-
-  pub search_alike : (Right Sound : Type 0) → (Sound → Right) → (d : RequestFault) → IsOfSearch h m Right d → IsOfSearch k n Sound d
-  search_alike Right Sound g d (inl is) = inl (tables_alike d is)
-  search_alike Right Sound g d (inr (fault, is, same)) = inr (fault, search_no_value_alike Right Sound g fault is, same)
+  pub values_alike : (Right Sound : Type 0) → (Sound → Right) → (Needs : Class → Type 0) (d : RequestFault) → IsOfTablesFor h m Right Needs d
+      → IsOfTablesFor k n Sound Needs d
+  values_alike Right Sound g Needs d (inl is) = inl (tables_alike d is)
+  values_alike Right Sound g Needs d (inr (fault, is, same)) = inr (fault, no_value_alike Right Sound g Needs fault is, same)
 
 -- the same for a store with these spans and bytes
 module _ {spans at : List FileSpan} {bytes bs : List ℕ} {written : List Bool} (e : at ≡ spans) (f : bs ≡ bytes) (w : written ≡ replicate 36 false) where
@@ -130,13 +124,13 @@ module _ {spans at : List FileSpan} {bytes bs : List ℕ} {written : List Bool} 
       → IsOfFileValues spans bytes p d
   values_made p d is = values_alike (known_file header_given at bs written) (λ c. Some (header_given (file_in spans bytes c)))
       (faults_known at bs written) (λ c. file_faults (file_in spans bytes c) c) headers_made faults_made (AreAllRight at bs)
-      (AreAllRight spans bytes) (right_made e f) p d is
+      (AreAllRight spans bytes) (right_made e f) (NeedsClass p) d is
 
-  pub search_made : (d : RequestFault) → IsOfSearch (known_file header_given at bs written) (faults_known at bs written) (AreAllRight at bs) d
-      → IsOfFileSearch spans bytes d
-  search_made d is = search_alike (known_file header_given at bs written) (λ c. Some (header_given (file_in spans bytes c)))
+  pub search_made : (c : Class) (d : RequestFault) → IsOfSearch (known_file header_given at bs written) (faults_known at bs written) (AreAllRight at bs) c d
+      → IsOfFileSearch spans bytes c d
+  search_made c d is = values_alike (known_file header_given at bs written) (λ c. Some (header_given (file_in spans bytes c)))
       (faults_known at bs written) (λ c. file_faults (file_in spans bytes c) c) headers_made faults_made (AreAllRight at bs)
-      (AreAllRight spans bytes) (right_made e f) d is
+      (AreAllRight spans bytes) (right_made e f) (IsNeeded c) d is
 
   -- what is true over the store is true over the files
   pub over_made : (IsSo : List Class → StoreKnowledge → Type 0) → OverStore (known_file header_given at bs written) (faults_known at bs written) IsSo

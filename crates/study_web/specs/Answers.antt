@@ -25,6 +25,7 @@ use Rattle.study_view.specs.Survey.{IsSurvey}
 use Rattle.study_search.specs.declared.only_moves.Outcome.{Outcome as SoughtOutcome}
 use Rattle.study_listing.specs.declared.piece_words.Piece.{Piece}
 use Rattle.study_listing.specs.Pieces.{AreLookedAt, IsPiece}
+use Rattle.study_listing.specs.Requests.{class_of_request}
 use Rattle.study_import.specs.Imported.{script_of, all_games}
 use Rattle.study_web.specs.declared.request_fault.RequestFault.{RequestFault}
 use Rattle.study_web.specs.declared.request_fault.RequestFault.TheVariants as denial
@@ -197,7 +198,8 @@ IsPassedList start =
 
 -- the piece of a list, if the opened files are right
 abbrev pub IsFoundOver : List FileSpan → List ℕ → Piece → List ℕ → Ending → Type 0
-IsFoundOver spans bytes piece = IsWhole (λ text. AreAllRight spans bytes → IsPiece piece text) (IsOfFileSearch spans bytes) IsNoMemory
+IsFoundOver spans bytes piece =
+    IsWhole (λ text. AreAllRight spans bytes → IsPiece piece text) (IsOfFileSearch spans bytes (class_of_request piece.request)) IsNoMemory
 
 -- the same over the files of the class and of the classes that it needs; no others are opened
 abbrev pub IsFoundTo : List FileSpan → List ℕ → Piece → List ℕ → Ending → Type 0
@@ -207,7 +209,7 @@ IsFoundTo spans bytes piece text ended =
 -- the number of only moves in a row from the position, if the opened files are right
 abbrev pub IsRowOver : List FileSpan → List ℕ → SoughtOutcome → Start → List ℕ → Ending → Type 0
 IsRowOver spans bytes o start =
-    IsWhole (λ text. AreAllRight spans bytes → IsRow o start.position text) (IsOfFileSearch spans bytes) IsNoMemory
+    IsWhole (λ text. AreAllRight spans bytes → IsRow o start.position text) (IsOfFileValues spans bytes start.position) IsNoMemory
 
 -- the same over the files that the position needs; no others are opened
 abbrev pub IsRowTo : List FileSpan → List ℕ → SoughtOutcome → Start → List ℕ → Ending → Type 0

@@ -2,7 +2,7 @@
 use Rattle.std.specs.Prelude.{◌≡◌, ◌⊎◌, ℕ, Bool, true, false, is_some, List, Option, Some, None, Result, Ok, Err}
 use Rattle.study_board.specs.Position.{Position}
 use Rattle.study_material.specs.declared.class.Class.{Class}
-use Rattle.study_material.specs.Needs.{NeedsClass}
+use Rattle.study_material.specs.Needs.{IsNeeded, NeedsClass}
 use Rattle.study_values.specs.declared.fault.SourceFault.{SourceFault}
 use Rattle.study_prober.specs.declared.fault.PagedFault.{PagedFault}
 use Rattle.study_values.specs.declared.values.ProbeFault.{ProbeFault}
@@ -57,26 +57,25 @@ module _ (headers : Class → Option (Result (List ℕ) StoreFault)) (faults : C
   IsOfTables denial.NoMan = ⊥
   IsOfTables (denial.Unread fault) = ⊥
 
-  -- Why the value of a position that is reached cannot be read: there is no file for a class that the position needs, or it cannot be read, or a page is
-  -- damaged, which never happens with right files.
-  abbrev pub IsValueFault : Type 0 → Position → ProbeFault → Type 0
-  IsValueFault Right p (probe.NoTable c) = IsHeldAs (headers c) false × NeedsClass p c
-  IsValueFault Right p (probe.TableRead f) = (c : Class) × NeedsClass p c × (faults c f ≡ true)
-  IsValueFault Right p (probe.PageDamaged c n) = Right → ⊥
+  -- Why a value cannot be read where only these classes are needed: there is no file for such a class, or it cannot be read, or a page is damaged, which
+  -- never happens with right files.
+  abbrev pub IsUnreadValue : Type 0 → (Class → Type 0) → ProbeFault → Type 0
+  IsUnreadValue Right Needs (probe.NoTable c) = IsHeldAs (headers c) false × Needs c
+  IsUnreadValue Right Needs (probe.TableRead f) = (c : Class) × Needs c × (faults c f ≡ true)
+  IsUnreadValue Right Needs (probe.PageDamaged c n) = Right → ⊥
 
   -- why the tables give no answer: they are not opened, or a value cannot be read
+  abbrev pub IsOfTablesFor : Type 0 → (Class → Type 0) → RequestFault → Type 0
+  IsOfTablesFor Right Needs d =
+      IsOfTables d ⊎ ((fault : ProbeFault) × IsUnreadValue Right Needs fault × (d ≡ denial.Refused (of_probe fault)))
+
+  -- the same for the positions that one is followed by
   abbrev pub IsOfValues : Type 0 → Position → RequestFault → Type 0
-  IsOfValues Right p d = IsOfTables d ⊎ ((fault : ProbeFault) × IsValueFault Right p fault × (d ≡ denial.Refused (of_probe fault)))
+  IsOfValues Right p d = IsOfTablesFor Right (NeedsClass p) d
 
-  -- Why a search has no answer: the tables are not opened, or a value cannot be read: there is no file for its class, or it cannot be read, or a page is
-  -- damaged, which never happens with right files.
-  abbrev pub IsSearchFault : Type 0 → ProbeFault → Type 0
-  IsSearchFault Right (probe.NoTable c) = IsHeldAs (headers c) false
-  IsSearchFault Right (probe.TableRead f) = (c : Class) × (faults c f ≡ true)
-  IsSearchFault Right (probe.PageDamaged c n) = Right → ⊥
-
-  abbrev pub IsOfSearch : Type 0 → RequestFault → Type 0
-  IsOfSearch Right d = IsOfTables d ⊎ ((fault : ProbeFault) × IsSearchFault Right fault × (d ≡ denial.Refused (of_probe fault)))
+  -- and for the positions of a class
+  abbrev pub IsOfSearch : Type 0 → Class → RequestFault → Type 0
+  IsOfSearch Right c d = IsOfTablesFor Right (IsNeeded c) d
 
 -- the same for the files of the request
 abbrev pub IsOfFiles : List FileSpan → List ℕ → RequestFault → Type 0
@@ -86,6 +85,6 @@ abbrev pub IsOfFileValues : List FileSpan → List ℕ → Position → RequestF
 IsOfFileValues spans bytes =
     IsOfValues (λ c. Some (header_given (file_in spans bytes c))) (λ c. file_faults (file_in spans bytes c) c) (AreAllRight spans bytes)
 
-abbrev pub IsOfFileSearch : List FileSpan → List ℕ → RequestFault → Type 0
+abbrev pub IsOfFileSearch : List FileSpan → List ℕ → Class → RequestFault → Type 0
 IsOfFileSearch spans bytes =
     IsOfSearch (λ c. Some (header_given (file_in spans bytes c))) (λ c. file_faults (file_in spans bytes c) c) (AreAllRight spans bytes)

@@ -1,9 +1,10 @@
 //! The positions of a class that have a theme, piece by piece.
-ghost use Rattle.std.specs.Prelude.{◌≡◌, ◌≤◌, true, false, IfSome, IfOk, IfErr, IsErrOf};
+ghost use Rattle.std.specs.Prelude.{◌≡◌, ◌≤◌, true, IfSome, IfOk, IfErr};
 ghost use Rattle.study_material.specs.declared.class.Class.{Class as AClass};
-ghost use Rattle.study_values.specs.declared.fault.SourceFault.{SourceFault as ASourceFault};
+ghost use Rattle.study_material.specs.Needs.{IsNeeded};
+ghost use Rattle.study_listing.specs.Requests.{class_of_request};
 ghost use Rattle.study_listing.specs.Pieces.{IsPiece};
-ghost use Rattle.study_listing.specs.Stops.{StopsUndamaged};
+ghost use Rattle.study_listing.specs.Stops.{CanStop};
 ghost use Rattle.study_web.specs.Answers.{MayEnd, IsNoMemory};
 ghost use Rattle.study_web.specs.Found.{of_stop};
 ghost use Rattle.study_web.specs.Opened.{IsOfSearch};
@@ -16,7 +17,6 @@ use study_listing::{Piece, Stop, write_piece};
 use study_prober::CellPages;
 use study_reply::{Refusal, of_probe};
 use study_script::TableStore;
-use study_values::ProbeFault;
 
 /// Why a search fails. Writing into memory fails only for want of it.
 fn of_stop(stop: Stop) -> RequestFault
@@ -37,11 +37,8 @@ fn piece_text<'a, V: CellPages, A: Allocator>(
 ) -> Result<Vec<u8, &'a A>, Stop>
     ensures text { V.source.is_honest values.old
         → IfOk result (λ text. IsPiece piece.now text.items) }
-    ensures no_table { (c : AClass) → IsErrOf result (Stop.Values (ProbeFault.NoTable c))
-        → V.source.held values.old c ≡ false }
-    ensures failed_so { (f : ASourceFault) → IsErrOf result (Stop.Values (ProbeFault.TableRead f))
-        → (c : AClass) × V.source.may_fail values.old c f }
-    ensures no_damage { V.source.is_honest values.old → IfErr result StopsUndamaged }
+    ensures faults { IfErr result
+        (CanStop V.source (IsNeeded (class_of_request piece.now.request)) values.old) }
 {
     let mut text = Vec::new(alloc);
     match write_piece(piece, values, &mut text) {
@@ -63,7 +60,7 @@ pub fn found_of<'a, S: TableStore, A: Allocator>(
         → IfOk result (λ text. IsPiece piece.now text.items) }
     ensures none { IfErr result
         (MayEnd (IsOfSearch (S.headers store.old) (S.faults store.old) ((c : AClass)
-        → S.honest store.old true c)) IsNoMemory) }
+        → S.honest store.old true c) (class_of_request piece.now.request)) IsNoMemory) }
 {
     match open_tables(alloc, store, pages) {
         Err(denial) => Err(AnswerFault::Denied(denial)),

@@ -1,10 +1,11 @@
 //! How many only moves in a row the defender can make the side to move find.
 ghost use Rattle.std.specs.Prelude.{◌≡◌, ◌≤◌, ◌++◌, true, decimal, IfSome, IfOk, IfErr, OnOk};
 ghost use Rattle.study_material.specs.declared.class.Class.{Class as AClass};
+ghost use Rattle.study_material.specs.Needs.{NeedsClass};
 ghost use Rattle.study_search.specs.Faults.{CanReport};
 ghost use Rattle.study_search.specs.OnlyMoves.{IsMost};
 ghost use Rattle.study_web.specs.Answers.{MayEnd, IsNoMemory};
-ghost use Rattle.study_web.specs.Opened.{IsOfSearch};
+ghost use Rattle.study_web.specs.Opened.{IsOfValues};
 ghost use Rattle.study_web.specs.Row.{row_text, IsRow};
 ghost use Rattle.study_web.specs.Reported.{line_of};
 
@@ -63,13 +64,13 @@ fn reported_row<'a, A: Allocator>(
 fn most_of<V: Values>(asked: &Rowed, values: &mut V) -> Result<Option<u8>, ProbeFault>
     ensures game { V.source.is_honest values.old
         → IfOk result (IsMost asked.now.outcome asked.now.start.position 12) }
-    ensures faults { IfErr result (CanReport V.source values.old) }
+    ensures faults { IfErr result (CanReport V.source (NeedsClass asked.now.start.position) values.old) }
 {
     most_only_moves(&asked.start.position, asked.outcome, LIMIT, values)
 }
 
 /// The number, over all files of a store.
-#[tactic(auto, using(crate::proofs::Denials::search_over))]
+#[tactic(auto, using(crate::proofs::Denials::values_over))]
 pub fn row_of<'a, S: TableStore, A: Allocator>(
     alloc: &'a A,
     asked: &Rowed,
@@ -80,8 +81,8 @@ pub fn row_of<'a, S: TableStore, A: Allocator>(
     ensures text { ((c : AClass) → S.honest store.old true c)
         → IfOk result (λ text. IsRow asked.now.outcome asked.now.start.position text.items) }
     ensures none { IfErr result
-        (MayEnd (IsOfSearch (S.headers store.old) (S.faults store.old) ((c : AClass)
-        → S.honest store.old true c)) IsNoMemory) }
+        (MayEnd (IsOfValues (S.headers store.old) (S.faults store.old) ((c : AClass)
+        → S.honest store.old true c) asked.now.start.position) IsNoMemory) }
 {
     match open_tables(alloc, store, pages) {
         Err(denial) => Err(AnswerFault::Denied(denial)),

@@ -3,7 +3,7 @@ use Rattle.std.specs.List.{AllByRecursion}
 use Rattle.study_material.specs.declared.class.Class.{Class}
 use Rattle.study_material.specs.declared.class.Class.TheVariants.{KK}
 use Rattle.study_listing.specs.Pieces.{AreLookedAt}
-use Rattle.study_listing.proofs.HeldClasses.{next-held, parted-at}
+use Rattle.study_listing.proofs.HeldClasses.{next-held, parted-at, looked-at-needed}
 use Rattle.study_listing.proofs.piece.need_tables.Goals as goal
 
 pub loop-class-init : goal.loop-class-init
@@ -34,3 +34,11 @@ returns-clause-held g c =
       subst (AllByRecursion (λ (x : Class). g.V.Values.source.held c.args.values.now x ≡ true))
           (take_all c.loop-class.class-index items (omega (arith, c.loop-class-test.false)) ∙ c.as_slice-class-items.ensures.value) c.loop-class.invariant,
     )
+
+pub returns-then-not-holds-clause-faults : goal.returns-then-not-holds-clause-faults
+returns-then-not-holds-clause-faults g c = (
+  sym c.holds.ensures ∙ c.if-not-holds.true,
+  looked-at-needed c.args.request.now c.as_slice-class-items.result.now c.loop-class.class-index KK
+      (subst (λ (l : List Class). AreLookedAt c.args.request.now l) (sym c.as_slice-class-items.ensures.value) c.classes_for-classes.ensures)
+      c.loop-class-test.true,
+)

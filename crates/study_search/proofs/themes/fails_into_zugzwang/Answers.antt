@@ -17,8 +17,7 @@ returns-in-Ok-None-clause-game g c h =
 pub returns-in-Ok-Some-clause-game : goal.returns-in-Ok-Some-clause-game
 returns-in-Ok-Some-clause-game g c h =
     one-some (IsOnlyMove (spoiling_outcome c.args.outcome) c.args.q.now) (λ m. IsZugzwang (after c.args.q.now m)) c.in-Ok-Some.field-0 c.in-Ok-Some.r
-    c.is_zugzwang.result
+    c.leads_to_zugzwang.result
     (subst (λ (o : Outcome). IsOne (IsOnlyMove o c.args.q.now) c.in-Ok-Some.field-0) c.spoiling_outcome.ensures (c.in-Ok-Some.ensures.game h))
     c.in-Ok-Some.field-0-is
-    (subst (λ (q : Position). IfOk c.is_zugzwang.result (λ b. (b ≡ true) ↔ IsZugzwang q)) c.played-next.ensures.value
-    (c.is_zugzwang.ensures.game (c.only_move.ensures.honest h)))
+    (c.leads_to_zugzwang.ensures.game (c.only_move.ensures.honest h))

@@ -14,6 +14,5 @@ returns-in-Ok-None-clause-game g c h =
 pub returns-in-Ok-Some-clause-game : goal.returns-in-Ok-Some-clause-game
 returns-in-Ok-Some-clause-game g c h =
     one-some (IsKey c.args.outcome c.args.p.now) (λ m. IsZugzwang (after c.args.p.now m)) c.in-Ok-Some.field-0 c.in-Ok-Some.m
-    c.is_zugzwang.result (c.in-Ok-Some.ensures.game h) c.in-Ok-Some.field-0-is
-    (subst (λ (q : Position). IfOk c.is_zugzwang.result (λ b. (b ≡ true) ↔ IsZugzwang q)) c.played-next.ensures.value
-    (c.is_zugzwang.ensures.game (c.key_move.ensures.honest h)))
+    c.leads_to_zugzwang.result (c.in-Ok-Some.ensures.game h) c.in-Ok-Some.field-0-is
+    (c.leads_to_zugzwang.ensures.game (c.key_move.ensures.honest h))
