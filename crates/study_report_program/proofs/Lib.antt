@@ -1,2 +1,1 @@
 pub mod FormShapes
-pub mod ErrorsWritten

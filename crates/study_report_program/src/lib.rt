@@ -8,10 +8,8 @@ mod options;
 mod program;
 mod progress;
 mod status;
-mod tables;
 
 pub use options::{Form, Options, read_words};
 pub use program::{report_script, studyreport};
 pub use progress::Progress;
 pub use status::{put_stop, put_studies};
-pub use tables::open_tables;

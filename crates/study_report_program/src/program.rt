@@ -1,15 +1,15 @@
 //! The program, over the streams of its process or over any others.
-ghost use Rattle.std.specs.Prelude.{◌≡◌, Bool, false};
+ghost use Rattle.std.specs.Prelude.{◌≡◌, Bool, false, codes};
 ghost use Rattle.study_material.specs.Class.{class_list};
 ghost use Rattle.clap.specs.Values.{kind_of};
 ghost use Rattle.study_program.specs.Status.{status_reported, status_unread};
 ghost use Rattle.study_report_program.specs.Ended.{EndsBy, HasReported, IsReported};
-ghost use Rattle.study_report_program.specs.Errors.{AreFaultsOf, IsStopReported};
+ghost use Rattle.study_program.specs.Errors.{AreFaultsOf};
+ghost use Rattle.study_report_program.specs.Errors.{IsStopReported};
 
 use crate::options::{Form, Options, read_words};
 use crate::progress::Progress;
 use crate::status::put_stop;
-use crate::tables::open_tables;
 use clap::Error;
 use std::alloc::Allocator;
 use std::io;
@@ -19,7 +19,7 @@ use std::rt::Files;
 use study_list::write_list;
 use study_print::{Unwatched, write_pages};
 use study_prober::PagedTables;
-use study_program::{FolderStore, status_of, status_without_options, words_of};
+use study_program::{FolderStore, open_tables, status_of, status_without_options, words_of};
 use study_report::{Lines, write_report};
 use study_script::{RunFault, Summary, Tables};
 use study_sheet::write_sheet;
@@ -125,7 +125,7 @@ fn report_over_files<F: Files, A: Allocator, R: Read, W: Write, E: Write>(
     ensures reported { HasReported options.now.form (R.remaining script.old)
         (R.remaining script.new) (W.contents out.old) (W.contents out.new) result }
     ensures faults { options.now.progress ≡ false
-        → AreFaultsOf class_list (E.contents errors.old) (E.contents errors.new) }
+        → AreFaultsOf (codes "studyreport") class_list (E.contents errors.old) (E.contents errors.new) }
 {
     let Ok(mut store) = FolderStore::new(files, alloc, options.tables) else {
         return Err(RunFault::OutOfMemory);
@@ -133,7 +133,7 @@ fn report_over_files<F: Files, A: Allocator, R: Read, W: Write, E: Write>(
     let Ok(mut tables) = PagedTables::new(alloc, options.pages) else {
         return Err(RunFault::OutOfMemory);
     };
-    open_tables(alloc, &mut tables, &mut store, errors);
+    open_tables(alloc, b"studyreport", &mut tables, &mut store, errors);
     match options.form {
         Form::Lines => write_report(alloc, script, out, &mut Lines, Tables::Paged(tables)),
         Form::Sheet => write_sheet(alloc, script, out, Tables::Paged(tables)),

@@ -1,19 +1,20 @@
+use Rattle.std.specs.Prelude.{codes}
 use Rattle.study_material.specs.Class.{class_list}
 use Rattle.study_report_program.proofs.FormShapes.{none_reported, lines_reported, pages_reported, sheet_reported, list_reported}
-use Rattle.study_report_program.proofs.ErrorsWritten.{no_faults}
+use Rattle.study_program.proofs.ErrorsWritten.{no_faults}
 use Rattle.study_report_program.proofs.program.report_over_files.Goals as goal
 
 pub returns-in_default-clause-reported : goal.returns-in_default-clause-reported
 returns-in_default-clause-reported g c = none_reported _ _ _ _
 
 pub returns-in_default-clause-faults : goal.returns-in_default-clause-faults
-returns-in_default-clause-faults g c quiet = no_faults class_list _
+returns-in_default-clause-faults g c quiet = no_faults (codes "studyreport") class_list _
 
 pub returns-in_default-new-clause-reported : goal.returns-in_default-new-clause-reported
 returns-in_default-new-clause-reported g c = none_reported _ _ _ _
 
 pub returns-in_default-new-clause-faults : goal.returns-in_default-new-clause-faults
-returns-in_default-new-clause-faults g c quiet = no_faults class_list _
+returns-in_default-new-clause-faults g c quiet = no_faults (codes "studyreport") class_list _
 
 pub returns-in-Lines-clause-reported : goal.returns-in-Lines-clause-reported
 returns-in-Lines-clause-reported g c = rw c.in-Lines.is (lines_reported _ _ _ _ _ c.write_report.ensures.shape c.write_report.ensures.fits)
