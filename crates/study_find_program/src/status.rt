@@ -1,9 +1,9 @@
 //! The exit status of the program, and what it writes to standard error.
-ghost use Rattle.std.specs.Prelude.{◌≡◌, ◌≤◌, ◌+◌, ◌++◌, ◌∷◌, [], OnOk, OnErr, codes, decimal, drop};
+ghost use Rattle.std.specs.Prelude.{◌≡◌, ◌≤◌, ◌+◌, ◌++◌, ◌∷◌, [], OnOk, OnErr, codes, decimal};
 ghost use Rattle.std.specs.Io.KnownBytes.{Appends};
 ghost use Rattle.arrayvec.specs.ArrayString.{array_string_len};
 ghost use Rattle.study_text.specs.Taken.{TakesPrefix};
-ghost use Rattle.studymine.specs.Status.{status_of, file_fault_text, no_table_text, read_text, probe_text, stop_text, progress_text};
+ghost use Rattle.study_find_program.specs.Status.{status_of, file_fault_text, no_table_text, read_text, probe_text, stop_text, progress_text};
 
 use arrayvec::ArrayString;
 use itoa::Buffer;
@@ -90,18 +90,8 @@ fn damaged_words(number: u32) -> ArrayString<32>
     words
 }
 
-/// The words of a refusal, without the `error ` before them.
-pub fn without_error(reply: &[u8]) -> &[u8]
-    ensures { result.now ≡ drop 6 reply.now }
-{
-    if reply.len() < 6 {
-        return &reply[reply.len()..];
-    }
-    &reply[6..]
-}
-
-/// Writes why the file of a class is not a table: `studymine: KRK.dtm: HeaderDamaged`. The words end with a line feed.
-pub fn put_file_fault<W: Write>(out: &mut W, class: Class, words: &[u8]) -> Result<(), DeviceFailed>
+/// Writes what is wrong with the file of a class: `studymine: KRK.dtm: PageDamaged 7`. The words end with a line feed.
+fn put_file_fault<W: Write>(out: &mut W, class: Class, words: &[u8]) -> Result<(), DeviceFailed>
     ensures ok { OnOk result
         (Appends (W.contents out.old) (W.contents out.new) (file_fault_text class words.now)) }
     ensures err { OnErr result

@@ -1,15 +1,13 @@
-use Rattle.std.proofs.Common.{◌++◌}
-use Rattle.std.specs.Prelude.{codes}
 use Rattle.std.proofs.lemmas.Result.{on_err_weaker}
 use Rattle.study_text.proofs.TextTaken.{TakesPrefix-first, TakesPrefix-second, OnErr-known}
-use Rattle.studymine.proofs.status.put_file_words.Goals as goal
+use Rattle.study_find_program.proofs.status.put_both.Goals as goal
 
 pub returns-in_err-write_text-clause-err : goal.returns-in_err-write_text-clause-err
 returns-in_err-write_text-clause-err g c =
     OnErr-known _ _ (TakesPrefix-first (g.W.Write.contents c.args.out.now) (g.W.Write.contents c.write_text.new.out)
-    c.args.name.now (codes ".dtm: " ++ c.args.words.now) c.in_err-write_text.ensures.err)
+    c.args.front.now c.args.back.now c.in_err-write_text.ensures.err)
 
 pub returns-clause-err : goal.returns-clause-err
 returns-clause-err g c =
     on_err_weaker _ (λ h. TakesPrefix-second (g.W.Write.contents c.args.out.now) (g.W.Write.contents c.write_text.new.out)
-    (g.W.Write.contents c.put_both.new.out) c.args.name.now (codes ".dtm: " ++ c.args.words.now) c.in_ok-write_text.ensures.ok h) c.put_both.ensures.err
+    (g.W.Write.contents c.write_text-2.new.out) c.args.front.now c.args.back.now c.in_ok-write_text.ensures.ok h) c.write_text-2.ensures.err

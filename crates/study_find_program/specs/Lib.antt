@@ -1,2 +1,4 @@
 pub mod Status
 pub mod Listed
+pub mod Stopped
+pub mod Ended

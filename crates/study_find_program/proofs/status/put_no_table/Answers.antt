@@ -2,7 +2,7 @@ use Rattle.std.proofs.Common.{List, ℕ, [], ◌∷◌, ◌++◌, ◌∙◌, sub
 use Rattle.std.specs.Prelude.{codes}
 use Rattle.std.specs.Io.KnownBytes.{Appends}
 use Rattle.study_text.specs.Taken.{TakesPrefix}
-use Rattle.studymine.proofs.status.put_no_table.Goals as goal
+use Rattle.study_find_program.proofs.status.put_no_table.Goals as goal
 
 pub returns-clause-ok : goal.returns-clause-ok
 returns-clause-ok g c =

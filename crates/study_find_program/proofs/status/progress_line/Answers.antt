@@ -1,6 +1,6 @@
 use Rattle.std.proofs.Common.{List, ℕ, ◌++◌, ◌∙◌, ap, append_assoc}
 use Rattle.std.specs.Prelude.{codes, decimal}
-use Rattle.studymine.proofs.status.progress_line.Goals as goal
+use Rattle.study_find_program.proofs.status.progress_line.Goals as goal
 
 pub returns : goal.returns
 returns c =

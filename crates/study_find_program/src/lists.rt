@@ -1,29 +1,21 @@
 //! The answer to a request over values: the list, or its length.
-ghost use Rattle.std.specs.Prelude.{◌≡◌, false, IfOk, OnOk, IsErrOf};
+ghost use Rattle.std.specs.Prelude.{◌≡◌, IfOk, IfErr, IfSome, OnOk};
 ghost use Rattle.study_material.specs.declared.class.Class.{Class as AClass};
-ghost use Rattle.studymine.specs.Listed.{AreSoManyOf, HasCounted, HasListed, HasPut, HasAnswered};
+ghost use Rattle.study_material.specs.Needs.{IsNeeded};
+ghost use Rattle.study_search.specs.Faults.{CanReport};
+ghost use Rattle.study_listing.specs.Requests.{class_of_request};
+ghost use Rattle.study_listing.specs.Stops.{CanStop};
+ghost use Rattle.study_find_program.specs.Listed.{AreSoManyOf, HasCounted, HasListed, HasPut, HasAnswered};
+ghost use Rattle.study_find_program.specs.Stopped.{CountStops, ListStops, PutStops, IsStopped};
 
 use crate::options::Output;
 use crate::status::put_count;
 use std::io::Write;
-use study_listing::{Form, Request, Selection, Stop, Watch, count_found, list_found, selection_of};
-use study_material::order;
+use study_listing::{
+    Form, Request, Selection, Stop, Watch, count_found, list_found, need_tables, selection_of,
+};
 use study_prober::CellPages;
-use study_values::{ProbeFault, Values};
-
-/// Refuses a request, before the first line, if the table of the class is missing, or of a class that its moves lead to.
-fn need_tables<V: Values>(request: &Request, values: &V) -> Result<(), ProbeFault>
-    ensures { (c : AClass) → IsErrOf result (ProbeFault.NoTable c)
-        → V.source.held values.now c ≡ false }
-{
-    let class = request.class();
-    for each in order(class) {
-        if !values.holds(each) && (each == class || !request.is_of_one_table()) {
-            return Err(ProbeFault::NoTable(each));
-        }
-    }
-    Ok(())
-}
+use study_values::ProbeFault;
 
 /// The number of listed positions: zero if the request selects none.
 fn count_of<V: CellPages, H: Watch>(
@@ -31,7 +23,9 @@ fn count_of<V: CellPages, H: Watch>(
     values: &mut V,
     watch: &mut H,
 ) -> Result<u32, ProbeFault>
-    ensures { V.source.is_honest values.old → IfOk result (AreSoManyOf selection) }
+    ensures count { V.source.is_honest values.old → IfOk result (AreSoManyOf selection) }
+    ensures faults { (class : AClass) → IfSome selection (λ s. s.search.class ≡ class)
+        → IfErr result (CanReport V.source (IsNeeded class) values.old) }
 {
     match selection {
         None => Ok(0),
@@ -46,8 +40,12 @@ fn write_count<V: CellPages, W: Write, H: Watch>(
     out: &mut W,
     watch: &mut H,
 ) -> Result<(), Stop>
-    ensures { V.source.is_honest values.old
+    ensures count { V.source.is_honest values.old
         → OnOk result (HasCounted selection (W.contents out.old) (W.contents out.new)) }
+    ensures stops { V.source.is_honest values.old
+        → IfErr result (CountStops selection (W.contents out.old) (W.contents out.new)) }
+    ensures faults { (class : AClass) → IfSome selection (λ s. s.search.class ≡ class)
+        → IfErr result (CanStop V.source (IsNeeded class) values.old) }
 {
     match count_of(selection, values, watch) {
         Err(fault) => Err(Stop::Values(fault)),
@@ -66,8 +64,12 @@ fn write_list<V: CellPages, W: Write, H: Watch>(
     out: &mut W,
     watch: &mut H,
 ) -> Result<(), Stop>
-    ensures { V.source.is_honest values.old
+    ensures list { V.source.is_honest values.old
         → OnOk result (HasListed form selection (W.contents out.old) (W.contents out.new)) }
+    ensures stops { V.source.is_honest values.old
+        → IfErr result (ListStops form selection (W.contents out.old) (W.contents out.new)) }
+    ensures faults { (class : AClass) → IfSome selection (λ s. s.search.class ≡ class)
+        → IfErr result (CanStop V.source (IsNeeded class) values.old) }
 {
     match selection {
         None => Ok(()),
@@ -85,8 +87,12 @@ fn write<V: CellPages, W: Write, H: Watch>(
     out: &mut W,
     watch: &mut H,
 ) -> Result<(), Stop>
-    ensures { V.source.is_honest values.old
+    ensures put { V.source.is_honest values.old
         → OnOk result (HasPut output selection (W.contents out.old) (W.contents out.new)) }
+    ensures stops { V.source.is_honest values.old
+        → IfErr result (PutStops output selection (W.contents out.old) (W.contents out.new)) }
+    ensures faults { (class : AClass) → IfSome selection (λ s. s.search.class ≡ class)
+        → IfErr result (CanStop V.source (IsNeeded class) values.old) }
 {
     match output {
         Output::Count => write_count(selection, values, out, watch),
@@ -102,8 +108,12 @@ pub fn answer<V: CellPages, W: Write, H: Watch>(
     out: &mut W,
     watch: &mut H,
 ) -> Result<(), Stop>
-    ensures { V.source.is_honest values.old
+    ensures answered { V.source.is_honest values.old
         → OnOk result (HasAnswered request.now output (W.contents out.old) (W.contents out.new)) }
+    ensures stopped { V.source.is_honest values.old
+        → IfErr result (IsStopped request.now output (W.contents out.old) (W.contents out.new)) }
+    ensures faults { IfErr result
+        (CanStop V.source (IsNeeded (class_of_request request.now)) values.old) }
 {
     if let Err(fault) = need_tables(request, values) {
         return Err(Stop::Values(fault));

@@ -6,7 +6,7 @@ use Rattle.std.proofs.lemmas.Result.{on_ok_weaker, on_err_weaker}
 use Rattle.study_text.specs.Taken.{TakesPrefix}
 use Rattle.study_text.proofs.TextTaken.{TakesPrefix-first, TakesPrefix-second, OnErr-known}
 use Rattle.study_material.specs.Class.{name_of}
-use Rattle.studymine.proofs.status.put_file_fault.Goals as goal
+use Rattle.study_find_program.proofs.status.put_file_fault.Goals as goal
 
 pub returns-in_err-write_text-clause-err : goal.returns-in_err-write_text-clause-err
 returns-in_err-write_text-clause-err g c =

@@ -6,8 +6,8 @@ use Rattle.study_listing.specs.declared.filters.Selection.{Selection}
 use Rattle.study_listing.specs.declared.request.Request.{Request}
 use Rattle.study_listing.specs.declared.text.Form.{Form}
 use Rattle.study_listing.specs.Lists.{AreSoMany, HasWritten, IsSelectionOf}
-use Rattle.studymine.specs.declared.options.Output.{Output}
-use Rattle.studymine.specs.declared.options.Output.TheVariants as output
+use Rattle.study_find_program.specs.declared.options.Output.{Output}
+use Rattle.study_find_program.specs.declared.options.Output.TheVariants as output
 
 -- so many positions are listed: zero if the request selects none
 abbrev pub AreSoManyOf : Option Selection → ℕ → Type 0
