@@ -3,3 +3,4 @@ pub mod Parser
 pub mod Lines
 pub mod Laws
 pub mod Kinds
+pub mod Documents

@@ -46,8 +46,8 @@ use Rattle.study_import.specs.Blocks.{stopped_block, read_block, no_moves, game_
 use Rattle.study_import.specs.Blocks.{block_of, tail_of, tail_line, under_remark, block_or_tail, block_by, place_in, last_line, is_chosen, Tally}
 use Rattle.study_import.specs.Blocks.{tally_with_game, reported_text, blocks}
 use Rattle.study_import.specs.Tails.{Tail, position_text}
-use Rattle.study_import.specs.Documents.{Document, empty, placed, composed, with_start, after_position, new_study, after_stipulate, unless_refused}
-use Rattle.study_import.specs.Documents.{after_move, after_line, after_lines}
+use Rattle.study_command.specs.Documents.{Document, empty, start as placed, study as composed, with_start_of as with_start, after_position, new_study}
+use Rattle.study_command.specs.Documents.{after_stipulate, unless_refused, after_move, after_line, after_lines}
 use Rattle.study_import.specs.Meant.{tag_texts, study_aimed, study_read, study_begun, study_with_fen, study_unless_repeated, study_behind_header, study_in, study_of_game}
 use Rattle.study_import.specs.Meant.{study_of_tail, study_by}
 use Rattle.study_import.specs.Laws.{IsCounted, IsGiven, asks_pgn, IsNoPgn, IsWritten, HasSixTags, document_then, document_behind}

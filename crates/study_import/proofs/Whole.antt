@@ -3,7 +3,7 @@ use Rattle.std.proofs.Common.{◌≡◌, ℕ, zero, suc, ◌+◌, ◌≤◌, Boo
 use Rattle.std.proofs.Common.{sym, ap, ◌∙◌, arith, length-drop}
 use Rattle.std.specs.Prelude.{◌==◌, ◌&&◌, ◌||◌, if◌then◌else◌}
 use Rattle.std.specs.List.{prefix_len}
-use Rattle.std.proofs.lemmas.Bool.{and_parts}
+use Rattle.std.proofs.lemmas.Bool.{and_parts, ltb-true}
 use Rattle.study_games.specs.declared.token.TokenFault.TheVariants.{OpenComment, TagForm, OpenString, Byte}
 use Rattle.study_games.specs.declared.header.HeaderFault.{HeaderFault}
 use Rattle.study_games.specs.Bytes.{is_blank, is_gap, is_letter, is_digit, is_name_byte, is_sign, is_tail, begins_symbol, is_symbol_byte, is_glyph}
@@ -11,6 +11,7 @@ use Rattle.study_games.specs.Tokens.{Token, Lexed, front, behind, lexed_comment,
 use Rattle.study_games.specs.Tokens.{lexed_value, lexed_quotation, lexed_name, tag_at, begins_ellipsis, behind_ellipsis, begins_number, symbol_at, ink_at}
 use Rattle.study_games.specs.Tokens.{lexed_token, blank}
 use Rattle.study_games.specs.Tokens.{aside, opening, closing, star, tag, comment, rest, sign, symbol}
+use Rattle.study_games.specs.Spaces.{space_len, begins_space, ink_len}
 use Rattle.study_games.specs.Header.{Pair, Step, on, no_tag, ended, step_of, with_tags, tags_in, with_fault, fault_in}
 use Rattle.study_import.specs.declared.game.token_effects.Reason.{Reason}
 use Rattle.study_import.specs.declared.game.movetext.MovesFault.{MovesFault}
@@ -69,27 +70,29 @@ within_tag text = within_named (length text) (behind is_gap text) (behind_le is_
 run_le : (p : ℕ → Bool) (b : ℕ) (bs : List ℕ) → p b ≡ true → length (behind p (b ∷ bs)) ≤ length bs
 run_le p b bs h = rw h (omega (arith, length-drop (1 + prefix_len p bs) (b ∷ bs)))
 
-symbol_begins : (b : ℕ) → begins_symbol b ≡ true → is_symbol_byte b ≡ true
-symbol_begins b h = rw h refl
-
-sign_ends : (b : ℕ) → is_sign b ≡ true → is_tail b ≡ true
-sign_ends b h = rw h refl
-
 ellipsis_le : (b : ℕ) (bs : List ℕ) → length (behind_ellipsis (b ∷ bs)) ≤ length bs
 ellipsis_le b [] = omega arith
 ellipsis_le b (c ∷ []) = omega arith
 ellipsis_le b (c ∷ d ∷ ds) = omega arith
 
-within_symbol : (b : ℕ) (bs : List ℕ) → begins_symbol b ≡ true → Within (length bs) (symbol_at (b ∷ bs))
-within_symbol b bs h =
+space_le : (b : ℕ) (bs : List ℕ) → begins_space true (b ∷ bs) ≡ true → length (drop (space_len true (b ∷ bs)) (b ∷ bs)) ≤ length bs
+space_le b bs h =
+    let some = ltb-true 0 (space_len true (b ∷ bs)) h in omega (arith, some, length-drop (space_len true (b ∷ bs)) (b ∷ bs))
+
+ink_le : (n : ℕ) (bs : List ℕ) → length (drop n bs) ≤ length bs
+ink_le n bs = omega (arith, length-drop n bs)
+
+within_symbol : (b : ℕ) (bs : List ℕ) → Within (length bs) (symbol_at b bs)
+within_symbol b bs =
     within_if (begins_number (b ∷ bs)) (length bs) _ _ (λ e. run_le is_digit b bs (and_parts (is_digit b) (begins_ellipsis (behind is_digit (b ∷ bs))) e).0)
-    (run_le is_symbol_byte b bs (symbol_begins b h))
+    (ink_le (ink_len is_symbol_byte b bs) bs)
 
 within_ink : (b : ℕ) (bs : List ℕ) → Within (length bs) (ink_at (b ∷ bs))
 within_ink b bs =
-    within_if (is_sign b) (length bs) _ _ (λ e. run_le is_tail b bs (sign_ends b e))
+    within_if (is_sign b) (length bs) _ _ (λ e. ink_le (ink_len is_tail b bs) bs)
     (within_if (begins_ellipsis (b ∷ bs)) (length bs) _ _ (λ e. ellipsis_le b bs)
-    (within_if (begins_symbol b) (length bs) _ _ (λ e. within_symbol b bs e) tt))
+    (within_if (begins_space true (b ∷ bs)) (length bs) _ _ (λ e. space_le b bs e)
+    (within_if (begins_symbol b) (length bs) _ _ (λ e. within_symbol b bs) tt)))
 
 pub within_lexed : (fresh : Bool) (b : ℕ) (bs : List ℕ) → Within (length bs) (lexed_token fresh b bs)
 unfolding lexed_token

@@ -9,6 +9,7 @@ use Rattle.study_marks.specs.declared.stipulation.Stipulation.{Stipulation}
 use Rattle.study_marks.specs.declared.tag.TagName.{TagName}
 use Rattle.study_marks.specs.Study.{tag_name}
 use Rattle.study_marks.specs.Edits.{PlainStudy, tag_refusal}
+use Rattle.study_command.specs.Documents.{Document, study as composed, after_lines}
 use Rattle.study_command.specs.Lines.{script_lines}
 use Rattle.study_command.specs.Parser.{Asks, pgn, command_of}
 use Rattle.study_games.specs.Header.{Pair, tags_in, fault_in, tags_of, header_fault, value_of}
@@ -29,7 +30,6 @@ use Rattle.study_import.specs.declared.game.movetext.Stop.TheVariants as stop
 use Rattle.study_import.specs.Movetext.{Ended, read_moves}
 use Rattle.study_import.specs.Behind.{moves_left, moves_in, to_the_end}
 use Rattle.study_import.specs.Imported.{no_game, script_of, tally_of}
-use Rattle.study_import.specs.Documents.{Document, composed, after_lines}
 use Rattle.study_import.specs.Tails.{Tail, tail_from, not_begun, tail_in}
 use Rattle.study_import.specs.Meant.{study_by}
 

@@ -17,6 +17,5 @@ pub mod Imported
 pub mod ImportedSeen
 pub mod Laws
 pub mod Insertions
-pub mod Documents
 pub mod Meant
 pub mod Written

@@ -12,7 +12,8 @@ use Rattle.study_marks.specs.Edits.{PlainStudy}
 use Rattle.study_script.specs.declared.tables.Tables.{Tables}
 use Rattle.study_script.specs.declared.document.Document.{Document as HeldDocument}
 use Rattle.study_script.specs.declared.document.Document.TheVariants as held
-use Rattle.study_script.specs.State.{State, start, study}
+use Rattle.study_command.specs.Documents.{start, study}
+use Rattle.study_script.specs.State.{State}
 use Rattle.study_script.specs.Replies.{with_study}
 use Rattle.study_script.specs.SessionHolds.{document_seen, Holds, tables_honest, tables_held, tables_may_fail, are_paged}
 

@@ -1,17 +1,15 @@
 -- The reply to a command is a piece of a run's output.
 use Rattle.std.proofs.Common.{◌≡◌, ℕ, ◌+◌, ◌*◌, Bool, true, false, List, [], ◌∷◌, ◌++◌, length, take, Option, Some, None, Result, Ok, Err, refl}
-use Rattle.std.proofs.Common.{inl, inr, sym, subst}
-use Rattle.std.specs.Prelude.{codes, decimal, is_err, if◌then◌else◌, IfOk, OnOk, OnErr}
+use Rattle.std.proofs.Common.{inl, inr}
+use Rattle.std.specs.Prelude.{codes, decimal, if◌then◌else◌}
 use Rattle.std.specs.List.{list_any}
 use Rattle.std.specs.Str.{bytes_eq}
-use Rattle.std.specs.Io.KnownBytes.{Appends}
-use Rattle.study_text.specs.Taken.{TakesPrefix}
 use Rattle.study_board.specs.Position.{Position, in_check}
 use Rattle.study_moves.specs.declared.moves.Move.{Move}
 use Rattle.study_moves.specs.LegalList.{legal_list}
 use Rattle.study_material.specs.Class.{name_of}
 use Rattle.study_notation.specs.FenSpelling.{fen_text}
-use Rattle.study_command.specs.Parser.{Asked, Asks, command_of}
+use Rattle.study_command.specs.Parser.{Asked}
 use Rattle.study_reply.specs.declared.table_reply.TableReply.{TableReply}
 use Rattle.study_reply.specs.declared.table_reply.TableReply.TheVariants.{Built, Loaded, Saved, Verified}
 use Rattle.study_reply.specs.declared.reply.Reply.{Reply}

@@ -2,7 +2,6 @@
 use Rattle.std.proofs.Common.{◌≡◌, [], ◌∷◌, Some, None, Ok, Err, refl}
 use Rattle.std.specs.Prelude.{codes}
 use Rattle.study_board.specs.declared.men.Side.TheVariants.{Black}
-use Rattle.study_material.specs.declared.class.Class.TheVariants.{KK}
 use Rattle.study_text.specs.Words.{words, behind_word}
 use Rattle.study_marks.specs.declared.stipulation.Goal.TheVariants.{MateIn}
 use Rattle.study_marks.specs.declared.tag.TagName.TheVariants.{Event}

@@ -9,7 +9,7 @@ use Rattle.study_reply.specs.declared.reply.Reply.{Reply as Done}
 use Rattle.study_reply.specs.declared.reply.Reply.TheVariants.{Table}
 use Rattle.study_reply.specs.declared.reply.LineRefusal.{LineRefusal}
 use Rattle.study_reply.specs.declared.reply.LineRefusal.TheVariants.{Line}
-use Rattle.study_reply.specs.Replied.{answer_text, of_command, line_text}
+use Rattle.study_reply.specs.Replied.{of_command, line_text}
 use Rattle.study_script.specs.State.{State, Environment}
 use Rattle.study_script.specs.Replies.{Reply}
 use Rattle.study_script.specs.SessionHolds.{Answered, BrokenOff}

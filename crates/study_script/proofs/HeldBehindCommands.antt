@@ -24,7 +24,8 @@ use Rattle.study_command.specs.declared.command.FenCommand.TheVariants.{Position
 use Rattle.study_script.specs.declared.store.StoreFault.{StoreFault}
 use Rattle.study_script.specs.declared.document.Document.{Document as HeldDocument}
 use Rattle.study_script.specs.declared.tables.Tables.{Tables}
-use Rattle.study_script.specs.State.{State, Document, empty, start, study, is_among, Environment, quiet, no_path}
+use Rattle.study_command.specs.Documents.{Document, empty, start, study}
+use Rattle.study_script.specs.State.{State, is_among, Environment, quiet, no_path}
 use Rattle.study_values.specs.declared.values.ProbeFault.TheVariants as probe
 use Rattle.study_script.specs.State.{no_room, no_room_for, unread, unopened, cut_off, file, header}
 use Rattle.study_script.specs.Replies.{Reply, IsValued, missing, found, IsProbingEdit, IsProbingEditWithMemory, IsPositionReply}

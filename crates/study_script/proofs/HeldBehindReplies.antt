@@ -19,7 +19,8 @@ use Rattle.study_script.specs.declared.tables.Tables.{Tables}
 use Rattle.study_reply.specs.Words.{mark_text}
 use Rattle.study_script.specs.declared.document.Document.{Document as HeldDocument}
 use Rattle.study_script.specs.declared.document.Document.TheVariants as held
-use Rattle.study_script.specs.State.{State, empty, start, study}
+use Rattle.study_command.specs.Documents.{empty, start, study}
+use Rattle.study_script.specs.State.{State}
 use Rattle.study_script.specs.Replies.{accepted_reply, refused_reply, with_study, marked_reply, IsSolution}
 use Rattle.study_script.specs.SessionHolds.{document_seen, Holds, tables_honest, tables_held, tables_may_fail, are_paged, HoldsDocument}
 use Rattle.study_script.specs.SessionHolds.{HoldsFrom, HoldsBench, HoldsBenchFrom}

@@ -11,7 +11,8 @@ use Rattle.study_marks.specs.Queries.{asked_at, IsOutside}
 use Rattle.study_marks.specs.Answers.{IsUndamaged}
 use Rattle.study_marks.specs.Edits.{PlainStudy, with_insertion, insert_refusal}
 use Rattle.study_reply.specs.Names.{edit_words}
-use Rattle.study_script.specs.State.{State, is_among, Environment, study, quiet, no_path, no_room, no_room_for, unread, unopened, cut_off, file, header}
+use Rattle.study_command.specs.Documents.{study}
+use Rattle.study_script.specs.State.{State, is_among, Environment, quiet, no_path, no_room, no_room_for, unread, unopened, cut_off, file, header}
 use Rattle.study_script.specs.Replies.{Reply, refused_as, IsInserted, inserted_text, IsMoveReply, IsMoveReplyAt, IsInsertReply, IsStudyReply, IsStudyReplyAt}
 use Rattle.study_command.specs.declared.command.NodeCommand.{NodeCommand}
 use Rattle.study_script.specs.SessionHolds.{HasNoDeviceFault, IsFailingTable}

@@ -5,6 +5,7 @@ pub mod SilentEdits
 pub mod HeldBehindReplies
 pub mod ShiftReplies
 pub mod Documents
+pub mod DocumentsLeft
 pub mod PlainNodes
 pub mod InsertReplies
 pub mod HeldBehindCommands
@@ -20,3 +21,4 @@ pub mod DonePieces
 pub mod Apart
 pub mod Games
 pub mod Behind
+pub mod RulesFollowed

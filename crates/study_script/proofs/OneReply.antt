@@ -45,7 +45,8 @@ use Rattle.study_command.specs.declared.command.TableCommand.TheVariants.{Build,
 use Rattle.study_reply.specs.declared.refusal.Refusal.{Refusal}
 use Rattle.study_reply.specs.declared.refusal.Refusal.TheVariants.{NoTable}
 use Rattle.study_command.specs.Parser.{Asked, fen_command, node_query, node_command, table_command, stipulate, insert, tag, solve, pgn, Asks, command_of}
-use Rattle.study_script.specs.State.{State, Document, empty, start, study, is_among, first_lacking, Environment, quiet}
+use Rattle.study_command.specs.Documents.{Document, empty, start, study}
+use Rattle.study_script.specs.State.{State, is_among, first_lacking, Environment, quiet}
 use Rattle.study_values.specs.declared.values.ProbeFault.TheVariants as probe
 use Rattle.study_script.specs.State.{no_path, no_room, no_room_for, unread, unopened, cut_off, file, header}
 use Rattle.std.specs.Prelude.{◌==◌, ◌%◌, ◌&&◌, codes}

@@ -17,7 +17,8 @@ use Rattle.study_marks.specs.Edits.{PlainStudy}
 use Rattle.study_command.specs.declared.command.NodeCommand.{NodeCommand}
 use Rattle.study_reply.specs.declared.refusal.Refusal.{Refusal}
 use Rattle.study_reply.specs.declared.refusal.Refusal.TheVariants.{NoSuchNode, OutOfMemory}
-use Rattle.study_script.specs.State.{State, start, study, quiet, no_path}
+use Rattle.study_command.specs.Documents.{start, study}
+use Rattle.study_script.specs.State.{State, quiet, no_path}
 use Rattle.study_reply.specs.Words.{insert_text}
 use Rattle.study_script.specs.Replies.{refused_reply, inserted_text, named_start, start_found, IsStudyReplyAt, IsInsertReply}
 

@@ -8,7 +8,8 @@ use Rattle.study_script.specs.declared.running.Summary.{Summary}
 use Rattle.study_script.specs.declared.running.RunFault.{RunFault}
 use Rattle.study_script.specs.declared.running.RunFault.TheVariants.{ReadDevice, WriteDevice, LineTooLong, TooManyLines, OutOfMemory}
 use Rattle.study_command.specs.Lines.{script_lines, GaveFeeds}
-use Rattle.study_script.specs.State.{State, empty, StoreKnowledge, Environment}
+use Rattle.study_command.specs.Documents.{empty}
+use Rattle.study_script.specs.State.{State, StoreKnowledge, Environment}
 use Rattle.study_script.specs.Replies.{Reply, Answer, IsReplyIn, AreReplies, replies_text}
 
 -- the state before the first line: no document and no table

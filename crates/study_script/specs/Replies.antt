@@ -28,7 +28,6 @@ use Rattle.study_notation.specs.Fen.{start_of}
 use Rattle.study_notation.specs.FenSpelling.{fen_text}
 use Rattle.study_notation.specs.Matching.{move_of}
 use Rattle.study_notation.specs.SanSpelling.{move_text}
-use Rattle.study_tree.specs.Forest.{none}
 use Rattle.study_tree.specs.Edits.{children_at}
 use Rattle.study_tree.specs.Tree.{Spot, has_spot, spot_at}
 use Rattle.study_marks.specs.declared.stipulation.Stipulation.{Stipulation}
@@ -59,7 +58,8 @@ use Rattle.study_reply.specs.declared.refusal.Refusal.TheVariants.{NoTable, Miss
 use Rattle.study_reply.specs.declared.refusal.Refusal.TheVariants.{Device, File, DistanceTooLarge}
 use Rattle.study_reply.specs.Names.{words_of, edit_words, of_probe}
 use Rattle.study_script.specs.StoreRefusals.{refusal_of_paged, refusal_of_store}
-use Rattle.study_script.specs.State.{Document, empty, start, study, State, is_among, first_lacking}
+use Rattle.study_command.specs.Documents.{Document, empty, start, study, new_study}
+use Rattle.study_script.specs.State.{State, is_among, first_lacking}
 use Rattle.study_script.specs.State.{IsGiven, IsOpened, IsGivenAs, written_anew, Environment, no_path, no_room}
 use Rattle.study_script.specs.State.{no_room_for, unread, unopened, cut_off, file, header}
 use Rattle.study_reply.specs.Words.{reply_line, stipulation_words, mark_text, moves_text, solve_text}
@@ -138,15 +138,6 @@ IsStartReply s o Shift (study old) (Err fault) reply = reply ≡ refused_reply s
 IsStartReply s o Shift (study old) (Ok new) reply = IsShiftReply s o old new (shift_refusal old new) reply
 IsStartReply s o Shift empty read reply = reply ≡ refused_reply s NoStudy
 IsStartReply s o Shift (start old) read reply = reply ≡ refused_reply s NoStudy
-
--- a study with the root alone, and no tags
-abbrev pub new_study : Start → Stipulation → PlainStudy
-new_study from stipulation = record {
-  start = from;
-  stipulation = stipulation;
-  tags = None ∷ None ∷ None ∷ None ∷ None ∷ None ∷ [];
-  tree = record { label = tt; below = none };
-}
 
 -- `stipulate` makes the study, or changes its stipulation
 abbrev pub IsStipulateReply : State → Environment → Document → Stipulation → Reply → Type 0

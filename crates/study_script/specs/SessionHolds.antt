@@ -19,16 +19,21 @@ use Rattle.study_script.specs.declared.document.Document.{Document as HeldDocume
 use Rattle.study_script.specs.declared.document.Document.TheVariants as held
 use Rattle.study_script.specs.declared.tables.Tables.{Tables}
 use Rattle.study_script.specs.declared.tables.Tables.TheVariants.{Whole, Paged}
-use Rattle.study_script.specs.State.{Document, empty, start, study, State, is_among, Environment}
+use Rattle.study_command.specs.Documents.{Document, empty, start, study}
+use Rattle.study_script.specs.State.{State, is_among, Environment}
 use Rattle.study_values.specs.declared.values.ProbeFault.TheVariants as probe
 use Rattle.study_script.specs.Replies.{Reply, MayFailAmong}
+
+-- a study without its marks, as a document
+abbrev pub bench_seen : BenchState → Document
+bench_seen b = study (plain_study (marked_study b))
 
 module _ {A : Type 0} where
   -- the study without its marks
   abbrev pub document_seen : HeldDocument A → Document
   document_seen held.Empty = empty
   document_seen (held.Start s) = start s
-  document_seen (held.Study b) = study (plain_study (marked_study b))
+  document_seen (held.Study b) = bench_seen b
 
   -- the marks are those of annotating from scratch
   abbrev pub IsMarked : HeldDocument A → Type 0

@@ -8,15 +8,8 @@ use Rattle.study_values.specs.declared.fault.SourceFault.{SourceFault}
 use Rattle.study_values.specs.Size.{pages_of}
 use Rattle.study_tablefile.specs.PageSource.{Question, of_header, of_page}
 use Rattle.study_values.specs.declared.values.ProbeFault.{ProbeFault}
-use Rattle.study_notation.specs.declared.start.Start.{Start}
-use Rattle.study_marks.specs.Edits.{PlainStudy}
+use Rattle.study_command.specs.Documents.{Document}
 use Rattle.study_script.specs.declared.store.StoreFault.{StoreFault}
-
--- nothing, a start, or a study, which has no marks here: they are computed anew at each line
-pub data Document : Type 0 where
-  empty : Document
-  start : Start → Document
-  study : PlainStudy → Document
 
 -- What is known of a store for each class: the bytes of its file, read from front to back, or the fault of opening it; and the header that its source of
 -- pages returns, or the fault of opening it. For a store in memory all is known except for a file that was opened to be written, for a real one nothing. For

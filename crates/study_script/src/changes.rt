@@ -6,11 +6,13 @@ ghost use Rattle.study_tree.specs.Tree.{has_spot};
 ghost use Rattle.study_marks.specs.Study.{plain_study, position_at};
 ghost use Rattle.study_marks.specs.BenchState.{marked_study};
 ghost use Rattle.study_command.specs.Paths.{steps_of, is_path_word};
-ghost use Rattle.study_script.specs.State.{State, study};
+ghost use Rattle.study_command.specs.Documents.{study, after_delete, after_promote, after_move};
+ghost use Rattle.study_script.specs.State.{State};
 ghost use Rattle.study_script.specs.Replies.{IsInsertReply, IsMoveReply, IsMoveReplyAt, IsStudyReply, IsStudyReplyAt, tag_reply};
 ghost use Rattle.study_script.specs.declared.document.Document.TheVariants as held;
-ghost use Rattle.study_script.specs.SessionHolds.{Holds, HoldsDocument, HoldsFrom, HoldsBench, HoldsBenchFrom};
-ghost use Rattle.study_script.specs.Executed.{Executed};
+ghost use Rattle.study_script.specs.SessionHolds.{Holds, HoldsDocument, HoldsFrom, HoldsBench, HoldsBenchFrom, bench_seen, document_seen};
+ghost use Rattle.study_command.specs.Parser.{node_command as node_asked, insert as insert_asked, tag as tag_asked};
+ghost use Rattle.study_script.specs.Executed.{Executed, Leaves, LeavesRuled};
 
 use crate::document::Document;
 use crate::queries::mark_at;
@@ -33,9 +35,11 @@ pub fn node_command<'a, A: Allocator>(
     path: &[u8],
 ) -> Answer<'a, A>
     requires { is_path_word path.now ≡ true }
-    ensures { (s : State) → HoldsDocument document.old s
+    ensures done { (s : State) → HoldsDocument document.old s
         → Executed (λ o. IsStudyReplyAt s o word s.document (steps_of path.now))
         (HoldsFrom s document.new) result }
+    ensures document { Leaves result (node_asked word (steps_of path.now))
+        (document_seen document.old) (document_seen document.new) }
 {
     match document {
         Document::Study(bench) => node_command_on(alloc, bench, word, path),
@@ -51,10 +55,12 @@ fn node_command_on<'a, A: Allocator>(
     path: &[u8],
 ) -> Answer<'a, A>
     requires { is_path_word path.now ≡ true }
-    ensures { (s : State) → HoldsBench bench.old s
+    ensures done { (s : State) → HoldsBench bench.old s
         → Executed (λ o.
         IsStudyReplyAt s o word (study (plain_study (marked_study bench.old))) (steps_of path.now))
         (HoldsBenchFrom s bench.new) result }
+    ensures document { Leaves result (node_asked word (steps_of path.now))
+        (bench_seen bench.old) (bench_seen bench.new) }
 {
     match read_path(alloc, path) {
         Ok(path) => node_command_at(bench, word, path),
@@ -67,9 +73,11 @@ fn node_command_at<'a, A: Allocator>(
     word: NodeCommand,
     path: Path<'a, A>,
 ) -> Answer<'a, A>
-    ensures { (s : State) → HoldsBench bench.old s
+    ensures done { (s : State) → HoldsBench bench.old s
         → Executed (λ o. IsStudyReply s word (plain_study (marked_study bench.old)) path.entry)
         (HoldsBenchFrom s bench.new) result }
+    ensures document { Leaves result (node_asked word path.entry)
+        (bench_seen bench.old) (bench_seen bench.new) }
 {
     match word {
         NodeCommand::Delete => delete(bench, path),
@@ -79,10 +87,12 @@ fn node_command_at<'a, A: Allocator>(
 }
 
 fn delete<'a, A: Allocator>(bench: &mut Bench<'a, A>, path: Path<'a, A>) -> Answer<'a, A>
-    ensures { (s : State) → HoldsBench bench.old s
+    ensures done { (s : State) → HoldsBench bench.old s
         → Executed (λ o.
         IsStudyReply s NodeCommand.Delete (plain_study (marked_study bench.old)) path.entry)
         (HoldsBenchFrom s bench.new) result }
+    ensures document { LeavesRuled result (after_delete (bench_seen bench.old) path.entry)
+        (bench_seen bench.old) (bench_seen bench.new) }
 {
     match bench.delete(&path) {
         Ok(()) => Ok(Reply::Deleted(path)),
@@ -91,10 +101,12 @@ fn delete<'a, A: Allocator>(bench: &mut Bench<'a, A>, path: Path<'a, A>) -> Answ
 }
 
 fn promote<'a, A: Allocator>(bench: &mut Bench<'a, A>, path: Path<'a, A>) -> Answer<'a, A>
-    ensures { (s : State) → HoldsBench bench.old s
+    ensures done { (s : State) → HoldsBench bench.old s
         → Executed (λ o.
         IsStudyReply s NodeCommand.Promote (plain_study (marked_study bench.old)) path.entry)
         (HoldsBenchFrom s bench.new) result }
+    ensures document { LeavesRuled result (after_promote (bench_seen bench.old) path.entry)
+        (bench_seen bench.old) (bench_seen bench.new) }
 {
     match bench.promote(&path) {
         Ok(()) => Ok(Reply::Promoted(path)),
@@ -108,9 +120,10 @@ pub fn set_tag<'a, A: Allocator>(
     name: TagName,
     text: &str,
 ) -> Answer<'a, A>
-    ensures { (s : State) → HoldsDocument document.old s
+    ensures done { (s : State) → HoldsDocument document.old s
         → Executed (λ o reply. reply ≡ tag_reply s s.document name text.now)
         (HoldsFrom s document.new) result }
+    ensures document { Leaves result (tag_asked name text.now) (document_seen document.old) (document_seen document.new) }
 {
     match document {
         Document::Study(bench) => set_study_tag(bench, name, text),
@@ -124,10 +137,11 @@ fn set_study_tag<'a, A: Allocator>(
     name: TagName,
     text: &str,
 ) -> Answer<'a, A>
-    ensures { (s : State) → HoldsBench bench.old s
+    ensures done { (s : State) → HoldsBench bench.old s
         → Executed (λ o reply.
         reply ≡ tag_reply s (study (plain_study (marked_study bench.old))) name text.now)
         (HoldsBenchFrom s bench.new) result }
+    ensures document { Leaves result (tag_asked name text.now) (bench_seen bench.old) (bench_seen bench.new) }
 {
     match bench.set_tag(name, text) {
         Ok(()) => Ok(Reply::Tagged(name)),
@@ -144,9 +158,11 @@ pub fn insert<'a, P: PageSource, A: Allocator>(
     san: &str,
 ) -> Answer<'a, A>
     requires { is_path_word path.now ≡ true }
-    ensures { (s : State) → Holds P.honest P.gives document.old tables.old s
+    ensures done { (s : State) → Holds P.honest P.gives document.old tables.old s
         → Executed (λ o. IsInsertReply s o s.document (steps_of path.now) san.now)
         (Holds P.honest P.gives document.new tables.new) result }
+    ensures document { Leaves result (insert_asked (steps_of path.now) san.now)
+        (document_seen document.old) (document_seen document.new) }
 {
     match document {
         Document::Study(bench) => insert_in_study(alloc, bench, tables, path, san),
@@ -163,10 +179,12 @@ fn insert_in_study<'a, P: PageSource, A: Allocator>(
     san: &str,
 ) -> Answer<'a, A>
     requires { is_path_word path.now ≡ true }
-    ensures { (s : State) → Holds P.honest P.gives (held.Study bench.old) tables.old s
+    ensures done { (s : State) → Holds P.honest P.gives (held.Study bench.old) tables.old s
         → Executed (λ o.
         IsInsertReply s o (study (plain_study (marked_study bench.old))) (steps_of path.now) san.now)
         (Holds P.honest P.gives (held.Study bench.new) tables.new) result }
+    ensures document { Leaves result (insert_asked (steps_of path.now) san.now)
+        (bench_seen bench.old) (bench_seen bench.new) }
 {
     match read_path(alloc, path) {
         Ok(path) => insert_at(bench, tables, path, san),
@@ -180,10 +198,11 @@ fn insert_at<'a, P: PageSource, A: Allocator>(
     path: Path<'a, A>,
     san: &str,
 ) -> Answer<'a, A>
-    ensures { (s : State) → Holds P.honest P.gives (held.Study bench.old) tables.old s
+    ensures done { (s : State) → Holds P.honest P.gives (held.Study bench.old) tables.old s
         → Executed (λ o. IsMoveReplyAt s o (plain_study (marked_study bench.old)) path.entry san.now
         (has_spot (plain_study (marked_study bench.old)).tree path.entry))
         (Holds P.honest P.gives (held.Study bench.new) tables.new) result }
+    ensures document { Leaves result (insert_asked path.entry san.now) (bench_seen bench.old) (bench_seen bench.new) }
 {
     match bench.start_at(&path) {
         Some(start) => insert_san(bench, tables, path, &start, san),
@@ -199,11 +218,15 @@ fn insert_san<'a, P: PageSource, A: Allocator>(
     san: &str,
 ) -> Answer<'a, A>
     requires at { start.now.position ≡ position_at (marked_study bench.old) path }
-    ensures { (s : State) → Holds P.honest P.gives (held.Study bench.old) tables.old s
+    ensures done { (s : State) → Holds P.honest P.gives (held.Study bench.old) tables.old s
         → Executed (λ o.
         IsMoveReply s o (plain_study (marked_study bench.old)) path.entry
         (move_of start.now.position san.now))
         (Holds P.honest P.gives (held.Study bench.new) tables.new) result }
+    ensures document { LeavesRuled result
+        (after_move (plain_study (marked_study bench.old)) path.entry
+        (move_of start.now.position san.now))
+        (bench_seen bench.old) (bench_seen bench.new) }
 {
     match read_san(&start.position, san) {
         Ok(by) => insert_move(bench, tables, path, start, &by),
@@ -220,10 +243,13 @@ fn insert_move<'a, P: PageSource, A: Allocator>(
 ) -> Answer<'a, A>
     requires legal { is_legal start.now.position by.now ≡ true }
     requires at { start.now.position ≡ position_at (marked_study bench.old) path }
-    ensures { (s : State) → Holds P.honest P.gives (held.Study bench.old) tables.old s
+    ensures done { (s : State) → Holds P.honest P.gives (held.Study bench.old) tables.old s
         → Executed (λ o. IsMoveReply s o (plain_study (marked_study bench.old)) path.entry
         (Ok by.now))
         (Holds P.honest P.gives (held.Study bench.new) tables.new) result }
+    ensures document { LeavesRuled result
+        (after_move (plain_study (marked_study bench.old)) path.entry (Ok by.now))
+        (bench_seen bench.old) (bench_seen bench.new) }
 {
     match table_edits::insert_move(bench, &path, *by, tables) {
         Ok(place) => {

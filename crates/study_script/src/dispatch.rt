@@ -1,11 +1,11 @@
 //! Executing a line: its reply, and the state after it.
 ghost use Rattle.std.specs.Prelude.{◌≡◌, Bool, true, false, ◌&&◌, IfOk, OnErr};
-ghost use Rattle.study_command.specs.Parser.{command_seen};
+ghost use Rattle.study_command.specs.Parser.{command_of, command_seen};
 ghost use Rattle.study_script.specs.State.{State};
 ghost use Rattle.study_script.specs.Replies.{IsReply, IsReplyTo, IsReplyIn, begins_position};
 ghost use Rattle.study_script.specs.declared.document.Document.TheVariants as held;
-ghost use Rattle.study_script.specs.SessionHolds.{Answered, BrokenOff};
-ghost use Rattle.study_script.specs.Executed.{Executed, ExecutedLine, line_piece};
+ghost use Rattle.study_script.specs.SessionHolds.{Answered, BrokenOff, document_seen};
+ghost use Rattle.study_script.specs.Executed.{Executed, ExecutedLine, line_piece, Leaves, LeavesLine, LeavesApart};
 ghost use Rattle.study_script.specs.Session.{SessionHolds};
 ghost use Rattle.study_material.specs.declared.class.Class.{Class as AClass};
 ghost use Rattle.study_script.specs.Stores.{HonestOn, IsTrusted, IsTrustedAsked};
@@ -40,6 +40,8 @@ pub fn execute_line<'a, S: TableStore, A: Allocator>(
         (HonestOn trusted S.honest) S.files S.headers S.faults document.new tables.new store.new)
         result }
     ensures piece { IsPiece line.now (line_piece result) }
+    ensures document { LeavesLine result (command_of line.now)
+        (document_seen document.old) (document_seen document.new) }
 {
     match read_command(line) {
         Ok(None) => Ok(None),
@@ -64,6 +66,7 @@ pub fn execute_apart<'a, S: TableStore, A: Allocator>(
         (HonestOn trusted S.honest) S.files S.headers S.faults document.new tables.new store.new)
         result }
     ensures piece { IsPiece line.now (line_piece result) }
+    ensures document { LeavesApart result line.now (document_seen document.old) (document_seen document.new) }
 {
     let answer = execute_line(alloc, document, tables, store, line);
     let refused = answer.is_err();
@@ -155,7 +158,7 @@ fn execute<'a, S: TableStore, A: Allocator>(
     store: &mut S,
     command: &Command<'_>,
 ) -> Answer<'a, A>
-    ensures { (trusted : AClass → Bool) (s : State)
+    ensures done { (trusted : AClass → Bool) (s : State)
         → IsTrustedAsked trusted (command_seen command.now)
         → SessionHolds S.Pages.honest S.Pages.gives
         (HonestOn trusted S.honest) S.files S.headers S.faults document.old tables.old store.old s
@@ -163,6 +166,8 @@ fn execute<'a, S: TableStore, A: Allocator>(
         (SessionHolds S.Pages.honest S.Pages.gives
         (HonestOn trusted S.honest) S.files S.headers S.faults document.new
         tables.new store.new) result }
+    ensures document { Leaves result (command_seen command.now)
+        (document_seen document.old) (document_seen document.new) }
 {
     match command {
         Command::FromFen(word, fen) => fen_command(document, tables, *word, fen),

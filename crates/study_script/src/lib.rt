@@ -21,7 +21,7 @@ mod tables;
 
 pub use dispatch::begins_position;
 pub use document::Document;
-pub use laws::replies_are_unique;
+pub use laws::{edits_follow_the_rules, replies_are_unique};
 pub use memory_store::{MemoryFile, MemoryStore, SharedWriter};
 pub use running::{RunFault, Settings, Summary, run, run_session};
 pub use session::{Interpreter, Session};

@@ -3,10 +3,10 @@ ghost use Rattle.std.specs.Prelude.{◌≡◌, Bool, true, IfOk, OnErr};
 ghost use Rattle.study_material.specs.declared.class.Class.{Class as AClass};
 ghost use Rattle.study_script.specs.State.{State as AState};
 ghost use Rattle.study_script.specs.Replies.{IsReplyIn};
-ghost use Rattle.study_script.specs.SessionHolds.{Answered, BrokenOff};
+ghost use Rattle.study_script.specs.SessionHolds.{Answered, BrokenOff, document_seen};
 ghost use Rattle.study_script.specs.Session.{SessionHolds};
 ghost use Rattle.study_script.specs.Stores.{HonestOn, IsTrusted};
-ghost use Rattle.study_script.specs.Executed.{ExecutedLine, line_piece};
+ghost use Rattle.study_script.specs.Executed.{ExecutedLine, line_piece, LeavesApart};
 ghost use Rattle.study_script.specs.Written.{IsPiece, IsWritten, IsCutOff};
 
 use crate::dispatch;
@@ -87,6 +87,8 @@ impl<'a, 's, S: TableStore, A: Allocator> Session<'a, 's, S, A> {
             (HonestOn trusted S.honest) S.files S.headers S.faults self.new.document self.new.tables
             self.new.store.now) result }
         ensures piece { IsPiece line.now (line_piece result) }
+        ensures document { LeavesApart result line.now
+            (document_seen self.old.document) (document_seen self.new.document) }
         ensures mode { self.new.separate ≡ self.old.separate }
     {
         dispatch::execute_apart(

@@ -8,7 +8,7 @@ ghost use Rattle.study_tablefile.specs.Reading.{table_read};
 ghost use Rattle.study_script.specs.State.{State, is_among, first_lacking, IsGiven};
 ghost use Rattle.study_script.specs.StoreRefusals.{refusal_of_store, refusal_of_paged};
 ghost use Rattle.study_script.specs.Replies.{IsClassReply, IsNamedReply, IsBuildReply, IsLoadReply};
-ghost use Rattle.study_script.specs.Replies.{IsOpenReply, save_reply, verify_reply, refused_reply, class_parsed};
+ghost use Rattle.study_script.specs.Replies.{IsOpenReply, save_reply, verify_reply, class_parsed};
 ghost use Rattle.study_script.specs.SessionHolds.{HoldsTables, TablesFrom};
 ghost use Rattle.study_material.specs.declared.class.Class.{Class as AClass};
 ghost use Rattle.study_script.specs.Stores.{StoreSeen, HonestOn, IsTrustedClass};

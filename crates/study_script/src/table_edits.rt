@@ -11,7 +11,7 @@ ghost use Rattle.study_marks.specs.Queries.{asked_at, positions_asked, is_of_tab
 ghost use Rattle.study_marks.specs.EditLists.{IsShiftRefusal};
 ghost use Rattle.study_marks.specs.Answers.{IsUndamaged, TellsFirstFault};
 ghost use Rattle.study_marks.specs.Edits.{first_illegal_from, with_position, with_start, with_insertion, shift_refusal, insert_refusal};
-ghost use Rattle.study_script.specs.Replies.{new_study};
+ghost use Rattle.study_command.specs.Documents.{new_study};
 ghost use Rattle.study_script.specs.SessionHolds.{tables_held, tables_honest, tables_may_fail, tables_source, are_paged, HasNoDeviceFault};
 
 use crate::tables::Tables;

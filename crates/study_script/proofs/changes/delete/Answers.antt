@@ -8,10 +8,14 @@ use Rattle.study_script.specs.State.{quiet}
 use Rattle.study_script.specs.Replies.{with_study}
 use Rattle.study_script.proofs.SilentEdits.{edit_accepted, edit_refused, delete_same}
 use Rattle.study_script.proofs.HeldBehindReplies.{bench_edited, bench_same}
+use Rattle.std.proofs.Common.{ap}
+use Rattle.study_script.specs.SessionHolds.{bench_seen}
+use Rattle.study_script.proofs.SilentEdits.{accepted_same}
+use Rattle.study_script.proofs.DocumentsLeft.{ruled_after}
 use Rattle.study_script.proofs.changes.delete.Goals as goal
 
-pub returns-in-Ok : goal.returns-in-Ok
-returns-in-Ok g c = λ s h.
+pub returns-in-Ok-clause-done : goal.returns-in-Ok-clause-done
+returns-in-Ok-clause-done g c = λ s h.
     let old = plain_study (marked_study c.args.bench.now) in
     let new = with_deletion old c.args.path in
     let text = reply_line (codes "delete ") (path_text c.args.path) in
@@ -24,8 +28,8 @@ returns-in-Ok g c = λ s h.
       bench_edited c.delete.new.self s new c.in-Ok.ensures.edited (c.in-Ok.ensures.right h.marks),
     )
 
-pub returns : goal.returns
-returns g c = λ s h.
+pub returns-clause-done : goal.returns-clause-done
+returns-clause-done g c = λ s h.
     let old = plain_study (marked_study c.args.bench.now) in
     let new = with_deletion old c.args.path in
     let text = reply_line (codes "delete ") (path_text c.args.path) in
@@ -37,3 +41,15 @@ returns g c = λ s h.
       edit_refused s why reason new text alike c.delete.result c.in-Err.refusal c.delete.ensures.refusal c.in-Err.is,
       bench_same c.delete.new.self c.args.bench.now s c.in-Err.ensures.same h,
     )
+
+pub returns-in-Ok-clause-document : goal.returns-in-Ok-clause-document
+returns-in-Ok-clause-document g c =
+    let old = plain_study (marked_study c.args.bench.now) in
+    let why = delete_refusal {A = g.row.A.Denot} old c.args.path in
+    let reason = delete_refusal {A = Unit {0}} old c.args.path in
+    let alike = delete_same g.row.A.Denot (Unit {0}) old c.args.path in
+    ruled_after reason (with_deletion old c.args.path) (plain_study (marked_study c.delete.new.self))
+    (accepted_same why reason alike c.delete.result _ c.delete.ensures.refusal c.in-Ok.is) c.in-Ok.ensures.edited
+
+pub returns-clause-document : goal.returns-clause-document
+returns-clause-document g c = ap bench_seen c.in-Err.ensures.same

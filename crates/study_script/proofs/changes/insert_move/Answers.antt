@@ -15,10 +15,13 @@ use Rattle.study_script.proofs.HeldBehindReplies.{study_edited, study_same}
 use Rattle.study_script.proofs.PlainNodes.{position_at-plain, inserted_said}
 use Rattle.study_script.proofs.InsertReplies.{insert_same, none_of, insert_refused}
 use Rattle.study_script.proofs.TablesFaults.{failing_known}
+use Rattle.std.proofs.Common.{ap}
+use Rattle.study_script.specs.SessionHolds.{bench_seen}
+use Rattle.study_script.proofs.DocumentsLeft.{ruled_after}
 use Rattle.study_script.proofs.changes.insert_move.Goals as goal
 
-pub returns-in-Ok : goal.returns-in-Ok
-returns-in-Ok g c = λ s h.
+pub returns-in-Ok-clause-done : goal.returns-in-Ok-clause-done
+returns-in-Ok-clause-done g c = λ s h.
     let shown = marked_study c.args.bench.now in
     let old = plain_study shown in
     let steps = c.args.path in
@@ -41,8 +44,8 @@ returns-in-Ok g c = λ s h.
           c.insert_move.ensures.tables c.insert_move.ensures.mode c.insert_move.ensures.fails_as_before,
     ))
 
-pub returns : goal.returns
-returns g c = λ s h.
+pub returns-clause-done : goal.returns-clause-done
+returns-clause-done g c = λ s h.
     let shown = marked_study c.args.bench.now in
     let old = plain_study shown in
     let steps = c.args.path in
@@ -66,3 +69,16 @@ returns g c = λ s h.
           c.in-Err.ensures.same (c.insert_move.ensures.honest h.values) c.insert_move.ensures.tables
           c.insert_move.ensures.mode c.insert_move.ensures.fails_as_before,
     )
+
+pub returns-in-Ok-clause-document : goal.returns-in-Ok-clause-document
+returns-in-Ok-clause-document g c =
+    let old = plain_study (marked_study c.args.bench.now) in
+    let steps = c.args.path in
+    let m = c.args.by.now in
+    let reason = insert_refusal {A = Unit {0}} old steps m in
+    ruled_after reason (with_insertion old steps m) (plain_study (marked_study c.insert_move.new.bench))
+    (none_of _ (insert_refusal {A = g.row.A.Denot} old steps m) reason (insert_same g.row.A.Denot (Unit {0}) old steps m) c.insert_move.result c.in-Ok.place
+    c.insert_move.ensures.refusal c.in-Ok.is) c.in-Ok.ensures.edited
+
+pub returns-clause-document : goal.returns-clause-document
+returns-clause-document g c = ap bench_seen c.in-Err.ensures.same

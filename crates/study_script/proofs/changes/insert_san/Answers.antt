@@ -8,14 +8,17 @@ use Rattle.study_script.specs.State.{quiet}
 use Rattle.study_script.specs.Replies.{refused_reply, IsMoveReply}
 use Rattle.study_script.proofs.changes.insert_san.Goals as goal
 
-pub returns-in-Ok : goal.returns-in-Ok
-returns-in-Ok g c = λ s h. rw (← c.read_san.ensures.value) (rw c.in-Ok.is (c.insert_move.ensures s h))
+pub returns-in-Ok-clause-done : goal.returns-in-Ok-clause-done
+returns-in-Ok-clause-done g c = λ s h. rw (← c.read_san.ensures.value) (rw c.in-Ok.is (c.insert_move.ensures.done s h))
 
-pub returns : goal.returns
-returns g c = λ s h. (
+pub returns-clause-done : goal.returns-clause-done
+returns-clause-done g c = λ s h. (
   quiet,
   s,
   subst (λ (x : Result Move SanFault). IsMoveReply s quiet (plain_study (marked_study c.args.bench.now)) c.args.path x (refused_reply s (San c.in-Err.fault)))
       (sym c.in-Err.is ∙ c.read_san.ensures.value) refl,
   h,
 )
+
+pub returns-in-Ok-clause-document : goal.returns-in-Ok-clause-document
+returns-in-Ok-clause-document g c = rw (← c.read_san.ensures.value) (rw c.in-Ok.is c.insert_move.ensures.document)

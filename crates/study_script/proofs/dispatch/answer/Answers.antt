@@ -1,4 +1,3 @@
-use Rattle.std.proofs.Common.{true}
 use Rattle.study_script.specs.Replies.{IsReply}
 use Rattle.study_script.specs.Session.{SessionHolds}
 use Rattle.study_script.specs.Stores.{HonestOn}

@@ -3,14 +3,17 @@ use Rattle.study_marks.specs.Queries.{asked_at}
 use Rattle.study_reply.specs.Words.{stipulation_words}
 use Rattle.study_script.specs.State.{quiet}
 use Rattle.study_script.specs.SessionHolds.{tables_held, tables_source, are_paged}
-use Rattle.study_script.specs.Replies.{with_study, new_study}
+use Rattle.study_script.specs.Replies.{with_study}
+use Rattle.study_command.specs.Documents.{new_study}
 use Rattle.study_script.proofs.AskingEdits.{refused_asking, accepted_outside}
 use Rattle.study_script.proofs.Documents.{study_made, document_same}
 use Rattle.study_script.proofs.TablesFaults.{failing_known}
+use Rattle.std.proofs.Common.{Some, ap, sym}
+use Rattle.study_command.specs.Documents.{study}
 use Rattle.study_script.proofs.position_commands.make_study.Goals as goal
 
-pub returns-in-Ok : goal.returns-in-Ok
-returns-in-Ok g c = λ s h.
+pub returns-in-Ok-clause-done : goal.returns-in-Ok-clause-done
+returns-in-Ok-clause-done g c = λ s h.
     let new = new_study c.args.start c.args.stipulation.now in
     let tables = c.args.tables.now in (
       quiet,
@@ -22,8 +25,8 @@ returns-in-Ok g c = λ s h.
           (c.new_bench.ensures.honest h.values) c.new_bench.ensures.tables c.new_bench.ensures.mode c.new_bench.ensures.fails_as_before,
     )
 
-pub returns-in-Err : goal.returns-in-Err
-returns-in-Err g c = λ s h.
+pub returns-in-Err-clause-done : goal.returns-in-Err-clause-done
+returns-in-Err-clause-done g c = λ s h.
     let asked = asked_at c.args.start.position in
     let new = new_study c.args.start c.args.stipulation.now in
     let tables = c.args.tables.now in
@@ -38,3 +41,6 @@ returns-in-Err g c = λ s h.
       document_same g.P.PageSource.honest g.P.PageSource.gives c.args.document.now tables c.new_bench.new.tables s h (c.new_bench.ensures.honest h.values)
           c.new_bench.ensures.tables c.new_bench.ensures.mode c.new_bench.ensures.fails_as_before,
     )
+
+pub returns-in-Ok-clause-document : goal.returns-in-Ok-clause-document
+returns-in-Ok-clause-document g c = ap (λ s. Some (study s)) (sym c.in-Ok.ensures.made)

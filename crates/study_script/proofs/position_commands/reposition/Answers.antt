@@ -12,10 +12,13 @@ use Rattle.study_script.specs.Replies.{with_study}
 use Rattle.study_script.proofs.AskingEdits.{refused_asking, accepted_outside}
 use Rattle.study_script.proofs.HeldBehindReplies.{study_edited, study_same}
 use Rattle.study_script.proofs.TablesFaults.{failing_known}
+use Rattle.std.proofs.Common.{Some, ap, sym}
+use Rattle.study_command.specs.Documents.{study}
+use Rattle.study_script.specs.SessionHolds.{bench_seen}
 use Rattle.study_script.proofs.position_commands.reposition.Goals as goal
 
-pub returns-in-Ok : goal.returns-in-Ok
-returns-in-Ok g c = λ s h.
+pub returns-in-Ok-clause-done : goal.returns-in-Ok-clause-done
+returns-in-Ok-clause-done g c = λ s h.
     let start = c.copied.result in
     let new = with_position (plain_study (marked_study c.args.bench.now)) start in
     let tables = c.args.tables.now in
@@ -28,8 +31,8 @@ returns-in-Ok g c = λ s h.
           c.set_position.ensures.tables c.set_position.ensures.mode c.set_position.ensures.fails_as_before,
     )
 
-pub returns-in-Err : goal.returns-in-Err
-returns-in-Err g c = λ s h.
+pub returns-in-Err-clause-done : goal.returns-in-Err-clause-done
+returns-in-Err-clause-done g c = λ s h.
     let start = c.copied.result in
     let new = with_position (plain_study (marked_study c.args.bench.now)) start in
     let asked = asked_at start.position in
@@ -46,3 +49,9 @@ returns-in-Err g c = λ s h.
           h c.in-Err.ensures.same (c.set_position.ensures.honest h.values) c.set_position.ensures.tables
           c.set_position.ensures.mode c.set_position.ensures.fails_as_before,
     )
+
+pub returns-in-Ok-clause-document : goal.returns-in-Ok-clause-document
+returns-in-Ok-clause-document g c = rw (← c.copied.ensures) (ap (λ s. Some (study s)) (sym c.in-Ok.ensures.edited))
+
+pub returns-in-Err-clause-document : goal.returns-in-Err-clause-document
+returns-in-Err-clause-document g c = ap bench_seen c.in-Err.ensures.same

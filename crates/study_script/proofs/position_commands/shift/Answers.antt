@@ -13,10 +13,14 @@ use Rattle.study_script.proofs.AskingEdits.{accepted_outside}
 use Rattle.study_script.proofs.ShiftReplies.{unbroken, shift_refused}
 use Rattle.study_script.proofs.HeldBehindReplies.{study_edited, study_same}
 use Rattle.study_script.proofs.TablesFaults.{failing_known}
+use Rattle.std.proofs.Common.{ap}
+use Rattle.study_marks.specs.Edits.{shift_refusal}
+use Rattle.study_script.specs.SessionHolds.{bench_seen}
+use Rattle.study_script.proofs.DocumentsLeft.{ruled_after}
 use Rattle.study_script.proofs.position_commands.shift.Goals as goal
 
-pub returns-in-Ok : goal.returns-in-Ok
-returns-in-Ok g c = λ s h.
+pub returns-in-Ok-clause-done : goal.returns-in-Ok-clause-done
+returns-in-Ok-clause-done g c = λ s h.
     let start = c.copied.result in
     let old = plain_study (marked_study c.args.bench.now) in
     let new = with_start old start in
@@ -32,8 +36,8 @@ returns-in-Ok g c = λ s h.
           (c.shift_position.ensures.honest h.values) c.shift_position.ensures.tables c.shift_position.ensures.mode c.shift_position.ensures.fails_as_before,
     )
 
-pub returns-in-Err : goal.returns-in-Err
-returns-in-Err g c = λ s h.
+pub returns-in-Err-clause-done : goal.returns-in-Err-clause-done
+returns-in-Err-clause-done g c = λ s h.
     let start = c.copied.result in
     let old = plain_study (marked_study c.args.bench.now) in
     let asked = positions_asked (with_start old start) in
@@ -49,3 +53,13 @@ returns-in-Err g c = λ s h.
           c.shift_position.new.tables s h c.in-Err.ensures.same (c.shift_position.ensures.honest h.values)
           c.shift_position.ensures.tables c.shift_position.ensures.mode c.shift_position.ensures.fails_as_before,
     )
+
+pub returns-in-Ok-clause-document : goal.returns-in-Ok-clause-document
+returns-in-Ok-clause-document g c =
+    let start = c.copied.result in
+    let old = plain_study (marked_study c.args.bench.now) in
+    rw (← c.copied.ensures) (ruled_after (shift_refusal old start) (with_start old start) (plain_study (marked_study c.shift_position.new.bench))
+    (unbroken (Unit {0}) (marked_study c.args.bench.now) start c.in-Ok.ensures.broken) c.in-Ok.ensures.edited)
+
+pub returns-in-Err-clause-document : goal.returns-in-Err-clause-document
+returns-in-Err-clause-document g c = ap bench_seen c.in-Err.ensures.same

@@ -5,15 +5,21 @@ use Rattle.study_marks.specs.Study.{plain_study}
 use Rattle.study_marks.specs.BenchState.{marked_study}
 use Rattle.study_command.specs.declared.command.FenCommand.TheVariants.{Shift}
 use Rattle.study_reply.specs.declared.refusal.Refusal.TheVariants.{Fen}
-use Rattle.study_script.specs.State.{quiet, study}
+use Rattle.study_command.specs.Documents.{study}
+use Rattle.study_script.specs.State.{quiet}
 use Rattle.study_script.specs.Replies.{refused_reply, IsStartReply}
+use Rattle.std.proofs.Common.{◌≡◌, Some, Ok}
+use Rattle.study_command.specs.Parser.{fen_command}
+use Rattle.study_command.specs.Documents.{after_shift}
+use Rattle.study_script.specs.SessionHolds.{bench_seen}
+use Rattle.study_script.proofs.DocumentsLeft.{leaves_ruled}
 use Rattle.study_script.proofs.position_commands.shift_study.Goals as goal
 
-pub returns-in-Ok : goal.returns-in-Ok
-returns-in-Ok g c = λ s h. rw (← c.read_fen.ensures) (rw c.in-Ok.is (c.shift.ensures s h))
+pub returns-in-Ok-clause-done : goal.returns-in-Ok-clause-done
+returns-in-Ok-clause-done g c = λ s h. rw (← c.read_fen.ensures) (rw c.in-Ok.is (c.shift.ensures.done s h))
 
-pub returns-in-Err : goal.returns-in-Err
-returns-in-Err g c = λ s h. (
+pub returns-in-Err-clause-done : goal.returns-in-Err-clause-done
+returns-in-Err-clause-done g c = λ s h. (
   quiet,
   s,
   subst
@@ -21,3 +27,10 @@ returns-in-Err g c = λ s h. (
       (sym c.in-Err.is ∙ c.read_fen.ensures) refl,
   h,
 )
+
+pub returns-in-Ok-clause-document : goal.returns-in-Ok-clause-document
+returns-in-Ok-clause-document g c =
+    let old = bench_seen c.args.bench.now in
+    let new = bench_seen c.shift.new.bench in
+    leaves_ruled c.shift.result (fen_command Shift c.args.fen.now) (after_shift old (Ok c.in-Ok.start)) old new
+    (λ e. subst (λ (x : Result Start FenFault). after_shift old x ≡ Some new) (sym c.in-Ok.is ∙ c.read_fen.ensures) e) c.shift.ensures.document

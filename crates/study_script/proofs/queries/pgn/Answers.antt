@@ -2,7 +2,8 @@ use Rattle.std.proofs.Common.{refl, subst}
 use Rattle.study_marks.specs.Study.{plain_study}
 use Rattle.study_marks.specs.BenchState.{marked_study}
 use Rattle.study_reply.specs.declared.refusal.Refusal.TheVariants.{NoStudy}
-use Rattle.study_script.specs.State.{Document, Environment, quiet, study}
+use Rattle.study_command.specs.Documents.{Document, study}
+use Rattle.study_script.specs.State.{Environment, quiet}
 use Rattle.study_script.specs.SessionHolds.{HoldsFrom, HoldsBenchFrom}
 use Rattle.study_script.specs.Replies.{Reply, refused_reply, IsPgnReply}
 use Rattle.study_script.proofs.Executions.{executed_weaker}

@@ -1,6 +1,7 @@
 use Rattle.std.proofs.Common.{ap, ◌∙◌}
 use Rattle.study_command.specs.Paths.{steps_of}
-use Rattle.study_script.specs.State.{Document, quiet}
+use Rattle.study_command.specs.Documents.{Document}
+use Rattle.study_script.specs.State.{quiet}
 use Rattle.study_script.specs.Replies.{start_found}
 use Rattle.study_script.proofs.HeldBehindReplies.{empty_seen, start_seen, study_seen}
 use Rattle.study_script.proofs.queries.start_at.Goals as goal
