@@ -31,7 +31,7 @@ use Rattle.study_facts.specs.Continuations.{wanted_moves}
 use Rattle.study_view.specs.declared.survey_squares.SquareResult.{SquareResult}
 use Rattle.study_view.specs.declared.survey_squares.SquareResult.TheVariants.{Impossible, Fails, Holds, Only}
 use Rattle.study_view.specs.declared.survey_squares.SurveyedSquare.{SurveyedSquare}
-use Rattle.study_view.specs.Survey.{moved_men, with_man_moved, fault_of_man_moved, aim_in, result_by_moves, other_squares, IsResultBy, IsResult}
+use Rattle.study_view.specs.Survey.{moved_men, passed_with_man_moved, with_man_moved, fault_of_man_moved, aim_in, result_by_moves, other_squares, IsResultBy, IsResult}
 use Rattle.study_view.specs.Survey.{IsStanding, AreStandings}
 use Rattle.study_view.specs.Reported.{Keeps, IsOnlyWay, SurveysTellTheGame}
 
@@ -170,13 +170,13 @@ moved-within from x men lt all = All-map (λ (m : Man). m.at < 64) (moved_if fro
 stood-valid : (p : Position) (from x : ℕ) → IsValid p → x < 64 → fault_of_man_moved p from x ≡ None → IsValid (with_man_moved p from x)
 stood-valid p from x valid lt none =
     let men = moved_men from x p.men in
-    valid_in_order men p.to_move p.passed
+    valid_in_order men p.to_move (passed_with_man_moved p from x)
     (All-permutation (λ (m : Man). m.at < 64) men (in_order men) (IsPermutation-in_order men) (moved-within from x p.men lt valid.on_board)) none
 
 stood-faultless : (p : Position) (from x : ℕ) → IsValid (with_man_moved p from x) → fault_of_man_moved p from x ≡ None
 stood-faultless p from x valid =
     let men = moved_men from x p.men in
-    first_fault_same men (in_order men) (IsPermutation-in_order men) p.to_move p.passed ∙ valid.faultless
+    first_fault_same men (in_order men) (IsPermutation-in_order men) p.to_move (passed_with_man_moved p from x) ∙ valid.faultless
 
 -- each square of a list is written
 standing-of : (p : Position) (from : ℕ) (st : Stipulation) (xs : List ℕ) (ys : List SurveyedSquare) (y : SurveyedSquare) → AreStandings p from st xs ys

@@ -1,12 +1,13 @@
 -- The result of a stipulation with a man on each other square.
 use Rattle.std.specs.Prelude.{◌≡◌, ℕ, ◌==◌, not, Bool, true, false, List, [], ◌∷◌, ◌++◌, length, map, codes, decimal}
-use Rattle.std.specs.Prelude.{Option, Some, None, MatchOption}
+use Rattle.std.specs.Prelude.{Option, Some, None, MatchOption, if◌then◌else◌}
 use Rattle.std.specs.List.{filter, flat_map, range_with_len}
 use Rattle.study_board.specs.declared.men.Man.{Man}
+use Rattle.study_board.specs.declared.men.Side.{Side}
 use Rattle.study_board.specs.declared.fault.PositionFault.{PositionFault}
 use Rattle.study_board.specs.Letters.{letter}
 use Rattle.study_board.specs.Men.{same_side, moved_if}
-use Rattle.study_board.specs.Position.{Position, in_order, man_at, first_fault}
+use Rattle.study_board.specs.Position.{Position, in_order, man_at, could_be_passed, first_fault}
 use Rattle.study_notation.specs.FenSpelling.{square_text}
 use Rattle.study_notation.specs.SanSpelling.{move_text}
 use Rattle.study_values.specs.declared.value.Value.{Value}
@@ -26,13 +27,21 @@ use Rattle.study_view.specs.declared.survey_squares.SurveyedSquare.{SurveyedSqua
 abbrev pub moved_men : ℕ → ℕ → List Man → List Man
 moved_men from to men = map (moved_if from to) men
 
--- the position with the man of one square on another, otherwise unchanged
+-- the square that a pawn has passed, if with these men one can have passed it
+abbrev pub still_passed : List Man → Side → Option ℕ → Option ℕ
+still_passed men to_move None = None
+still_passed men to_move (Some x) = if could_be_passed men to_move x then Some x else None
+
+abbrev pub passed_with_man_moved : Position → ℕ → ℕ → Option ℕ
+passed_with_man_moved p from to = still_passed (moved_men from to p.men) p.to_move p.passed
+
+-- the position with the man of one square on another; a passed square is dropped if no pawn can have passed it there
 abbrev pub with_man_moved : Position → ℕ → ℕ → Position
-with_man_moved p from to = record { men = in_order (moved_men from to p.men); to_move = p.to_move; passed = p.passed }
+with_man_moved p from to = record { men = in_order (moved_men from to p.men); to_move = p.to_move; passed = passed_with_man_moved p from to }
 
 -- why that is not a valid position, or `None`
 abbrev pub fault_of_man_moved : Position → ℕ → ℕ → Option PositionFault
-fault_of_man_moved p from to = first_fault (moved_men from to p.men) p.to_move p.passed
+fault_of_man_moved p from to = first_fault (moved_men from to p.men) p.to_move (passed_with_man_moved p from to)
 
 abbrev pub aim_in : Stipulation → Position → Aim
 aim_in st q = record { goal = st.goal; hero_first = same_side st.hero q.to_move }

@@ -8,14 +8,14 @@ ghost use Rattle.study_values.specs.declared.values.ProbeFault.{ProbeFault as AP
 ghost use Rattle.study_facts.specs.Asked.{within};
 ghost use Rattle.study_view.specs.Asked.{HasEvaluatedSome, HasSurveyed};
 ghost use Rattle.study_view.specs.declared.survey_squares.SurveyedSquare.{SurveyedSquare as AStood};
-ghost use Rattle.study_view.specs.Survey.{moved_men, with_man_moved, fault_of_man_moved, result_by_moves, other_squares};
+ghost use Rattle.study_view.specs.Survey.{moved_men, still_passed, with_man_moved, fault_of_man_moved, result_by_moves, other_squares};
 ghost use Rattle.study_view.specs.Survey.{IsResultBy, IsResult, IsStanding, AreStandings, squares_but};
 ghost use Rattle.study_view.specs.Shown.{IsPlayedIn, IsShown};
 
 use crate::fault::SurveyFault;
 use crate::probe::{ask_first_moves, ask_value};
 use arrayvec::ArrayVec;
-use study_board::{Man, Position, Square};
+use study_board::{Man, Position, Side, Square, could_be_passed};
 use study_facts::EvaluatedMove;
 use study_marks::{Aim, Stipulation, aim_of, holds};
 use study_moves::{MAX_MOVES, Move};
@@ -72,7 +72,17 @@ fn moved_men(from: Square, to: Square, men: &[Man]) -> ArrayVec<Man, 4>
     list
 }
 
-/// The position with the man of one square on another, if it is valid.
+/// The square that a pawn has passed, if with these men one can have passed it.
+fn still_passed(men: &[Man], to_move: Side, passed: Option<Square>) -> Option<Square>
+    ensures { result ≡ still_passed men.now to_move passed }
+{
+    match passed {
+        Some(x) if could_be_passed(men, to_move, x) => Some(x),
+        _ => None,
+    }
+}
+
+/// The position with the man of one square on another, if it is valid. A passed square is dropped if no pawn can have passed it there.
 pub fn with_man_at(p: &Position, from: Square, to: Square) -> Option<Position>
     ensures none { IfNone result (IsSome (fault_of_man_moved p.now from to)) }
     ensures some { IfSome result (λ q. (fault_of_man_moved p.now from to ≡ None)
@@ -80,7 +90,8 @@ pub fn with_man_at(p: &Position, from: Square, to: Square) -> Option<Position>
     ensures valid { IfSome result IsValid }
 {
     let men = moved_men(from, to, p.men());
-    match Position::new(men.as_slice(), p.to_move(), p.passed()) {
+    let passed = still_passed(men.as_slice(), p.to_move(), p.passed());
+    match Position::new(men.as_slice(), p.to_move(), passed) {
         Ok(q) => {
             let _men = q.men();
             Some(q)
