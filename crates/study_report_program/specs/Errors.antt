@@ -14,6 +14,10 @@ stop_text (LineTooLong line) = codes "studyreport: LineTooLong " ++ (decimal lin
 stop_text TooManyLines = codes "studyreport: TooManyLines\n"
 stop_text OutOfMemory = codes "studyreport: OutOfMemory\n"
 
+-- the script is one of version 1.7
+unfoldable pub old_remarks_text : List ℕ
+old_remarks_text = codes "studyreport: comments that begin with '# ' are read as remarks of version 1.7\n"
+
 -- a run that stopped is reported, and nothing of another
 abbrev pub IsStopReported : Result Summary RunFault → Option (List ℕ) → Option (List ℕ) → Type 0
 IsStopReported (Ok summary) old new = new ≡ old

@@ -39,6 +39,8 @@ pub struct Options<'a> {
     pub form: Form,
     /// Whether the number of studies printed is written to standard error, after every ten.
     pub progress: bool,
+    /// Whether the script is one of version 1.7, whose remarks of an import begin with `#` alone.
+    pub old_remarks: bool,
     ghost named: { 0 < length tables.now },
     ghost some: { 1 ≤ pages },
     ghost few: { pages ≤ 4096 },
@@ -60,11 +62,13 @@ pub fn read_words<'a>(alloc: Global, words: &'a [String]) -> Result<Options<'a>,
         matches.get_flag("list"),
     );
     let progress = matches.get_flag("progress");
+    let old_remarks = matches.get_flag("old-remarks");
     Ok(Options {
         tables,
         pages,
         form,
         progress,
+        old_remarks,
     })
 }
 
@@ -101,6 +105,11 @@ fn command<'a>(alloc: Global) -> Result<Command<'a>, Error> {
         "progress",
         "Writes to standard error, after every ten pages, how many studies were printed; nothing for the other forms",
     );
+    let old_remarks = flag(
+        alloc,
+        "old-remarks",
+        "Reads the remarks of a script that studyimport 1.7 wrote, which begin with '#' and not with '#!'",
+    );
     let command = Command::new(alloc, "studyreport")
         .version(VERSION)
         .about(ABOUT)
@@ -110,7 +119,8 @@ fn command<'a>(alloc: Global) -> Result<Command<'a>, Error> {
         .arg(lines)?
         .arg(sheet.conflicts_with("lines")?)?
         .arg(list.conflicts_with("lines")?.conflicts_with("sheet")?)?
-        .arg(progress)?;
+        .arg(progress)?
+        .arg(old_remarks)?;
     Ok(command)
 }
 

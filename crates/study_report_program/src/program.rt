@@ -7,9 +7,10 @@ ghost use Rattle.study_report_program.specs.Ended.{EndsBy, HasReported, IsReport
 ghost use Rattle.study_program.specs.Errors.{AreFaultsOf};
 ghost use Rattle.study_report_program.specs.Errors.{IsStopReported};
 
+use crate::old_remarks::OldRemarks;
 use crate::options::{Form, Options, read_words};
 use crate::progress::Progress;
-use crate::status::put_stop;
+use crate::status::{put_old_remarks, put_stop};
 use clap::Error;
 use std::alloc::Allocator;
 use std::io;
@@ -76,6 +77,12 @@ fn report_streams(rt: &HostRuntime, options: &Options<'_>) -> u8 {
     let Ok(mut out) = LineWriter::new(alloc, rt.stdout()) else {
         return report_end(&mut errors, &Err(RunFault::OutOfMemory));
     };
+    if options.old_remarks {
+        // A failure of standard error cannot be reported.
+        let _ = put_old_remarks(&mut errors);
+        let mut script = OldRemarks::new(script);
+        return report_script(rt, &alloc, options, &mut script, &mut out, &mut errors);
+    }
     report_script(rt, &alloc, options, &mut script, &mut out, &mut errors)
 }
 

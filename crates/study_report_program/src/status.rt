@@ -2,7 +2,7 @@
 ghost use Rattle.std.specs.Prelude.{◌++◌, ◌∷◌, [], codes, decimal, OnOk, OnErr};
 ghost use Rattle.std.specs.Io.KnownBytes.{Appends};
 ghost use Rattle.study_text.specs.Taken.{TakesPrefix};
-ghost use Rattle.study_report_program.specs.Errors.{stop_text};
+ghost use Rattle.study_report_program.specs.Errors.{stop_text, old_remarks_text};
 
 use itoa::Buffer;
 use std::io::Write;
@@ -22,6 +22,19 @@ pub fn put_stop<W: Write>(out: &mut W, fault: RunFault) -> Result<(), DeviceFail
         RunFault::TooManyLines => write_text(out, b"studyreport: TooManyLines\n"),
         RunFault::OutOfMemory => write_text(out, b"studyreport: OutOfMemory\n"),
     }
+}
+
+/// Writes, in a line of its own, that the remarks of the script are read as those of version 1.7.
+#[tactic(auto, unfolding(crate::specs::Errors::old_remarks_text))]
+pub fn put_old_remarks<W: Write>(out: &mut W) -> Result<(), DeviceFailed>
+    ensures ok { OnOk result (Appends (W.contents out.old) (W.contents out.new) old_remarks_text) }
+    ensures err { OnErr result
+        (TakesPrefix (W.contents out.old) (W.contents out.new) old_remarks_text) }
+{
+    write_text(
+        out,
+        b"studyreport: comments that begin with '# ' are read as remarks of version 1.7\n",
+    )
 }
 
 fn put_too_long<W: Write>(out: &mut W, line: u32) -> Result<(), DeviceFailed>

@@ -9,6 +9,8 @@ mod kings;
 #[cfg(test)]
 mod list;
 #[cfg(test)]
+mod old_remarks;
+#[cfg(test)]
 mod remarks;
 #[cfg(test)]
 mod sheet;

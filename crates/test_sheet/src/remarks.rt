@@ -1,6 +1,7 @@
 //! Remarks of studyimport on printed pages.
 use crate::kings::two_kings;
 use std::alloc::Global;
+use std::io::Read;
 use std::process::Abort;
 use std::test::Fail;
 use study_print::{Unwatched, write_pages};
@@ -50,21 +51,49 @@ const REMARKS: &str =
 <tr><td></td><td>game 5, line 71</td><td></td><td></td><td>TagTwice at White: a second tag of this name, so perhaps two games that run together</td></tr>\
 </tbody></table></article></body></html>\n";
 
-/// The pages that are written to this writer, and the result.
+/// A script of version 1.7.
+pub const OLD: &[u8] = b"# game 1, line 1: stipulated by its tag Result
+# White was: R\xc3\xa9ti
+#! Black was: Pog
+ # Site was: Prague
+#Date was: 1921
+## Round was: 1
+#
+pgn # Event was: x
+# game 2, line 31: left out: 7 men
+# games 2, studies 0";
+
+/// The same as studyimport writes it today.
+pub const NEW: &[u8] = b"#! game 1, line 1: stipulated by its tag Result
+#! White was: R\xc3\xa9ti
+#! Black was: Pog
+ # Site was: Prague
+#Date was: 1921
+## Round was: 1
+#
+pgn # Event was: x
+#! game 2, line 31: left out: 7 men
+#! games 2, studies 0";
+
+/// The pages of a script that are written to this writer, and the result.
+pub fn pages_of<'a, R: Read>(
+    rt: &impl Abort,
+    alloc: &'a Global,
+    script: &mut R,
+    mut writer: MemoryWriter<'a, Global>,
+) -> (Vec<u8, &'a Global>, Result<Summary, RunFault>) {
+    let answer = write_pages(alloc, script, &mut writer, Unwatched, two_kings(rt, alloc));
+    (writer.taken, answer)
+}
+
+/// The same of the text of a script.
 pub fn pages_to<'a>(
     rt: &impl Abort,
     alloc: &'a Global,
     script: &[u8],
-    mut writer: MemoryWriter<'a, Global>,
+    writer: MemoryWriter<'a, Global>,
 ) -> (Vec<u8, &'a Global>, Result<Summary, RunFault>) {
-    let answer = write_pages(
-        alloc,
-        &mut MemoryReader::new(script),
-        &mut writer,
-        Unwatched,
-        two_kings(rt, alloc),
-    );
-    (writer.taken, answer)
+    pages_of(rt, alloc, &mut MemoryReader::new(script), writer)
 }
 
 #[test]
