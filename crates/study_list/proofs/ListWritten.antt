@@ -8,8 +8,9 @@ use Rattle.study_script.specs.declared.running.RunFault.{RunFault}
 use Rattle.study_script.specs.declared.running.RunFault.TheVariants.{WriteDevice}
 use Rattle.study_script.specs.State.{State}
 use Rattle.study_report.specs.Outcome.{Outcome, Shape}
+use Rattle.study_command.specs.Documents.{empty}
 use Rattle.study_report.specs.Parts.{Fits}
-use Rattle.study_page.specs.Csv.{head_record, IsRecordOf, IsSomeRecord}
+use Rattle.study_page.specs.Csv.{head_record, IsRecordOf, IsSomeRecordOf}
 use Rattle.study_list.specs.List.{refusal_record, remark_record, IsList, ListShape, ListFits}
 
 module _ (left old begun new : Option (List ℕ)) (answer : Result Summary RunFault) where
@@ -20,7 +21,7 @@ module _ (left old begun new : Option (List ℕ)) (answer : Result Summary RunFa
   whole_list first (Some script) opened reported = inr (begun, opened, reported)
 
   pub list_fits : (given : Option (List ℕ)) → Appends old begun head_record
-      → IfSome given (λ bytes. Fits IsSomeRecord refusal_record remark_record bytes left begun new answer)
+      → IfSome given (λ bytes. Fits IsSomeRecordOf refusal_record remark_record empty bytes left begun new answer)
       → IfSome given (λ bytes. ListFits bytes left old new answer)
   list_fits None opened fits = tt
   list_fits (Some script) opened fits = inr (begun, opened, fits)

@@ -5,11 +5,12 @@ use Rattle.study_text.specs.Taken.{TakesPrefix}
 use Rattle.study_script.specs.declared.running.Summary.{Summary}
 use Rattle.study_script.specs.declared.running.RunFault.{RunFault}
 use Rattle.study_script.specs.declared.running.RunFault.TheVariants.{WriteDevice}
+use Rattle.study_command.specs.Documents.{empty}
 use Rattle.study_script.specs.State.{State}
 use Rattle.study_report.specs.Outcome.{Outcome, Shape}
 use Rattle.study_report.specs.Parts.{Fits}
 use Rattle.study_report.specs.Remarks.{subject, statement, is_left_out}
-use Rattle.study_page.specs.Csv.{quoted_text, head_record, refused_record, IsRecordOf, IsSomeRecord}
+use Rattle.study_page.specs.Csv.{quoted_text, head_record, refused_record, IsRecordOf, IsSomeRecordOf}
 use Rattle.study_print.specs.Refusals.{refusal_name}
 
 -- a refused line, by the script's reply to it
@@ -39,8 +40,9 @@ IsList first script left old new answer =
 abbrev pub ListShape : List ℕ → Option (List ℕ) → Result Summary RunFault → Type 0
 ListShape script left answer = ((answer ≡ Err WriteDevice) × (left ≡ Some script)) ⊎ Shape script left answer
 
--- What is written of a list, whatever the state and its tables: the head and the records, with as many refusals as are counted.
+-- What is written of a list, whatever the state and its tables: the head and the records of the studies that the accepted lines make, each with some verdict,
+-- with as many refusals as are counted.
 abbrev pub ListFits : List ℕ → Option (List ℕ) → Option (List ℕ) → Option (List ℕ) → Result Summary RunFault → Type 0
 ListFits script left old new answer =
     ((answer ≡ Err WriteDevice) × TakesPrefix old new head_record)
-    ⊎ ((begun : Option (List ℕ)) × Appends old begun head_record × Fits IsSomeRecord refusal_record remark_record script left begun new answer)
+    ⊎ ((begun : Option (List ℕ)) × Appends old begun head_record × Fits IsSomeRecordOf refusal_record remark_record empty script left begun new answer)

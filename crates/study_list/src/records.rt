@@ -15,12 +15,12 @@ use study_values::Values;
 pub struct Records;
 
 impl Report for Records {
-    ghost use Rattle.study_page.specs.Csv.{IsRecordOf, IsSomeRecord};
+    ghost use Rattle.study_page.specs.Csv.{IsRecordOf, IsSomeRecordOf};
     ghost use Rattle.study_list.specs.List.{refusal_record, remark_record};
 
     ghost tells = { λ plain info text. IsRecordOf plain info text };
 
-    ghost form = { λ number text. IsSomeRecord number text };
+    ghost form = { λ plain number text. IsSomeRecordOf plain number text };
 
     ghost refusal = { λ number line reply. refusal_record number line reply };
 

@@ -53,10 +53,10 @@ refused_record number line name =
 abbrev pub IsRecord : Study Mark → EntryInfo → List ℕ → Type 0
 IsRecord s entry text = (time : ℕ) × AreTimeFaults s time × (text ≡ record_text s time entry)
 
--- the record of some study, whatever its values are and whether or not it was read to its end
-abbrev pub IsSomeRecord : ℕ → List ℕ → Type 0
-IsSomeRecord number text =
-    (s : Study Mark) × (time : ℕ) × (unread : Option ℕ) × (text ≡ record_text s time (record { number = number; unread = unread }))
+-- the record of a plain study with this number, whatever its marks are and whether or not it was read to its end: the verdict alone is left open
+abbrev pub IsSomeRecordOf : Study (Unit {0}) → ℕ → List ℕ → Type 0
+IsSomeRecordOf plain number text =
+    (s : Study Mark) × (plain_study s ≡ plain) × (time : ℕ) × (unread : Option ℕ) × (text ≡ record_text s time (record { number = number; unread = unread }))
 
 -- the record of a plain study is that of its annotation
 abbrev pub IsRecordOf : Study (Unit {0}) → EntryInfo → List ℕ → Type 0

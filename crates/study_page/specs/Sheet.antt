@@ -48,9 +48,6 @@ module _ {L : Type 0} where
   place s number =
       element_text Figure (board s.start.position ++ place_caption number s.stipulation s.start (known_words (tag_of s.tags White)) (key_of s.tree.below))
 
--- the place of this study, with this number; and of some study
+-- the place of this study, with this number
 abbrev pub IsPlaceOf : PlainStudy → ℕ → List ℕ → Type 0
 IsPlaceOf plain number text = text ≡ place plain number
-
-abbrev pub IsPlace : ℕ → List ℕ → Type 0
-IsPlace number text = (plain : PlainStudy) × IsPlaceOf plain number text

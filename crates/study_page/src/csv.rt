@@ -13,7 +13,7 @@ ghost use Rattle.study_facts.specs.Order.{HasReviewed};
 ghost use Rattle.study_facts.specs.Made.{HasAsked};
 ghost use Rattle.study_head.specs.Verdict.{stamp_words, entry_judgement};
 ghost use Rattle.study_page.specs.Csv.{is_special, quoted_byte, quoted_text, field, column, head_record, names, record_text, refused_record};
-ghost use Rattle.study_page.specs.Csv.{IsRecord, IsSomeRecord, IsRecordOf};
+ghost use Rattle.study_page.specs.Csv.{IsRecord, IsSomeRecordOf, IsRecordOf};
 
 use crate::page::parts_of;
 use std::alloc::{AllocError, Allocator};
@@ -179,7 +179,8 @@ fn record_of<'a, 'b, A: Allocator, B: Allocator, V: Values>(
 ) -> Result<Text<'a, A>, TextFault>
     ensures text { V.source.is_honest values.old
         → IfOk result (λ text. IsRecord (marked_study bench.now) info text) }
-    ensures form { IfOk result (λ text. IsSomeRecord info.number text) }
+    ensures form { IfOk result
+        (IsSomeRecordOf (plain_study (marked_study bench.now)) info.number) }
     ensures asked { HasAsked (within (marked_study bench.now).start.position V.source)
         values.old result values.new }
 {
@@ -212,7 +213,8 @@ pub fn write_record<'a, 'b, A: Allocator, B: Allocator, V: Values, W: Write>(
         → OnOk result ((text : List ℕ)
         × IsRecordOf (plain_study (marked_study bench.now)) info text
         × Appends (W.contents out.old) (W.contents out.new) text) }
-    ensures form { OnOk result ((text : List ℕ) × IsSomeRecord info.number text
+    ensures form { OnOk result ((text : List ℕ)
+        × IsSomeRecordOf (plain_study (marked_study bench.now)) info.number text
         × Appends (W.contents out.old) (W.contents out.new) text) }
     ensures device { V.source.is_honest values.old → IsKeptRight bench.now
         → result ≡ Err ReviewFault.Device → (text : List ℕ)

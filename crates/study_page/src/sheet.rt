@@ -7,7 +7,7 @@ ghost use Rattle.study_marks.specs.Study.{tag_of, plain_study};
 ghost use Rattle.study_marks.specs.declared.tag.TagName.TheVariants as tag;
 ghost use Rattle.study_head.specs.Known.{known_words};
 ghost use Rattle.study_pgn.specs.Pgn.{stipulation_text};
-ghost use Rattle.study_page.specs.Sheet.{number_words, author_line, key_words, key_of, place_caption, place, IsPlaceOf, IsPlace};
+ghost use Rattle.study_page.specs.Sheet.{number_words, author_line, key_words, key_of, place_caption, place, IsPlaceOf};
 
 use std::alloc::{AllocError, Allocator};
 use std::io::Write;
@@ -124,8 +124,6 @@ pub fn write_place<'a, 'b, A: Allocator, B: Allocator, W: Write>(
 ) -> Result<(), WriteFault>
     ensures ok { OnOk result ((text : List ℕ)
         × IsPlaceOf (plain_study (marked_study bench.now)) number text
-        × Appends (W.contents out.old) (W.contents out.new) text) }
-    ensures formed { OnOk result ((text : List ℕ) × IsPlace number text
         × Appends (W.contents out.old) (W.contents out.new) text) }
     ensures device { result ≡ Err WriteFault.Device → (text : List ℕ)
         × IsPlaceOf (plain_study (marked_study bench.now)) number text

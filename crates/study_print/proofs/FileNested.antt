@@ -13,6 +13,7 @@ use Rattle.study_report.specs.declared.line_kind.LineKind.{LineKind}
 use Rattle.study_report.specs.declared.line_kind.LineKind.TheVariants.{Remark, PassedOver, NoClass, Study, Checked}
 use Rattle.study_report.specs.Reported.{line_kind, study_count}
 use Rattle.study_report.specs.Remarks.{begins, statement, is_left_out}
+use Rattle.study_command.specs.Documents.{Document, empty}
 use Rattle.study_report.specs.Parts.{Part, nothing_part, refused_part, remark_part, parts_text, IsPartAs, AreParts, AreWritten, Fits}
 use Rattle.study_html.specs.declared.element.Element.{Element}
 use Rattle.study_html.specs.declared.element.Element.TheVariants.{Code, Head, Heads, Header, Row, Rows, Strong, Table, Title, Warning}
@@ -67,28 +68,28 @@ text_nested : (part whole : Part) → part ≡ whole → IsWellNested whole.text
 text_nested part whole e h = body_of part whole e (nested_body whole.text h)
 
 checked_nested : (number : ℕ) (line : List ℕ) (piece : Piece) (refused : Bool)
-    → IsWellNested (if refused then refused_part IsEntry refusal_text remark_text number line piece.text else nothing_part).text
+    → IsWellNested (if refused then refused_part (λ plain. IsEntry) refusal_text remark_text number line piece.text else nothing_part).text
 checked_nested number line piece true = refusal_nested number line _ _
 checked_nested number line piece false = none_nested
 
-part_nested : (kind : LineKind) (number next : ℕ) (line : List ℕ) (part : Part) → IsPartAs IsEntry refusal_text remark_text kind number next line part
-    → IsBody part.text
-part_nested Remark number next line part h =
-    body_of part (remark_part IsEntry refusal_text remark_text line) h (remark_body line (is_left_out line))
-part_nested PassedOver number next line part h = text_nested part nothing_part h none_nested
-part_nested NoClass number next line part h = text_nested part _ h (refusal_nested number line _ _)
-part_nested Study number next line part (inl h) = text_nested part _ h.1 (refusal_nested number line _ _)
-part_nested Study number next line part (inr h) = text_nested part _ h.2 (entry_nested next h.0 h.1)
-part_nested Checked number next line part h = text_nested part _ h.2 (checked_nested number line h.0 h.0.refused)
+part_nested : (kind : LineKind) (number next : ℕ) (here : Document) (line : List ℕ) (part : Part)
+    → IsPartAs (λ plain. IsEntry) refusal_text remark_text kind number next here line part → IsBody part.text
+part_nested Remark number next here line part h =
+    body_of part (remark_part (λ plain. IsEntry) refusal_text remark_text line) h (remark_body line (is_left_out line))
+part_nested PassedOver number next here line part h = text_nested part nothing_part h none_nested
+part_nested NoClass number next here line part h = text_nested part _ h (refusal_nested number line _ _)
+part_nested Study number next here line part (inl h) = text_nested part _ h.1 (refusal_nested number line _ _)
+part_nested Study number next here line part (inr (plain, text, at, entry, is)) = text_nested part _ is (entry_nested next text entry)
+part_nested Checked number next here line part h = text_nested part _ h.2 (checked_nested number line h.0 h.0.refused)
 
-parts_nested : (lines studies : ℕ) (texts : List (List ℕ)) (parts : List Part) → AreParts IsEntry refusal_text remark_text lines studies texts parts
-    → IsBody (parts_text parts)
-parts_nested lines studies [] [] h = none_body
-parts_nested lines studies [] (part ∷ parts) h = absurd h
-parts_nested lines studies (line ∷ more) [] h = absurd h
-parts_nested lines studies (line ∷ more) (part ∷ parts) h =
-    both_bodies part.text (parts_text parts) (part_nested (line_kind line) (suc lines) (suc studies) line part h.0)
-    (parts_nested (suc lines) (studies + study_count part.reported) more parts h.1)
+parts_nested : (lines studies : ℕ) (here there : Document) (texts : List (List ℕ)) (parts : List Part)
+    → AreParts (λ plain. IsEntry) refusal_text remark_text lines studies here texts parts there → IsBody (parts_text parts)
+parts_nested lines studies here there [] [] h = none_body
+parts_nested lines studies here there [] (part ∷ parts) h = absurd h
+parts_nested lines studies here there (line ∷ more) [] h = absurd h
+parts_nested lines studies here there (line ∷ more) (part ∷ parts) (is, (next, goes, are)) =
+    both_bodies part.text (parts_text parts) (part_nested (line_kind line) (suc lines) (suc studies) here line part is)
+    (parts_nested (suc lines) (studies + study_count part.reported) next there more parts are)
 
 -- ---- the list of all entries
 
@@ -112,20 +113,20 @@ summary_nested Several rows h = list_nested rows h
 -- ---- the file
 
 module _ (old begun ended new : Option (List ℕ)) (count : EntryCount) (rows : List ℕ) (nested : IsWellNested rows) where
-  whole : (lines : List (List ℕ)) (refusals : ℕ) → Appends old begun page_opening → AreWritten IsEntry refusal_text remark_text lines begun ended refusals
+  whole : (lines : List (List ℕ)) (refusals : ℕ) → Appends old begun page_opening → AreWritten (λ plain. IsEntry) refusal_text remark_text empty lines begun ended refusals
       → Appends ended new (end_text count rows) → IsWholeFile old new
   whole lines refusals opened written closed =
       let parts = parts_text written.0 in
       let list = summary_text count rows in (
         parts ++ list,
-        both_bodies parts list (parts_nested 0 0 lines written.0 written.1) (nested_body list (summary_nested count rows nested)),
+        both_bodies parts list (parts_nested 0 0 empty written.1 lines written.0 written.2) (nested_body list (summary_nested count rows nested)),
         subst (Appends old new) (ap (λ (t : List ℕ). page_opening ++ t) (sym (append_assoc parts list page_closing)))
             (Appends-trans old begun new page_opening (parts ++ (list ++ page_closing)) opened
-            (Appends-trans begun ended new parts (list ++ page_closing) written.2 closed)),
+            (Appends-trans begun ended new parts (list ++ page_closing) written.3 closed)),
       )
 
   pub whole_by : (script : List ℕ) (left : Option (List ℕ)) (answer : Result Summary RunFault) → Appends old begun page_opening
-      → Fits IsEntry refusal_text remark_text script left begun ended answer → Appends ended new (end_text count rows) → IsWholeUnlessCut old new answer
+      → Fits (λ plain. IsEntry) refusal_text remark_text empty script left begun ended answer → Appends ended new (end_text count rows) → IsWholeUnlessCut old new answer
   whole_by script left (Ok summary) opened fits closed = whole _ _ opened fits closed
   whole_by script left (Err ReadDevice) opened fits closed = whole _ _ opened fits.4 closed
   whole_by script left (Err (LineTooLong n)) opened fits closed = whole _ _ opened fits.1 closed
@@ -142,7 +143,7 @@ module _ (old begun ended new : Option (List ℕ)) (count : EntryCount) (rows : 
   cut (Err OutOfMemory) answer broken same = absurd (false≢true broken)
 
   ended_if : (broken : Bool) (script : List ℕ) (left : Option (List ℕ)) (ran answer : Result Summary RunFault) → writer_failed ran ≡ broken
-      → Appends old begun page_opening → Fits IsEntry refusal_text remark_text script left begun ended ran
+      → Appends old begun page_opening → Fits (λ plain. IsEntry) refusal_text remark_text empty script left begun ended ran
       → IsEndedIf broken (end_text count rows) ended new ran answer → IsWholeUnlessCut old new answer
   ended_if true script left ran answer broken opened fits end = cut ran answer broken end.0
   ended_if false script left ran answer broken opened fits (inl end) =
@@ -151,7 +152,7 @@ module _ (old begun ended new : Option (List ℕ)) (count : EntryCount) (rows : 
   ended_if false script left ran answer broken opened fits (inr (inr end)) = subst (IsWholeUnlessCut old new) (sym end.0) tt
 
   pub whole_file : (left : Option (List ℕ)) (given : Option (List ℕ)) (ran answer : Result Summary RunFault) → Appends old begun page_opening
-      → IfSome given (λ bytes. Fits IsEntry refusal_text remark_text bytes left begun ended ran) → IsEnded (end_text count rows) ended new ran answer
+      → IfSome given (λ bytes. Fits (λ plain. IsEntry) refusal_text remark_text empty bytes left begun ended ran) → IsEnded (end_text count rows) ended new ran answer
       → IfSome given (λ bytes. IsWholeUnlessCut old new answer)
   whole_file left None ran answer opened fits end = tt
   whole_file left (Some script) ran answer opened fits end = ended_if (writer_failed ran) script left ran answer refl opened fits end

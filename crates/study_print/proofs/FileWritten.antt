@@ -8,6 +8,7 @@ use Rattle.study_script.specs.declared.running.RunFault.{RunFault}
 use Rattle.study_script.specs.declared.running.RunFault.TheVariants.{WriteDevice}
 use Rattle.study_script.specs.State.{State}
 use Rattle.study_report.specs.Outcome.{Outcome, AreListed, AreListedBefore, Shape}
+use Rattle.study_command.specs.Documents.{empty}
 use Rattle.study_report.specs.Parts.{Fits}
 use Rattle.study_html.specs.Frame.{page_opening}
 use Rattle.study_page.specs.Page.{IsPageOf, IsEntry}
@@ -69,7 +70,7 @@ no_shape (Some script) = inl (refl, refl)
 -- ---- what is written, whatever the tables say
 
 pub whole_fits : (left old begun ended new : Option (List ℕ)) (answer : Result Summary RunFault) (count : EntryCount) (rows : List ℕ) (given : Option (List ℕ))
-    (ran : Result Summary RunFault) → Appends old begun page_opening → IfSome given (λ bytes. Fits IsEntry refusal_text remark_text bytes left begun ended ran)
+    (ran : Result Summary RunFault) → Appends old begun page_opening → IfSome given (λ bytes. Fits (λ plain. IsEntry) refusal_text remark_text empty bytes left begun ended ran)
     → IsEnded (end_text count rows) ended new ran answer → IfSome given (λ bytes. FileFits bytes left old new answer)
 whole_fits left old begun ended new answer count rows None ran opened fits end = tt
 whole_fits left old begun ended new answer count rows (Some script) ran opened fits end = inr (begun, ended, ran, count, rows, opened, fits, end)

@@ -5,6 +5,7 @@ use Rattle.study_text.specs.Taken.{TakesPrefix}
 use Rattle.study_script.specs.declared.running.Summary.{Summary}
 use Rattle.study_script.specs.declared.running.RunFault.{RunFault}
 use Rattle.study_script.specs.declared.running.RunFault.TheVariants.{ReadDevice, WriteDevice, LineTooLong, TooManyLines, OutOfMemory}
+use Rattle.study_command.specs.Documents.{empty}
 use Rattle.study_script.specs.State.{State}
 use Rattle.study_report.specs.Outcome.{Outcome, AreListed, AreListedBefore, Shape}
 use Rattle.study_report.specs.Parts.{Fits}
@@ -81,7 +82,7 @@ abbrev pub FileFits : List ℕ → Option (List ℕ) → Option (List ℕ) → O
 FileFits script left old new answer =
     ((answer ≡ Err WriteDevice) × TakesPrefix old new page_opening)
     ⊎ ((begun ended : Option (List ℕ)) × (ran : Result Summary RunFault) × (count : EntryCount) × (rows : List ℕ) × Appends old begun page_opening
-    × Fits IsEntry refusal_text remark_text script left begun ended ran × IsEnded (end_text count rows) ended new ran answer)
+    × Fits (λ plain. IsEntry) refusal_text remark_text empty script left begun ended ran × IsEnded (end_text count rows) ended new ran answer)
 
 -- markup, and between it paragraphs of original texts, which may have letters outside ASCII
 pub data Body : Type 0 where

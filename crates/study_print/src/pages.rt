@@ -71,7 +71,7 @@ impl<'s, S: Allocator, N: Watch> Report for Pages<'s, S, N> {
 
     ghost tells = { λ plain info text. IsPageOf plain info text };
 
-    ghost form = { λ number text. IsEntry number text };
+    ghost form = { λ plain number text. IsEntry number text };
 
     ghost refusal = { λ number line reply. refusal_text number line reply };
 

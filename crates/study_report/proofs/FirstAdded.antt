@@ -12,7 +12,8 @@ use Rattle.study_script.specs.declared.running.RunFault.{RunFault}
 use Rattle.study_script.specs.declared.running.RunFault.TheVariants.{ReadDevice, WriteDevice, LineTooLong, TooManyLines, OutOfMemory}
 use Rattle.study_command.specs.Lines.{script_lines, TakesLine, BeginsLong, GaveFeeds}
 use Rattle.study_command.proofs.LineTaken.{HasMore}
-use Rattle.study_script.specs.State.{State, Document}
+use Rattle.study_command.specs.Documents.{Document}
+use Rattle.study_script.specs.State.{State}
 use Rattle.study_script.specs.Outcome.{AreShort}
 use Rattle.study_script.proofs.FirstLines.{Gone, gone_write}
 use Rattle.study_text.specs.Taken.{TakesPrefix}

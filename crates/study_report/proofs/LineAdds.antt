@@ -13,7 +13,8 @@ use Rattle.study_reply.specs.Replied.{error_text, line_text}
 use Rattle.study_script.specs.Executed.{line_reply, ExecutedLine}
 use Rattle.study_script.specs.declared.running.RunFault.{RunFault}
 use Rattle.study_script.specs.declared.running.RunFault.TheVariants.{ReadDevice, WriteDevice, LineTooLong, TooManyLines, OutOfMemory}
-use Rattle.study_script.specs.State.{State, Document, study, Environment}
+use Rattle.study_command.specs.Documents.{Document, study}
+use Rattle.study_script.specs.State.{State, Environment}
 use Rattle.study_script.specs.Replies.{Reply, refused_reply, IsReplyIn}
 use Rattle.study_script.specs.SessionHolds.{Answered}
 use Rattle.study_report.specs.declared.line_kind.LineKind.TheVariants.{Study, Checked}

@@ -1,5 +1,5 @@
 -- What is known of a line, by its kind.
-use Rattle.std.proofs.Common.{◌≡◌, ℕ, Bool, true, false, ◌&&◌, ◌||◌, List, [], ◌∷◌, Option, Some, None, Ok, Err, refl, sym, ap, subst, ◌∙◌}
+use Rattle.std.proofs.Common.{◌≡◌, ℕ, Bool, true, false, List, [], ◌∷◌, Option, Some, None, Ok, Err, refl, sym, ap, subst, ◌∙◌}
 use Rattle.std.specs.Prelude.{IfSome, not, codes, if◌then◌else◌}
 use Rattle.std.specs.List.{list_all}
 use Rattle.std.specs.Str.{bytes_eq}
@@ -20,7 +20,8 @@ use Rattle.study_marks.specs.Annotated.{IsAnnotated}
 use Rattle.study_marks.specs.BenchState.{marked_study}
 use Rattle.study_pgn.specs.Pgn.{pgn_text}
 use Rattle.study_reply.specs.declared.refusal.Refusal.TheVariants.{NoStudy}
-use Rattle.study_script.specs.State.{State, Document, empty, start, study, quiet}
+use Rattle.study_command.specs.Documents.{Document, empty, start, study}
+use Rattle.study_script.specs.State.{State, quiet}
 use Rattle.study_script.specs.declared.document.Document.{Document as HeldDocument}
 use Rattle.study_script.specs.declared.document.Document.TheVariants as held
 use Rattle.study_script.specs.SessionHolds.{document_seen, IsMarked}

@@ -17,20 +17,20 @@ use Rattle.study_reply.specs.Names.{words_of}
 use Rattle.study_reply.specs.Words.{reply_line}
 use Rattle.study_script.specs.declared.running.RunFault.{RunFault}
 use Rattle.study_script.specs.declared.running.RunFault.TheVariants.{ReadDevice, WriteDevice, LineTooLong, TooManyLines, OutOfMemory}
-use Rattle.study_script.specs.State.{Document, study}
+use Rattle.study_command.specs.Documents.{Document, study}
 use Rattle.study_reply.specs.declared.reply.Reply.{Reply as Done}
 use Rattle.study_reply.specs.declared.reply.LineRefusal.{LineRefusal}
 use Rattle.study_reply.specs.Replied.{error_text, line_text}
-use Rattle.study_script.specs.Executed.{line_piece}
+use Rattle.study_script.specs.Executed.{line_piece, LeavesApart}
 use Rattle.study_script.specs.Written.{Piece, IsPiece, IsPieceWhere}
 use Rattle.study_script.proofs.FirstLines.{first_left, none_left}
 use Rattle.study_report.specs.declared.line_kind.LineKind.{LineKind}
 use Rattle.study_report.specs.declared.line_kind.LineKind.TheVariants.{Remark, PassedOver, NoClass, Study, Checked}
 use Rattle.study_report.specs.declared.line_outcome.LineOutcome.{LineOutcome}
-use Rattle.study_report.specs.declared.line_outcome.LineOutcome.TheVariants.{Nothing, Study as AStudy}
-use Rattle.study_report.specs.Reported.{lacks_study, study_count, refusal_count}
+use Rattle.study_report.specs.declared.line_outcome.LineOutcome.TheVariants.{Nothing, Study as AStudy, Refusal as ARefusal}
+use Rattle.study_report.specs.Reported.{line_kind, lacks_study, study_count, refusal_count}
 use Rattle.study_report.specs.Parts.{Part, nothing_part, study_part, parts_text, part_studies, part_refusals, WritesPart, IsReplyPiece, refused_part}
-use Rattle.study_report.specs.Parts.{remark_part, checked_part, IsPartAs, IsPart, AreParts, Fits}
+use Rattle.study_report.specs.Parts.{remark_part, checked_part, IsPartAs, IsPart, IsNextAs, IsNext, AreParts, Fits}
 use Rattle.study_report.proofs.LineAdds.{RefusalWritten, RemarkWritten}
 
 -- ---- a line
@@ -62,46 +62,46 @@ pub on-err : {A E : Type 0} (r : Result A E) (P : Type 0) → P → IfErr r (λ 
 on-err (Ok x) P h = tt
 on-err (Err e) P h = h
 
-module _ (form : ℕ → List ℕ → Type 0) (refusal : ℕ → List ℕ → List ℕ → List ℕ) (remark : List ℕ → List ℕ) where
+module _ (form : PlainStudy → ℕ → List ℕ → Type 0) (refusal : ℕ → List ℕ → List ℕ → List ℕ) (remark : List ℕ → List ℕ) (here : Document) where
   pub passed-part : (k : LineKind) (line : List ℕ) (number next : ℕ) (out : Option (List ℕ)) → PassedOver ≡ k
-      → WritesPart (IsPartAs form refusal remark k number next line) out out Nothing
+      → WritesPart (IsPartAs form refusal remark k number next here line) out out Nothing
   passed-part k line number next out e =
-      (nothing_part, subst (λ (x : LineKind). IsPartAs form refusal remark x number next line nothing_part) e refl, Appends-nil out, refl)
+      (nothing_part, subst (λ (x : LineKind). IsPartAs form refusal remark x number next here line nothing_part) e refl, Appends-nil out, refl)
 
   pub remark-part : {E : Type 0} (k : LineKind) (line : List ℕ) (number next : ℕ) (r : Result LineOutcome E) (old new : Option (List ℕ)) → Remark ≡ k
-      → IfOk r (RemarkWritten (remark line) old new) → IfOk r (WritesPart (IsPartAs form refusal remark k number next line) old new)
+      → IfOk r (RemarkWritten (remark line) old new) → IfOk r (WritesPart (IsPartAs form refusal remark k number next here line) old new)
   remark-part k line number next r old new e h =
       let part = remark_part form refusal remark line in
-      IfOk-weaker r (RemarkWritten (remark line) old new) (WritesPart (IsPartAs form refusal remark k number next line) old new)
-      (λ reported (t, wrote). (part, subst (λ (x : LineKind). IsPartAs form refusal remark x number next line part) e refl, wrote, t)) h
+      IfOk-weaker r (RemarkWritten (remark line) old new) (WritesPart (IsPartAs form refusal remark k number next here line) old new)
+      (λ reported (t, wrote). (part, subst (λ (x : LineKind). IsPartAs form refusal remark x number next here line part) e refl, wrote, t)) h
 
   pub no-class-part : {E : Type 0} (k : LineKind) (line : List ℕ) (number next : ℕ) (r : Result LineOutcome E) (old new : Option (List ℕ)) → NoClass ≡ k
       → IfOk r (RefusalWritten (refusal number line (reply_line (codes "error ") (words_of NotAClass))) old new)
-      → IfOk r (WritesPart (IsPartAs form refusal remark k number next line) old new)
+      → IfOk r (WritesPart (IsPartAs form refusal remark k number next here line) old new)
   no-class-part k line number next r old new e h =
       let part = refused_part form refusal remark number line (reply_line (codes "error ") (words_of NotAClass)) in
       IfOk-weaker r (RefusalWritten (refusal number line (reply_line (codes "error ") (words_of NotAClass))) old new)
-      (WritesPart (IsPartAs form refusal remark k number next line) old new)
-      (λ reported (t, wrote). (part, subst (λ (x : LineKind). IsPartAs form refusal remark x number next line part) e refl, wrote, t)) h
+      (WritesPart (IsPartAs form refusal remark k number next here line) old new)
+      (λ reported (t, wrote). (part, subst (λ (x : LineKind). IsPartAs form refusal remark x number next here line part) e refl, wrote, t)) h
 
   pub part-of-kind : {E : Type 0} (j k : LineKind) (line : List ℕ) (number next : ℕ) (r : Result LineOutcome E) (old new : Option (List ℕ)) → j ≡ k
-      → IfOk r (WritesPart (IsPartAs form refusal remark j number next line) old new)
-      → IfOk r (WritesPart (IsPartAs form refusal remark k number next line) old new)
+      → IfOk r (WritesPart (IsPartAs form refusal remark j number next here line) old new)
+      → IfOk r (WritesPart (IsPartAs form refusal remark k number next here line) old new)
   part-of-kind j k line number next r old new e h =
-      subst (λ (x : LineKind). IfOk r (WritesPart (IsPartAs form refusal remark x number next line) old new)) e h
+      subst (λ (x : LineKind). IfOk r (WritesPart (IsPartAs form refusal remark x number next here line) old new)) e h
 
   -- a line is refused by these words
   pub refusal-part : {E : Type 0} (line : List ℕ) (number next : ℕ) (words : List ℕ) (r : Result LineOutcome E) (old new : Option (List ℕ))
       → IfOk r (RefusalWritten (refusal number line (reply_line (codes "error ") words)) old new)
-      → IfOk r (WritesPart (IsPartAs form refusal remark Study number next line) old new)
+      → IfOk r (WritesPart (IsPartAs form refusal remark Study number next here line) old new)
   refusal-part line number next words r old new h =
       IfOk-weaker r (RefusalWritten (refusal number line (reply_line (codes "error ") words)) old new)
-      (WritesPart (IsPartAs form refusal remark Study number next line) old new)
+      (WritesPart (IsPartAs form refusal remark Study number next here line) old new)
       (λ reported (e, wrote). (refused_part form refusal remark number line (reply_line (codes "error ") words), inl (words, refl), wrote, e)) h
 
   pub refusal-of-reply : {E : Type 0} (line : List ℕ) (number next : ℕ) (bytes : List ℕ) (was : Bool) (r : Result LineOutcome E) (old new : Option (List ℕ))
       → IsReplyPiece line bytes was → was ≡ true → IfOk r (RefusalWritten (refusal number line bytes) old new)
-      → IfOk r (WritesPart (IsPartAs form refusal remark Study number next line) old new)
+      → IfOk r (WritesPart (IsPartAs form refusal remark Study number next here line) old new)
   refusal-of-reply line number next bytes was r old new (piece, is, b, same) so h =
       let w = refused-words (command_of line) piece is (sym same ∙ so) in
       refusal-part line number next w.0 r old new
@@ -125,9 +125,9 @@ module _ (form : ℕ → List ℕ → Type 0) (refusal : ℕ → List ℕ → Li
 
   pub checked-refusal : {E : Type 0} (line : List ℕ) (number next : ℕ) (bytes : List ℕ) (was : Bool) (r : Result LineOutcome E) (old new : Option (List ℕ))
       → IsReplyPiece line bytes was → was ≡ true → IfOk r (RefusalWritten (refusal number line bytes) old new)
-      → IfOk r (WritesPart (IsPartAs form refusal remark Checked number next line) old new)
+      → IfOk r (WritesPart (IsPartAs form refusal remark Checked number next here line) old new)
   checked-refusal line number next bytes was r old new (piece, is, b, same) so h =
-      IfOk-weaker r (RefusalWritten (refusal number line bytes) old new) (WritesPart (IsPartAs form refusal remark Checked number next line) old new)
+      IfOk-weaker r (RefusalWritten (refusal number line bytes) old new) (WritesPart (IsPartAs form refusal remark Checked number next here line) old new)
       (λ reported (e, wrote). (
         refused_part form refusal remark number line piece.text,
         (piece, is, checked-if number line piece (sym same ∙ so)),
@@ -136,43 +136,51 @@ module _ (form : ℕ → List ℕ → Type 0) (refusal : ℕ → List ℕ → Li
       )) h
 
   pub checked-silent : (line : List ℕ) (number next : ℕ) (bytes : List ℕ) (was : Bool) (out : Option (List ℕ))
-      → IsReplyPiece line bytes was → was ≡ false → WritesPart (IsPartAs form refusal remark Checked number next line) out out Nothing
+      → IsReplyPiece line bytes was → was ≡ false → WritesPart (IsPartAs form refusal remark Checked number next here line) out out Nothing
   checked-silent line number next bytes was out (piece, is, b, same) so =
       (nothing_part, (piece, is, checked-not number line piece (sym same ∙ so)), Appends-nil out, refl)
 
   -- the study in the document is written
-  pub study-in : (line : List ℕ) (number next : ℕ) (old new : Option (List ℕ)) → (text : List ℕ) × form next text × Appends old new text
-      → WritesPart (IsPartAs form refusal remark Study number next line) old new AStudy
-  study-in line number next old new (text, is, wrote) = (study_part text, inr (text, is, refl), wrote, refl)
+  pub study-in : (line : List ℕ) (number next : ℕ) (old new : Option (List ℕ))
+      → (plain : PlainStudy) × (text : List ℕ) × (here ≡ study plain) × form plain next text × Appends old new text
+      → WritesPart (IsPartAs form refusal remark Study number next here line) old new AStudy
+  study-in line number next old new (plain, text, at, is, wrote) = (study_part text, inr (plain, text, at, is, refl), wrote, refl)
 
   -- the study is refused
   pub left-out-part : {E : Type 0} (line : List ℕ) (number next : ℕ) (why : Refusal) (r : Result LineOutcome E) (old mid new : Option (List ℕ)) → mid ≡ old
       → IfOk r (RefusalWritten (refusal number line (reply_line (codes "error ") (words_of why))) mid new)
-      → IfOk r (WritesPart (IsPartAs form refusal remark Study number next line) old new)
+      → IfOk r (WritesPart (IsPartAs form refusal remark Study number next here line) old new)
   left-out-part line number next why r old mid new same h =
-      subst (λ (x : Option (List ℕ)). IfOk r (WritesPart (IsPartAs form refusal remark Study number next line) x new)) same
+      subst (λ (x : Option (List ℕ)). IfOk r (WritesPart (IsPartAs form refusal remark Study number next here line) x new)) same
       (refusal-part line number next (words_of why) r mid new h)
 
+module _ (form : PlainStudy → ℕ → List ℕ → Type 0) (refusal : ℕ → List ℕ → List ℕ → List ℕ) (remark : List ℕ → List ℕ) where
   -- ---- lines
 
-  parts-more : (n k : ℕ) (lines : List (List ℕ)) (parts : List Part) (line : List ℕ) (part : Part) → AreParts form refusal remark n k lines parts
-      → IsPart form refusal remark (suc (n + length lines)) (suc (k + part_studies parts)) line part
-      → AreParts form refusal remark n k (lines ++ line ∷ []) (parts ++ part ∷ [])
-  parts-more n k [] [] line part h r =
+  parts-more : (n k : ℕ) (here there next : Document) (lines : List (List ℕ)) (parts : List Part) (line : List ℕ) (part : Part)
+      → AreParts form refusal remark n k here lines parts there
+      → IsPart form refusal remark (suc (n + length lines)) (suc (k + part_studies parts)) there line part → IsNext there line part.reported next
+      → AreParts form refusal remark n k here (lines ++ line ∷ []) (parts ++ part ∷ []) next
+  parts-more n k here there next [] [] line part h r d =
       let e : suc (n + 0) ≡ suc n = omega arith in
       let f : suc (k + 0) ≡ suc k = omega arith in
-      (subst (λ i. IsPart form refusal remark (suc n) i line part) f (subst (λ i. IsPart form refusal remark i (suc (k + 0)) line part) e r), tt)
-  parts-more n k [] (x ∷ parts) line part h r = absurd h
-  parts-more n k (l ∷ lines) [] line part h r = absurd h
-  parts-more n k (l ∷ lines) (x ∷ parts) line part h r =
+      let is = subst (λ i. IsPart form refusal remark (suc n) i there line part) f (subst (λ i. IsPart form refusal remark i (suc (k + 0)) there line part) e r) in
+      (subst (λ x. IsPart form refusal remark (suc n) (suc k) x line part) h is, (next, subst (λ x. IsNext x line part.reported next) h d, refl))
+  parts-more n k here there next [] (x ∷ parts) line part h r d = absurd h
+  parts-more n k here there next (l ∷ lines) [] line part h r d = absurd h
+  parts-more n k here there next (l ∷ lines) (x ∷ parts) line part (is, (mid, goes, are)) r d =
       let e : suc (n + length (l ∷ lines)) ≡ suc (suc n + length lines) = omega arith in
       let split : part_studies (x ∷ parts) ≡ study_count x.reported + part_studies parts =
       sum_by-cons (λ (p : Part). study_count p.reported) x parts in
       let f : suc (k + part_studies (x ∷ parts)) ≡ suc ((k + study_count x.reported) + part_studies parts) = omega (arith, split) in (
-        h.0,
-        parts-more (suc n) (k + study_count x.reported) lines parts line part h.1
-            (subst (λ i. IsPart form refusal remark (suc (suc n + length lines)) i line part) f
-            (subst (λ i. IsPart form refusal remark i (suc (k + part_studies (x ∷ parts))) line part) e r)),
+        is,
+        (
+          mid,
+          goes,
+          parts-more (suc n) (k + study_count x.reported) mid there next lines parts line part are
+              (subst (λ i. IsPart form refusal remark (suc (suc n + length lines)) i there line part) f
+              (subst (λ i. IsPart form refusal remark i (suc (k + part_studies (x ∷ parts))) there line part) e r)) d,
+        ),
       )
 
   text-more : (parts : List Part) (part : Part) → parts_text (parts ++ part ∷ []) ≡ parts_text parts ++ part.text
@@ -180,38 +188,39 @@ module _ (form : ℕ → List ℕ → Type 0) (refusal : ℕ → List ℕ → Li
   text-more (x ∷ parts) part = ap (λ (t : List ℕ). x.text ++ t) (text-more parts part) ∙ sym (append_assoc x.text (parts_text parts) part.text)
 
   -- n lines were read, their parts are written, and so many studies are reported and lines refused
-  pub record PartsOver (all left : List (List ℕ)) (old new : Option (List ℕ)) (n refused studies : ℕ) : Type 0 where
+  pub record PartsOver (first last : Document) (all left : List (List ℕ)) (old new : Option (List ℕ)) (n refused studies : ℕ) : Type 0 where
     pub left_is : drop n all ≡ left
     pub within : n ≤ length all
     pub parts : List Part
-    pub are : AreParts form refusal remark 0 0 (take n all) parts
+    pub are : AreParts form refusal remark 0 0 first (take n all) parts last
     pub written : Appends old new (parts_text parts)
     pub refused_is : refused ≡ part_refusals parts
     pub studies_are : studies ≡ part_studies parts
 
-  abbrev pub PartsKnown : Option (List ℕ) → Option (List ℕ) → Option (List ℕ) → Option (List ℕ) → ℕ → ℕ → ℕ → Type 0
-  PartsKnown None now old new n refused studies = Unit {0}
-  PartsKnown (Some bs) None old new n refused studies = ⊥
-  PartsKnown (Some bs) (Some rest) old new n refused studies = PartsOver (script_lines bs) (script_lines rest) old new n refused studies
+  abbrev pub PartsKnown : Document → Document → Option (List ℕ) → Option (List ℕ) → Option (List ℕ) → Option (List ℕ) → ℕ → ℕ → ℕ → Type 0
+  PartsKnown first last None now old new n refused studies = Unit {0}
+  PartsKnown first last (Some bs) None old new n refused studies = ⊥
+  PartsKnown first last (Some bs) (Some rest) old new n refused studies = PartsOver first last (script_lines bs) (script_lines rest) old new n refused studies
 
-  pub record HasParts (script now old new : Option (List ℕ)) (n refused studies : ℕ) : Type 0 where
-    pub known : PartsKnown script now old new n refused studies
+  pub record HasParts (first last : Document) (script now old new : Option (List ℕ)) (n refused studies : ℕ) : Type 0 where
+    pub known : PartsKnown first last script now old new n refused studies
 
-  pub parts_none : (script out : Option (List ℕ)) → HasParts script script out out 0 0 0
-  parts_none None out = record { known = tt }
-  parts_none (Some bs) out = record {
-    known = record { left_is = refl; within = omega arith; parts = []; are = tt; written = Appends-nil out; refused_is = refl; studies_are = refl };
+  pub parts_none : (first : Document) (script out : Option (List ℕ)) → HasParts first first script script out out 0 0 0
+  parts_none first None out = record { known = tt }
+  parts_none first (Some bs) out = record {
+    known = record { left_is = refl; within = omega arith; parts = []; are = refl; written = Appends-nil out; refused_is = refl; studies_are = refl };
   }
 
-  pub parts_more : (script now next old mid new : Option (List ℕ)) (line : List ℕ) (n number refused refused' studies studies' : ℕ) (reported : LineOutcome)
-      → HasParts script now old mid n refused studies → TakesLine now next true line → number ≡ n + 1
-      → WritesPart (IsPart form refusal remark number (studies + 1) line) mid new reported
+  pub parts_more : (first here there : Document) (script now next old mid new : Option (List ℕ)) (line : List ℕ) (n number refused refused' studies studies' : ℕ) (reported : LineOutcome)
+      → HasParts first here script now old mid n refused studies → TakesLine now next true line → number ≡ n + 1
+      → WritesPart (IsPart form refusal remark number (studies + 1) here line) mid new reported → IsNext here line reported there
       → refused' ≡ refused + refusal_count reported → studies' ≡ studies + study_count reported
-      → HasParts script next old new (n + 1) refused' studies'
-  parts_more None now next old mid new line n number refused refused' studies studies' reported r t at w k j = record { known = tt }
-  parts_more (Some bs) None next old mid new line n number refused refused' studies studies' reported r t at w k j = absurd r.known
-  parts_more (Some bs) (Some rest) None old mid new line n number refused refused' studies studies' reported r t at w k j = absurd t
-  parts_more (Some bs) (Some rest) (Some rest') old mid new line n number refused refused' studies studies' reported r t at (part, is, wrote, same) k j =
+      → HasParts first there script next old new (n + 1) refused' studies'
+  parts_more first here there None now next old mid new line n number refused refused' studies studies' reported r t at w d k j = record { known = tt }
+  parts_more first here there (Some bs) None next old mid new line n number refused refused' studies studies' reported r t at w d k j = absurd r.known
+  parts_more first here there (Some bs) (Some rest) None old mid new line n number refused refused' studies studies' reported r t at w d k j = absurd t
+  parts_more first here there (Some bs) (Some rest) (Some rest') old mid new line n number refused refused' studies studies' reported r t at
+      (part, is, wrote, same) d k j =
       let v = r.known in
       let all = script_lines bs in
       let f = first_left all (script_lines rest') n line (v.left_is ∙ t) in
@@ -222,14 +231,14 @@ module _ (form : ℕ → List ℕ → Type 0) (refusal : ℕ → List ℕ → Li
       let len : length (take n all) ≡ n = length-take-le n all le in
       let at-line : number ≡ suc (0 + length (take n all)) = omega (arith, at, len) in
       let at-study : studies + 1 ≡ suc (0 + part_studies v.parts) = omega (arith, v.studies_are) in
-      let there = subst (λ i. IsPart form refusal remark (suc (0 + length (take n all))) i line part) at-study
-      (subst (λ i. IsPart form refusal remark i (studies + 1) line part) at-line is) in
+      let at-place = subst (λ i. IsPart form refusal remark (suc (0 + length (take n all))) i here line part) at-study
+      (subst (λ i. IsPart form refusal remark i (studies + 1) here line part) at-line is) in
       record {
         known = record {
           left_is = ap (λ i. drop i all) e ∙ f.2;
           within = omega arith;
           parts = v.parts ++ part ∷ [];
-          are = rw grown (parts-more 0 0 (take n all) v.parts line part v.are there);
+          are = rw grown (parts-more 0 0 first here there (take n all) v.parts line part v.are at-place (subst (λ x. IsNext here line x there) same d));
           written = rw (text-more v.parts part) (Appends-trans old mid new (parts_text v.parts) part.text v.written wrote);
           refused_is = k ∙ ap (λ (x : LineOutcome). refused + refusal_count x) same ∙ ap (λ i. i + refusal_count part.reported) v.refused_is
               ∙ sym (sum_by_push (λ (p : Part). refusal_count p.reported) v.parts part);
@@ -240,53 +249,53 @@ module _ (form : ℕ → List ℕ → Type 0) (refusal : ℕ → List ℕ → Li
 
   -- ---- the ends of a report
 
-  pub parts_end : (left script now next old new : Option (List ℕ)) (line : List ℕ) (n refused studies : ℕ)
-      → HasParts script now old new n refused studies → TakesLine now next false line
-      → IfSome script (λ bytes. Fits form refusal remark bytes left old new (Ok (record { lines = n; refused = refused })))
-  parts_end left None now next old new line n refused studies r t = tt
-  parts_end left (Some bs) None next old new line n refused studies r t = absurd r.known
-  parts_end left (Some bs) (Some rest) None old new line n refused studies r t = absurd t
-  parts_end left (Some bs) (Some rest) (Some rest') old new line n refused studies r t =
+  pub parts_end : (first last : Document) (left script now next old new : Option (List ℕ)) (line : List ℕ) (n refused studies : ℕ)
+      → HasParts first last script now old new n refused studies → TakesLine now next false line
+      → IfSome script (λ bytes. Fits form refusal remark first bytes left old new (Ok (record { lines = n; refused = refused })))
+  parts_end first last left None now next old new line n refused studies r t = tt
+  parts_end first last left (Some bs) None next old new line n refused studies r t = absurd r.known
+  parts_end first last left (Some bs) (Some rest) None old new line n refused studies r t = absurd t
+  parts_end first last left (Some bs) (Some rest) (Some rest') old new line n refused studies r t =
       let v = r.known in
       let d = none_left (script_lines bs) n v.within (v.left_is ∙ t) in
-      (v.parts, subst (λ (ls : List (List ℕ)). AreParts form refusal remark 0 0 ls v.parts) d.0 v.are, v.written, v.refused_is)
+      (v.parts, last, subst (λ (ls : List (List ℕ)). AreParts form refusal remark 0 0 first ls v.parts last) d.0 v.are, v.written, v.refused_is)
 
-  pub parts_long : (left script now old new : Option (List ℕ)) (n refused studies : ℕ) → HasParts script now old new n refused studies
-      → IfSome script (λ bytes. Fits form refusal remark bytes left old new (Err (LineTooLong (n + 1))))
-  parts_long left None now old new n refused studies r = tt
-  parts_long left (Some bs) None old new n refused studies r = absurd r.known
-  parts_long left (Some bs) (Some rest) old new n refused studies r =
+  pub parts_long : (first last : Document) (left script now old new : Option (List ℕ)) (n refused studies : ℕ) → HasParts first last script now old new n refused studies
+      → IfSome script (λ bytes. Fits form refusal remark first bytes left old new (Err (LineTooLong (n + 1))))
+  parts_long first last left None now old new n refused studies r = tt
+  parts_long first last left (Some bs) None old new n refused studies r = absurd r.known
+  parts_long first last left (Some bs) (Some rest) old new n refused studies r =
       let v = r.known in
       let e : n + 1 - 1 ≡ n = omega arith in
-      (refused, (v.parts, rw e v.are, v.written, v.refused_is))
+      (refused, (v.parts, last, rw e v.are, v.written, v.refused_is))
 
-  pub parts_read : (left script now old new : Option (List ℕ)) (n refused studies : ℕ) → HasParts script now old new n refused studies
-      → GaveFeeds script left n → IfSome script (λ bytes. Fits form refusal remark bytes left old new (Err ReadDevice))
-  parts_read left None now old new n refused studies r g = tt
-  parts_read left (Some bs) None old new n refused studies r g = absurd r.known
-  parts_read left (Some bs) (Some rest) old new n refused studies r g =
-      let v = r.known in (n, v.within, g, refused, (v.parts, v.are, v.written, v.refused_is))
+  pub parts_read : (first last : Document) (left script now old new : Option (List ℕ)) (n refused studies : ℕ) → HasParts first last script now old new n refused studies
+      → GaveFeeds script left n → IfSome script (λ bytes. Fits form refusal remark first bytes left old new (Err ReadDevice))
+  parts_read first last left None now old new n refused studies r g = tt
+  parts_read first last left (Some bs) None old new n refused studies r g = absurd r.known
+  parts_read first last left (Some bs) (Some rest) old new n refused studies r g =
+      let v = r.known in (n, v.within, g, refused, (v.parts, last, v.are, v.written, v.refused_is))
 
-  pub parts_many : (left script now old new : Option (List ℕ)) (refused studies : ℕ) → HasParts script now old new 100000 refused studies
-      → IfSome script (λ bytes. Fits form refusal remark bytes left old new (Err TooManyLines))
-  parts_many left None now old new refused studies r = tt
-  parts_many left (Some bs) None old new refused studies r = absurd r.known
-  parts_many left (Some bs) (Some rest) old new refused studies r =
-      let v = r.known in (refused, (v.parts, v.are, v.written, v.refused_is))
+  pub parts_many : (first last : Document) (left script now old new : Option (List ℕ)) (refused studies : ℕ) → HasParts first last script now old new 100000 refused studies
+      → IfSome script (λ bytes. Fits form refusal remark first bytes left old new (Err TooManyLines))
+  parts_many first last left None now old new refused studies r = tt
+  parts_many first last left (Some bs) None old new refused studies r = absurd r.known
+  parts_many first last left (Some bs) (Some rest) old new refused studies r =
+      let v = r.known in (refused, (v.parts, last, v.are, v.written, v.refused_is))
 
   -- if the writer failed, or there was no memory, nothing is claimed
-  pub parts_stop : (left old new script : Option (List ℕ)) (fault : RunFault) → (fault ≡ WriteDevice) ⊎ (fault ≡ OutOfMemory)
-      → IfSome script (λ bytes. Fits form refusal remark bytes left old new (Err fault))
-  parts_stop left old new script fault (inl e) =
-      subst (λ (f : RunFault). IfSome script (λ bytes. Fits form refusal remark bytes left old new (Err f))) (sym e) (of_writer script)
+  pub parts_stop : (first : Document) (left old new script : Option (List ℕ)) (fault : RunFault) → (fault ≡ WriteDevice) ⊎ (fault ≡ OutOfMemory)
+      → IfSome script (λ bytes. Fits form refusal remark first bytes left old new (Err fault))
+  parts_stop first left old new script fault (inl e) =
+      subst (λ (f : RunFault). IfSome script (λ bytes. Fits form refusal remark first bytes left old new (Err f))) (sym e) (of_writer script)
     where
-      of_writer : (s : Option (List ℕ)) → IfSome s (λ bytes. Fits form refusal remark bytes left old new (Err WriteDevice))
+      of_writer : (s : Option (List ℕ)) → IfSome s (λ bytes. Fits form refusal remark first bytes left old new (Err WriteDevice))
       of_writer None = tt
       of_writer (Some bytes) = tt
-  parts_stop left old new script fault (inr e) =
-      subst (λ (f : RunFault). IfSome script (λ bytes. Fits form refusal remark bytes left old new (Err f))) (sym e) (of_memory script)
+  parts_stop first left old new script fault (inr e) =
+      subst (λ (f : RunFault). IfSome script (λ bytes. Fits form refusal remark first bytes left old new (Err f))) (sym e) (of_memory script)
     where
-      of_memory : (s : Option (List ℕ)) → IfSome s (λ bytes. Fits form refusal remark bytes left old new (Err OutOfMemory))
+      of_memory : (s : Option (List ℕ)) → IfSome s (λ bytes. Fits form refusal remark first bytes left old new (Err OutOfMemory))
       of_memory None = tt
       of_memory (Some bytes) = tt
 
@@ -295,3 +304,28 @@ module _ (form : ℕ → List ℕ → Type 0) (refusal : ℕ → List ℕ → Li
 pub no-study : (b : Document) (plain : PlainStudy) → b ≡ study plain → lacks_study b ≡ true → ⊥
 no-study b plain e lacks = let has : lacks_study b ≡ false = ap lacks_study e in
     let bad : true ≡ false = sym lacks ∙ has in absurd cc
+
+-- ---- the document after a line
+
+module _ {E : Type 0} (here : Document) (line : List ℕ) where
+  -- a line that is not answered leaves the document
+  pub next-same : (k : LineKind) (r : Result LineOutcome E) → ((t : LineOutcome) → IsNextAs k here line t here) → k ≡ line_kind line
+      → IfOk r (λ t. IsNext here line t here)
+  next-same k (Ok t) f e = subst (λ (x : LineKind). IsNextAs x here line t here) e (f t)
+  next-same k (Err fault) f e = tt
+
+  pub next-of-kind : (k : LineKind) (r : Result LineOutcome E) (there : Document) → k ≡ line_kind line → IfOk r (λ t. IsNextAs k here line t there)
+      → IfOk r (λ t. IsNext here line t there)
+  next-of-kind k r there e h = subst (λ (x : LineKind). IfOk r (λ t. IsNextAs x here line t there)) e h
+
+module _ {T E : Type 0} (here : Document) (line : List ℕ) where
+  pub next-done : (answer : Result T E) (x : T) (there : Document) → answer ≡ Ok x → LeavesApart answer line here there
+      → IsNextAs Checked here line Nothing there
+  next-done (Ok y) x there e h = h
+  next-done (Err w) x there e h = absurd cc
+
+  pub next-refused : {F : Type 0} (answer : Result T E) (why : E) (there : Document) (r : Result LineOutcome F) (P : Type 0) → answer ≡ Err why
+      → LeavesApart answer line here there → IfOk r (λ t. (t ≡ ARefusal) × P) → IfOk r (λ t. IsNextAs Checked here line t there)
+  next-refused (Ok y) why there r P e h w = absurd cc
+  next-refused (Err x) why there (Ok t) P e h w = subst (λ (u : LineOutcome). IsNextAs Checked here line u there) (sym w.0) h
+  next-refused (Err x) why there (Err f) P e h w = tt

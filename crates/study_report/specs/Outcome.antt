@@ -9,7 +9,8 @@ use Rattle.study_command.specs.Lines.{script_lines, GaveFeeds}
 use Rattle.study_script.specs.declared.running.Summary.{Summary}
 use Rattle.study_script.specs.declared.running.RunFault.{RunFault}
 use Rattle.study_script.specs.declared.running.RunFault.TheVariants.{ReadDevice, WriteDevice, LineTooLong, TooManyLines, OutOfMemory}
-use Rattle.study_script.specs.State.{State, empty}
+use Rattle.study_command.specs.Documents.{empty}
+use Rattle.study_script.specs.State.{State}
 use Rattle.study_material.specs.declared.class.Class.{Class}
 use Rattle.study_script.specs.Outcome.{AreShort, AreLeft, Shape as ScriptShape}
 use Rattle.study_facts.specs.declared.entry.EntryInfo.{EntryInfo}

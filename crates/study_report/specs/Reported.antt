@@ -11,7 +11,8 @@ use Rattle.study_command.specs.Parser.{Asks, table_command, pgn, command_of}
 use Rattle.study_reply.specs.declared.refusal.Refusal.{Refusal}
 use Rattle.study_reply.specs.declared.refusal.Refusal.TheVariants.{NotAClass, OutOfMemory}
 use Rattle.study_reply.specs.Names.{of_probe}
-use Rattle.study_script.specs.State.{State, Document, empty, start, study, Environment, is_among}
+use Rattle.study_command.specs.Documents.{Document, empty, start, study}
+use Rattle.study_script.specs.State.{State, Environment, is_among}
 use Rattle.study_script.specs.Replies.{Reply, IsReplyIn, refused_reply, class_parsed}
 use Rattle.study_report.specs.declared.line_kind.LineKind.{LineKind}
 use Rattle.study_report.specs.declared.line_kind.LineKind.TheVariants.{Remark, PassedOver, NoClass, Study, Checked}

@@ -6,7 +6,8 @@ use Rattle.study_material.specs.declared.class.Class.{Class}
 use Rattle.study_marks.specs.Edits.{PlainStudy}
 use Rattle.study_script.specs.declared.running.RunFault.{RunFault}
 use Rattle.study_script.specs.declared.running.RunFault.TheVariants.{WriteDevice, OutOfMemory}
-use Rattle.study_script.specs.State.{State, Document, empty, start, study, Environment}
+use Rattle.study_command.specs.Documents.{Document, empty, start, study}
+use Rattle.study_script.specs.State.{State, Environment}
 use Rattle.study_script.specs.Replies.{Reply, IsReplyIn}
 use Rattle.study_report.specs.declared.line_outcome.LineOutcome.{LineOutcome}
 use Rattle.study_facts.specs.declared.entry.EntryInfo.{EntryInfo}

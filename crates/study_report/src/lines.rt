@@ -26,7 +26,7 @@ impl Report for Lines {
 
     ghost tells = { λ plain info text. IsReviewAs plain info text };
 
-    ghost form = { λ number text. IsReviewForm number text };
+    ghost form = { λ plain number text. IsReviewForm number text };
 
     ghost refusal = { λ number line reply. refusal_line number reply };
 

@@ -1,6 +1,5 @@
 //! Comments of an imported script that a report shows.
 ghost use Rattle.std.specs.Prelude.{◌≡◌, ◌≤◌, length, drop};
-ghost use Rattle.std.specs.List.{prefix_len};
 ghost use Rattle.study_report.specs.Remarks.{begins, colon_in, subject, statement, is_left_out, is_remark};
 
 use study_remark::{Remark, read_remark};

@@ -24,8 +24,8 @@ pub trait Report {
     /// The text reports the study as this entry.
     ghost tells: { PlainStudy → AnEntry → List ℕ → Type 0 };
 
-    /// The form of each text for the study of this number, whatever its values are.
-    ghost form: { ℕ → List ℕ → Type 0 };
+    /// The form of each text for the study with this number, whatever its values are.
+    ghost form: { PlainStudy → ℕ → List ℕ → Type 0 };
 
     /// The report of a refused line: its number among all lines, its bytes, and the script's reply to it.
     ghost refusal: { ℕ → List ℕ → List ℕ → List ℕ };
@@ -50,7 +50,8 @@ pub trait Report {
             → OnOk result ((text : List ℕ)
             × tells (plain_study (marked_study bench.now)) info text
             × Appends (W.contents out.old) (W.contents out.new) text) }
-        ensures formed { OnOk result ((text : List ℕ) × form info.number text
+        ensures formed { OnOk result ((text : List ℕ)
+            × form (plain_study (marked_study bench.now)) info.number text
             × Appends (W.contents out.old) (W.contents out.new) text) }
         ensures device { V.source.is_honest values.old → IsKeptRight bench.now
             → result ≡ Err ReviewFault.Device → (text : List ℕ)

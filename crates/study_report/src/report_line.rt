@@ -6,14 +6,15 @@ ghost use Rattle.study_reply.specs.Names.{words_of};
 ghost use Rattle.study_reply.specs.Replied.{error_text};
 ghost use Rattle.study_reply.specs.Words.{reply_line};
 ghost use Rattle.study_script.specs.declared.running.RunFault.TheVariants.{WriteDevice, OutOfMemory};
-ghost use Rattle.study_script.specs.State.{State, study};
+ghost use Rattle.study_command.specs.Documents.{study};
+ghost use Rattle.study_script.specs.State.{State};
 ghost use Rattle.study_script.specs.SessionHolds.{Holds, document_seen};
 ghost use Rattle.study_script.specs.Session.{SessionHolds};
 ghost use Rattle.study_script.specs.Stores.{HonestOn, IsTrusted};
 ghost use Rattle.study_report.specs.Reported.{Point, line_kind, IsAdded, IsAddedAs, IsAt, IsStudyReported, lacks_study, study_count};
 ghost use Rattle.study_report.specs.Reported.{Entry, entry_at, games_in, listed_in};
 ghost use Rattle.study_report.specs.Written.{none_trusted, Adds, StopsIn, Stops};
-ghost use Rattle.study_report.specs.Parts.{IsPart, IsPartAs, WritesPart};
+ghost use Rattle.study_report.specs.Parts.{IsPart, IsPartAs, WritesPart, IsNext, IsNextAs};
 
 use crate::line_kind::{LineKind, kind_of};
 use crate::line_outcome::{LineOutcome, ReportPosition};
@@ -130,8 +131,12 @@ fn answer_silently<'a, 's, S: TableStore, A: Allocator, W: Write, T: Report>(
     ensures none_reported { IfOk result (λ t. study_count t ≡ 0) }
     ensures written { (next : ℕ)
         → IfOk result
-        (WritesPart (IsPartAs T.form T.refusal T.remark LineKind.Checked number next line.now)
+        (WritesPart (IsPartAs T.form T.refusal T.remark LineKind.Checked number next
+        (document_seen session.old.document) line.now)
         (W.contents out.old) (W.contents out.new)) }
+    ensures document { IfOk result (λ t.
+        IsNextAs LineKind.Checked (document_seen session.old.document) line.now t
+        (document_seen session.new.document)) }
     ensures stops { IfErr result (λ e. (e ≡ WriteDevice) ⊎ (e ≡ OutOfMemory)) }
 {
     match session.execute_apart(line) {
@@ -172,7 +177,8 @@ fn report_study<'a, P: PageSource, A: Allocator, W: Write, T: Report>(
         → IfErr result (λ e. T.lists report.new reported) }
     ensures written { IfOk result
         (WritesPart
-        (IsPartAs T.form T.refusal T.remark LineKind.Study at.line (at.studies + 1) line.now)
+        (IsPartAs T.form T.refusal T.remark LineKind.Study at.line (at.studies + 1)
+        (document_seen document.now) line.now)
         (W.contents out.old) (W.contents out.new)) }
     ensures stops { IfErr result (λ e. (e ≡ WriteDevice) ⊎ (e ≡ OutOfMemory)) }
 {
@@ -231,8 +237,10 @@ fn add_pgn<'a, 's, S: TableStore, A: Allocator, W: Write, T: Report>(
         → IfErr result (λ e. T.lists report.new reported) }
     ensures written { IfOk result
         (WritesPart
-        (IsPartAs T.form T.refusal T.remark LineKind.Study at.line (at.studies + 1) line.now)
+        (IsPartAs T.form T.refusal T.remark LineKind.Study at.line (at.studies + 1)
+        (document_seen session.old.document) line.now)
         (W.contents out.old) (W.contents out.new)) }
+    ensures document { session.new.document ≡ session.old.document }
     ensures stops { IfErr result (λ e. (e ≡ WriteDevice) ⊎ (e ≡ OutOfMemory)) }
 {
     if lacks_study(&session.document) {
@@ -287,8 +295,12 @@ pub fn add_line<'a, 's, S: TableStore, A: Allocator, W: Write, T: Report>(
     ensures unlisted { (reported : List Entry) → T.lists report.old reported
         → IfErr result (λ e. T.lists report.new reported) }
     ensures written { IfOk result
-        (WritesPart (IsPart T.form T.refusal T.remark at.line (at.studies + 1) line.now)
+        (WritesPart (IsPart T.form T.refusal T.remark at.line (at.studies + 1)
+        (document_seen session.old.document) line.now)
         (W.contents out.old) (W.contents out.new)) }
+    ensures document { IfOk result (λ t.
+        IsNext (document_seen session.old.document) line.now t
+        (document_seen session.new.document)) }
     ensures stops { IfErr result (λ e. (e ≡ WriteDevice) ⊎ (e ≡ OutOfMemory)) }
 {
     match kind_of(line) {

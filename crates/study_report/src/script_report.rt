@@ -1,8 +1,9 @@
 //! A report over a whole script.
 ghost use Rattle.std.specs.Prelude.{◌≡◌, List, ◌++◌, IfSome, IfErr, OnOk};
 ghost use Rattle.study_material.specs.declared.class.Class.{Class as AClass};
+ghost use Rattle.study_command.specs.Documents.{empty as no_document};
 ghost use Rattle.study_script.specs.State.{State, is_among};
-ghost use Rattle.study_script.specs.SessionHolds.{tables_honest, tables_held, are_paged};
+ghost use Rattle.study_script.specs.SessionHolds.{tables_honest, tables_held, are_paged, document_seen};
 ghost use Rattle.study_script.specs.Session.{SessionHolds};
 ghost use Rattle.study_script.specs.Stores.{HonestOn};
 ghost use Rattle.study_report.specs.Outcome.{IsFollowed, AreListed, AreListedBefore, Outcome, Shape, over_tables};
@@ -70,7 +71,8 @@ pub fn report_session<'a, 's, R: Read, W: Write, S: TableStore, A: Allocator, T:
     ensures shape { IfSome (R.remaining script.old) (λ bytes.
         Shape bytes (R.remaining script.new) result) }
     ensures fits { IfSome (R.remaining script.old) (λ bytes.
-        Fits T.form T.refusal T.remark bytes (R.remaining script.new)
+        Fits T.form T.refusal T.remark (document_seen session.old.document) bytes
+        (R.remaining script.new)
         (W.contents out.old) (W.contents out.new) result) }
 {
     let mut refused = 0u32;
@@ -143,7 +145,7 @@ pub fn write_report<'a, R: Read, W: Write, P: PageSource, A: Allocator, T: Repor
     ensures shape { IfSome (R.remaining script.old) (λ bytes.
         Shape bytes (R.remaining script.new) result) }
     ensures fits { IfSome (R.remaining script.old) (λ bytes.
-        Fits T.form T.refusal T.remark bytes (R.remaining script.new)
+        Fits T.form T.refusal T.remark no_document bytes (R.remaining script.new)
         (W.contents out.old) (W.contents out.new) result) }
 {
     let mut store = NoFiles::new();
@@ -186,7 +188,7 @@ pub fn write_report_over<'a, R: Read, W: Write, S: TableStore, A: Allocator, T: 
     ensures shape { IfSome (R.remaining script.old) (λ bytes.
         Shape bytes (R.remaining script.new) result) }
     ensures fits { IfSome (R.remaining script.old) (λ bytes.
-        Fits T.form T.refusal T.remark bytes (R.remaining script.new)
+        Fits T.form T.refusal T.remark no_document bytes (R.remaining script.new)
         (W.contents out.old) (W.contents out.new) result) }
 {
     let Ok(mut line) = Line::new(alloc) else {

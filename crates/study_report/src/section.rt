@@ -8,7 +8,8 @@ ghost use Rattle.study_values.specs.declared.values.ProbeFault.{ProbeFault as AP
 ghost use Rattle.study_marks.specs.Edits.{PlainStudy};
 ghost use Rattle.study_marks.specs.BenchState.{marked_study, IsKeptRight};
 ghost use Rattle.study_marks.specs.Study.{plain_study};
-ghost use Rattle.study_script.specs.State.{State, study};
+ghost use Rattle.study_command.specs.Documents.{study};
+ghost use Rattle.study_script.specs.State.{State};
 ghost use Rattle.study_script.specs.SessionHolds.{Holds, document_seen, tables_honest, tables_held, tables_may_fail, are_paged};
 ghost use Rattle.study_report.specs.Reported.{IsValueFaultBy, IsValueFaultIn, lacks_study, Entry, study_entry, studies_on};
 ghost use Rattle.study_report.specs.Written.{IsSection, IsSectionPart};
@@ -36,7 +37,8 @@ pub fn add_study<'a, P: PageSource, A: Allocator, W: Write, T: Report>(
         → OnOk result ((text : List ℕ)
         × T.tells (plain_study (marked_study bench.now)) info text
         × Appends (W.contents out.old) (W.contents out.new) text) }
-    ensures formed { OnOk result ((text : List ℕ) × T.form info.number text
+    ensures formed { OnOk result ((text : List ℕ)
+        × T.form (plain_study (marked_study bench.now)) info.number text
         × Appends (W.contents out.old) (W.contents out.new) text) }
     ensures device { tables_honest P.honest tables.old → IsKeptRight bench.now
         → result ≡ Err ReviewFault.Device → (text : List ℕ)
@@ -81,7 +83,8 @@ pub fn add_section<'a, P: PageSource, A: Allocator, W: Write, T: Report>(
         → OnOk result
         (IsSection T.tells s.document info (W.contents out.old) (W.contents out.new)) }
     ensures formed { lacks_study (document_seen document.now) ≡ false
-        → OnOk result ((text : List ℕ) × T.form info.number text
+        → OnOk result ((plain : PlainStudy) × (text : List ℕ)
+        × (document_seen document.now ≡ study plain) × T.form plain info.number text
         × Appends (W.contents out.old) (W.contents out.new) text) }
     ensures device { (s : State) → Holds P.honest P.gives document.now tables.old s
         → result ≡ Err ReviewFault.Device

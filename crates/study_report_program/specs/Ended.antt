@@ -6,6 +6,7 @@ use Rattle.study_script.specs.declared.running.RunFault.{RunFault}
 use Rattle.study_script.specs.declared.running.RunFault.TheVariants.{WriteDevice, OutOfMemory}
 use Rattle.study_program.specs.Status.{status_reported}
 use Rattle.study_report.specs.Outcome.{Shape}
+use Rattle.study_command.specs.Documents.{empty}
 use Rattle.study_report.specs.Parts.{Fits}
 use Rattle.study_report.specs.Lines.{refusal_line, no_remark, IsReviewForm}
 use Rattle.study_print.specs.Pages.{FileShape, FileFits}
@@ -25,7 +26,8 @@ FormShape AList script left answer = ListShape script left answer
 -- what it writes, given what the writer had and has: reviews and refusals, or the entries, refusals and remarks of a file of pages, or the places and
 -- refusals of a sheet, or records
 abbrev pub FormFits : Form → List ℕ → Option (List ℕ) → Option (List ℕ) → Option (List ℕ) → Result Summary RunFault → Type 0
-FormFits Lines script left old new answer = Fits IsReviewForm (λ number line reply. refusal_line number reply) no_remark script left old new answer
+FormFits Lines script left old new answer =
+    Fits (λ plain. IsReviewForm) (λ number line reply. refusal_line number reply) no_remark empty script left old new answer
 FormFits Pages script left old new answer = ((answer ≡ Err OutOfMemory) × (new ≡ old)) ⊎ FileFits script left old new answer
 FormFits Sheet script left old new answer = ((answer ≡ Err OutOfMemory) × (new ≡ old)) ⊎ SheetFits script left old new answer
 FormFits AList script left old new answer = ((answer ≡ Err OutOfMemory) × (new ≡ old)) ⊎ ListFits script left old new answer

@@ -13,7 +13,8 @@ use Rattle.study_report.specs.Parts.{Fits}
 use Rattle.study_html.specs.Frame.{sheet_opening, page_closing}
 use Rattle.study_print.specs.Pages.{refusal_text, IsEnded, FileShape}
 use Rattle.study_print.proofs.FileWritten.{whole_shape, no_shape}
-use Rattle.study_page.specs.Sheet.{IsPlace}
+use Rattle.study_command.specs.Documents.{empty}
+use Rattle.study_page.specs.Sheet.{IsPlaceOf}
 use Rattle.study_sheet.specs.Sheet.{IsPlaceAs, IsSheet, SheetFits}
 
 module _ (left old begun ended new : Option (List ℕ)) (answer : Result Summary RunFault) where
@@ -24,7 +25,7 @@ module _ (left old begun ended new : Option (List ℕ)) (answer : Result Summary
   whole_sheet first (Some script) ran opened reported end = inr (begun, ended, ran, opened, reported, end)
 
   pub sheet_fits : (given : Option (List ℕ)) (ran : Result Summary RunFault) → Appends old begun sheet_opening
-      → IfSome given (λ bytes. Fits IsPlace refusal_text no_remark bytes left begun ended ran) → IsEnded page_closing ended new ran answer
+      → IfSome given (λ bytes. Fits IsPlaceOf refusal_text no_remark empty bytes left begun ended ran) → IsEnded page_closing ended new ran answer
       → IfSome given (λ bytes. SheetFits bytes left old new answer)
   sheet_fits None ran opened fits end = tt
   sheet_fits (Some script) ran opened fits end = inr (begun, ended, ran, opened, fits, end)

@@ -8,11 +8,12 @@ use Rattle.study_script.specs.declared.running.RunFault.TheVariants.{WriteDevice
 use Rattle.study_script.specs.State.{State}
 use Rattle.study_facts.specs.declared.entry.EntryInfo.{EntryInfo}
 use Rattle.study_marks.specs.Edits.{PlainStudy}
+use Rattle.study_command.specs.Documents.{empty}
 use Rattle.study_report.specs.Lines.{no_remark}
 use Rattle.study_report.specs.Outcome.{Outcome}
 use Rattle.study_report.specs.Parts.{Fits}
 use Rattle.study_html.specs.Frame.{sheet_opening, page_closing}
-use Rattle.study_page.specs.Sheet.{IsPlaceOf, IsPlace}
+use Rattle.study_page.specs.Sheet.{IsPlaceOf}
 use Rattle.study_print.specs.Pages.{refusal_text, IsEnded}
 
 -- a place has no stamp, so it is the same whether or not the study was read to its end
@@ -27,10 +28,10 @@ IsSheet first script left old new answer =
     ⊎ ((begun ended : Option (List ℕ)) × (ran : Result Summary RunFault) × Appends old begun sheet_opening
     × Outcome IsPlaceAs refusal_text no_remark first script left begun ended ran × IsEnded page_closing ended new ran answer)
 
--- What is written of a sheet, whatever the state: the opening, the places and the refusals of the lines, with as many refusals as are counted, and the
--- closing.
+-- What is written of a sheet, whatever the state and its tables: the opening, the places of the studies that the accepted lines make, and the refusals of
+-- the lines, with as many refusals as are counted, and the closing.
 abbrev pub SheetFits : List ℕ → Option (List ℕ) → Option (List ℕ) → Option (List ℕ) → Result Summary RunFault → Type 0
 SheetFits script left old new answer =
     ((answer ≡ Err WriteDevice) × TakesPrefix old new sheet_opening)
     ⊎ ((begun ended : Option (List ℕ)) × (ran : Result Summary RunFault) × Appends old begun sheet_opening
-    × Fits IsPlace refusal_text no_remark script left begun ended ran × IsEnded page_closing ended new ran answer)
+    × Fits IsPlaceOf refusal_text no_remark empty script left begun ended ran × IsEnded page_closing ended new ran answer)

@@ -16,12 +16,12 @@ pub struct Sheet;
 impl Report for Sheet {
     ghost use Rattle.study_report.specs.Lines.{no_remark};
     ghost use Rattle.study_print.specs.Pages.{refusal_text};
-    ghost use Rattle.study_page.specs.Sheet.{IsPlace};
+    ghost use Rattle.study_page.specs.Sheet.{IsPlaceOf};
     ghost use Rattle.study_sheet.specs.Sheet.{IsPlaceAs};
 
     ghost tells = { λ plain info text. IsPlaceAs plain info text };
 
-    ghost form = { λ number text. IsPlace number text };
+    ghost form = { λ plain number text. IsPlaceOf plain number text };
 
     ghost refusal = { λ number line reply. refusal_text number line reply };
 

@@ -19,7 +19,7 @@ impl Report for Refusals {
 
     ghost tells = { λ plain info text. tells_nothing plain info text };
 
-    ghost form = { λ number text. text ≡ [] };
+    ghost form = { λ plain number text. text ≡ [] };
 
     ghost refusal = { λ number line reply. refusal_line number reply };
 

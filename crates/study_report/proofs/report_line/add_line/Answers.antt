@@ -12,10 +12,12 @@ use Rattle.study_script.specs.Session.{SessionHolds}
 use Rattle.study_script.specs.Stores.{HonestOn}
 use Rattle.study_report.specs.Written.{none_trusted}
 use Rattle.study_report.specs.Reported.{line_kind, Entry, entry_at, IsAdded, IsAddedAs, nothing_added, refusal_added, remark_added}
+use Rattle.study_report.specs.declared.line_outcome.LineOutcome.TheVariants.{Nothing}
+use Rattle.study_report.specs.Parts.{IsNextAs}
 use Rattle.study_report.proofs.LineKinds.{trusted-checked, no-games}
 use Rattle.study_report.proofs.LineAdds.{remark-adds, remark-stops, remark-listed, refusal-adds, refusal-stops}
 use Rattle.study_report.proofs.LineAdds.{adds-weaker, stops-weaker, none-listed, nothing-listed, refusal-listed}
-use Rattle.study_report.proofs.PartsWritten.{on-err, remark-part, passed-part, no-class-part, part-of-kind}
+use Rattle.study_report.proofs.PartsWritten.{on-err, remark-part, passed-part, no-class-part, part-of-kind, next-same, next-of-kind}
 use Rattle.study_report.proofs.report_line.add_line.Goals as goal
 
 pub returns-in-Remark-clause-ok : goal.returns-in-Remark-clause-ok
@@ -46,7 +48,8 @@ returns-in-Remark-clause-listed g c = λ p reported held kept.
 
 pub returns-in-Remark-clause-written : goal.returns-in-Remark-clause-written
 returns-in-Remark-clause-written g c =
-    remark-part g.T.Report.form g.T.Report.refusal g.T.Report.remark (line_kind c.args.line.now) c.args.line.now c.args.at.line (c.args.at.studies + 1)
+    remark-part g.T.Report.form g.T.Report.refusal g.T.Report.remark (document_seen c.args.session.now.document)
+    (line_kind c.args.line.now) c.args.line.now c.args.at.line (c.args.at.studies + 1)
     c.add_remark.result (g.W.Write.contents c.args.out.now) (g.W.Write.contents c.add_remark.new.out) (sym c.in-Remark.is ∙ c.kind_of.ensures)
     c.add_remark.ensures.ok
 
@@ -156,24 +159,28 @@ returns-in-Checked-clause-listed g c = λ p reported held kept.
 
 pub returns-in-PassedOver-clause-written : goal.returns-in-PassedOver-clause-written
 returns-in-PassedOver-clause-written g c =
-    passed-part g.T.Report.form g.T.Report.refusal g.T.Report.remark (line_kind c.args.line.now) c.args.line.now c.args.at.line (c.args.at.studies + 1)
+    passed-part g.T.Report.form g.T.Report.refusal g.T.Report.remark (document_seen c.args.session.now.document)
+    (line_kind c.args.line.now) c.args.line.now c.args.at.line (c.args.at.studies + 1)
     (g.W.Write.contents c.args.out.now) (sym c.in-PassedOver.is ∙ c.kind_of.ensures)
 
 pub returns-in-NoClass-clause-written : goal.returns-in-NoClass-clause-written
 returns-in-NoClass-clause-written g c =
-    no-class-part g.T.Report.form g.T.Report.refusal g.T.Report.remark (line_kind c.args.line.now) c.args.line.now c.args.at.line (c.args.at.studies + 1)
+    no-class-part g.T.Report.form g.T.Report.refusal g.T.Report.remark (document_seen c.args.session.now.document)
+    (line_kind c.args.line.now) c.args.line.now c.args.at.line (c.args.at.studies + 1)
     c.refuse_line.result (g.W.Write.contents c.args.out.now) (g.W.Write.contents c.refuse_line.new.out) (sym c.in-NoClass.is ∙ c.kind_of.ensures)
     c.refuse_line.ensures.ok
 
 pub returns-in-Study-clause-written : goal.returns-in-Study-clause-written
 returns-in-Study-clause-written g c =
-    part-of-kind g.T.Report.form g.T.Report.refusal g.T.Report.remark Study (line_kind c.args.line.now) c.args.line.now c.args.at.line (c.args.at.studies + 1)
+    part-of-kind g.T.Report.form g.T.Report.refusal g.T.Report.remark (document_seen c.args.session.now.document)
+    Study (line_kind c.args.line.now) c.args.line.now c.args.at.line (c.args.at.studies + 1)
     c.add_pgn.result (g.W.Write.contents c.args.out.now) (g.W.Write.contents c.add_pgn.new.out) (sym c.in-Study.is ∙ c.kind_of.ensures)
     c.add_pgn.ensures.written
 
 pub returns-in-Checked-clause-written : goal.returns-in-Checked-clause-written
 returns-in-Checked-clause-written g c =
-    part-of-kind g.T.Report.form g.T.Report.refusal g.T.Report.remark Checked (line_kind c.args.line.now) c.args.line.now c.args.at.line (c.args.at.studies + 1)
+    part-of-kind g.T.Report.form g.T.Report.refusal g.T.Report.remark (document_seen c.args.session.now.document)
+    Checked (line_kind c.args.line.now) c.args.line.now c.args.at.line (c.args.at.studies + 1)
     c.answer_silently.result (g.W.Write.contents c.args.out.now) (g.W.Write.contents c.answer_silently.new.out) (sym c.in-Checked.is ∙ c.kind_of.ensures)
     (c.answer_silently.ensures.written (c.args.at.studies + 1))
 
@@ -182,3 +189,26 @@ returns-in-NoClass-clause-unlisted g c = λ reported kept. on-err c.refuse_line.
 
 pub returns-in-Checked-clause-unlisted : goal.returns-in-Checked-clause-unlisted
 returns-in-Checked-clause-unlisted g c = λ reported kept. on-err c.answer_silently.result _ (c.answer_silently.ensures.listed reported kept)
+
+-- ---- the document
+
+pub returns-in-Remark-clause-document : goal.returns-in-Remark-clause-document
+returns-in-Remark-clause-document g c =
+    next-same (document_seen c.args.session.now.document) c.args.line.now Remark c.add_remark.result (λ t. refl) (sym c.in-Remark.is ∙ c.kind_of.ensures)
+
+pub returns-in-PassedOver-clause-document : goal.returns-in-PassedOver-clause-document
+returns-in-PassedOver-clause-document g c =
+    subst (λ (k : LineKind). IsNextAs k (document_seen c.args.session.now.document) c.args.line.now Nothing (document_seen c.args.session.now.document)) (sym c.in-PassedOver.is ∙ c.kind_of.ensures) refl
+
+pub returns-in-NoClass-clause-document : goal.returns-in-NoClass-clause-document
+returns-in-NoClass-clause-document g c =
+    next-same (document_seen c.args.session.now.document) c.args.line.now NoClass c.refuse_line.result (λ t. refl) (sym c.in-NoClass.is ∙ c.kind_of.ensures)
+
+pub returns-in-Study-clause-document : goal.returns-in-Study-clause-document
+returns-in-Study-clause-document g c =
+    rw c.add_pgn.ensures.document (next-same (document_seen c.args.session.now.document) c.args.line.now Study c.add_pgn.result (λ t. refl) (sym c.in-Study.is ∙ c.kind_of.ensures))
+
+pub returns-in-Checked-clause-document : goal.returns-in-Checked-clause-document
+returns-in-Checked-clause-document g c =
+    next-of-kind (document_seen c.args.session.now.document) c.args.line.now Checked c.answer_silently.result
+    (document_seen c.answer_silently.new.session.document) (sym c.in-Checked.is ∙ c.kind_of.ensures) c.answer_silently.ensures.document

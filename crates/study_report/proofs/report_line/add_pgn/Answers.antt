@@ -1,9 +1,10 @@
-use Rattle.std.proofs.Common.{◌≡◌, false, ◌+◌, ◌++◌, refl, sym, ap, subst, ◌∙◌}
+use Rattle.std.proofs.Common.{◌≡◌, ◌+◌, ◌++◌, refl, sym, ap, subst, ◌∙◌}
 use Rattle.std.specs.Prelude.{IfOk, codes}
 use Rattle.study_reply.specs.Names.{words_of}
 use Rattle.study_reply.specs.Words.{reply_line}
 use Rattle.study_reply.specs.declared.refusal.Refusal.TheVariants.{NoStudy}
-use Rattle.study_script.specs.State.{State, Document, quiet}
+use Rattle.study_command.specs.Documents.{Document}
+use Rattle.study_script.specs.State.{State, quiet}
 use Rattle.study_script.specs.Session.{SessionHolds}
 use Rattle.study_script.specs.SessionHolds.{Holds, document_seen}
 use Rattle.study_script.specs.Stores.{HonestOn, StoreSeen}
@@ -92,7 +93,8 @@ returns-clause-listed g c = λ p reported kind held kept.
 
 pub returns-then-lacks_study-clause-written : goal.returns-then-lacks_study-clause-written
 returns-then-lacks_study-clause-written g c =
-    refusal-part g.T.Report.form g.T.Report.refusal g.T.Report.remark c.args.line.now c.args.at.line (c.args.at.studies + 1) (words_of NoStudy)
+    refusal-part g.T.Report.form g.T.Report.refusal g.T.Report.remark (document_seen c.args.session.now.document)
+    c.args.line.now c.args.at.line (c.args.at.studies + 1) (words_of NoStudy)
     c.refuse_line.result
     (g.W.Write.contents c.args.out.now) (g.W.Write.contents c.refuse_line.new.out) c.refuse_line.ensures.ok
 

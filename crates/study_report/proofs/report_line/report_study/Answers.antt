@@ -1,4 +1,4 @@
-use Rattle.std.proofs.Common.{◌≡◌, ◌+◌, refl, sym, ap, subst, ◌∙◌, inl, inr}
+use Rattle.std.proofs.Common.{◌≡◌, ◌+◌, refl, ap, subst, inl, inr}
 use Rattle.std.specs.Prelude.{IfOk, IfErr, codes}
 use Rattle.study_reply.specs.Names.{words_of}
 use Rattle.study_reply.specs.Words.{reply_line}
@@ -8,9 +8,8 @@ use Rattle.study_script.specs.Replies.{refused_reply}
 use Rattle.study_report.specs.Reported.{IsStudyReported, entry_at}
 use Rattle.study_report.specs.Written.{StopsIn}
 use Rattle.study_report.proofs.LineAdds.{RefusalWritten, refusal-adds, refusal-stops, section-adds, section-stops, left-out, refusal-listed, at-next}
-use Rattle.study_report.proofs.PartsWritten.{on-err, no-study, refusal-part, study-in, left-out-part}
+use Rattle.study_report.proofs.PartsWritten.{on-err, study-in, left-out-part}
 use Rattle.study_script.specs.SessionHolds.{document_seen}
-use Rattle.study_reply.specs.declared.refusal.Refusal.TheVariants.{NoStudy}
 use Rattle.study_report.proofs.report_line.report_study.Goals as goal
 
 pub returns-in-Ok-clause-ok : goal.returns-in-Ok-clause-ok
@@ -97,20 +96,23 @@ returns-in-Err-Values-clause-listed g c s reported held kept =
 
 pub returns-in-Ok-clause-written : goal.returns-in-Ok-clause-written
 returns-in-Ok-clause-written g c =
-    study-in g.T.Report.form g.T.Report.refusal g.T.Report.remark c.args.line.now c.args.at.line (c.args.at.studies + 1)
+    study-in g.T.Report.form g.T.Report.refusal g.T.Report.remark (document_seen c.args.document.now)
+    c.args.line.now c.args.at.line (c.args.at.studies + 1)
     (g.W.Write.contents c.args.out.now) (g.W.Write.contents c.add_section.new.out)
     (c.in-Ok.ensures.formed c.requires.here)
 
 pub returns-in-Err-OutOfMemory-clause-written : goal.returns-in-Err-OutOfMemory-clause-written
 returns-in-Err-OutOfMemory-clause-written g c =
-    left-out-part g.T.Report.form g.T.Report.refusal g.T.Report.remark c.args.line.now c.args.at.line (c.args.at.studies + 1) OutOfMemory
+    left-out-part g.T.Report.form g.T.Report.refusal g.T.Report.remark (document_seen c.args.document.now)
+    c.args.line.now c.args.at.line (c.args.at.studies + 1) OutOfMemory
     c.refuse_line.result
     (g.W.Write.contents c.args.out.now) (g.W.Write.contents c.add_section.new.out) (g.W.Write.contents c.refuse_line.new.out)
     (ap (λ w. g.W.Write.contents w) (c.in-Err-OutOfMemory.ensures.memory cc)) c.refuse_line.ensures.ok
 
 pub returns-in-Err-Values-clause-written : goal.returns-in-Err-Values-clause-written
 returns-in-Err-Values-clause-written g c =
-    left-out-part g.T.Report.form g.T.Report.refusal g.T.Report.remark c.args.line.now c.args.at.line (c.args.at.studies + 1) c.of_probe.result
+    left-out-part g.T.Report.form g.T.Report.refusal g.T.Report.remark (document_seen c.args.document.now)
+    c.args.line.now c.args.at.line (c.args.at.studies + 1) c.of_probe.result
     c.refuse_line-in-Err-Values.result
     (g.W.Write.contents c.args.out.now) (g.W.Write.contents c.add_section.new.out) (g.W.Write.contents c.refuse_line-in-Err-Values.new.out)
     (ap (λ w. g.W.Write.contents w) (c.in-Err-Values.ensures.no_value c.in-Err-Values.fault cc)) c.refuse_line-in-Err-Values.ensures.ok

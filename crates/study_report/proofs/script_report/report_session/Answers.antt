@@ -209,7 +209,7 @@ loop-n-init g c = (
   omega arith,
   ([], Consumes-nil (g.R.Read.remaining c.args.script.now), omega arith),
   gone_none (g.R.Read.remaining c.args.script.now),
-  parts_none g.T.Report.form g.T.Report.refusal g.T.Report.remark (g.R.Read.remaining c.args.script.now) (g.W.Write.contents c.args.out.now),
+  parts_none g.T.Report.form g.T.Report.refusal g.T.Report.remark (document_seen c.args.session.now.document) (g.R.Read.remaining c.args.script.now) (g.W.Write.contents c.args.out.now),
 )
 
 pub loop-n-preserved : goal.loop-n-preserved
@@ -255,10 +255,11 @@ loop-n-preserved g c =
           (g.R.Read.remaining c.read.new.script) c.loop-n.n 1 c.loop-n.invariant.3 c.in-Ok-true.ensures.one_feed,
       gone_more (g.R.Read.remaining c.args.script.now) (g.R.Read.remaining c.loop-n.script)
           (g.R.Read.remaining c.read.new.script) line c.loop-n.n c.loop-n.invariant.4 some c.in-Ok-true.ensures.short,
-      parts_more g.T.Report.form g.T.Report.refusal g.T.Report.remark (g.R.Read.remaining c.args.script.now) (g.R.Read.remaining c.loop-n.script)
+      parts_more g.T.Report.form g.T.Report.refusal g.T.Report.remark (document_seen c.args.session.now.document)
+          (document_seen c.loop-n.session.document) (document_seen c.add_line.new.session.document) (g.R.Read.remaining c.args.script.now) (g.R.Read.remaining c.loop-n.script)
           (g.R.Read.remaining c.read.new.script) (g.W.Write.contents c.args.out.now) mid new line c.loop-n.n (c.loop-n.n + 1)
           c.loop-n.refused _ c.loop-n.studies _ reported c.loop-n.invariant.5 some refl
-          (rw c.as_slice.ensures at c.in-Ok.ensures.written)
+          (rw c.as_slice.ensures at c.in-Ok.ensures.written) (rw c.as_slice.ensures at c.in-Ok.ensures.document)
           (ap (λ i. c.loop-n.refused + i) counted) (ap (λ i. c.loop-n.studies + i) numbered),
     )
 
@@ -266,20 +267,22 @@ loop-n-preserved g c =
 
 pub returns-in-Err-TooLong-clause-fits : goal.returns-in-Err-TooLong-clause-fits
 returns-in-Err-TooLong-clause-fits g c =
-    parts_long g.T.Report.form g.T.Report.refusal g.T.Report.remark (g.R.Read.remaining c.read.new.script) (g.R.Read.remaining c.args.script.now)
+    parts_long g.T.Report.form g.T.Report.refusal g.T.Report.remark (document_seen c.args.session.now.document)
+    (document_seen c.loop-n.session.document) (g.R.Read.remaining c.read.new.script) (g.R.Read.remaining c.args.script.now)
     (g.R.Read.remaining c.loop-n.script) (g.W.Write.contents c.args.out.now) (g.W.Write.contents c.loop-n.out) c.loop-n.n c.loop-n.refused
     c.loop-n.studies c.loop-n.invariant.5
 
 pub returns-in-Ok-false-clause-fits : goal.returns-in-Ok-false-clause-fits
 returns-in-Ok-false-clause-fits g c =
     let none = rw c.in-Ok-false.field-0-test at c.in-Ok-false.ensures.line in
-    parts_end g.T.Report.form g.T.Report.refusal g.T.Report.remark (g.R.Read.remaining c.read.new.script) (g.R.Read.remaining c.args.script.now)
+    parts_end g.T.Report.form g.T.Report.refusal g.T.Report.remark (document_seen c.args.session.now.document)
+    (document_seen c.loop-n.session.document) (g.R.Read.remaining c.read.new.script) (g.R.Read.remaining c.args.script.now)
     (g.R.Read.remaining c.loop-n.script) (g.R.Read.remaining c.read.new.script) (g.W.Write.contents c.args.out.now)
     (g.W.Write.contents c.loop-n.out) c.read.new.self c.loop-n.n c.loop-n.refused c.loop-n.studies c.loop-n.invariant.5 none
 
 pub returns-in-Err-clause-fits : goal.returns-in-Err-clause-fits
 returns-in-Err-clause-fits g c =
-    parts_stop g.T.Report.form g.T.Report.refusal g.T.Report.remark (g.R.Read.remaining c.read.new.script) (g.W.Write.contents c.args.out.now)
+    parts_stop g.T.Report.form g.T.Report.refusal g.T.Report.remark (document_seen c.args.session.now.document) (g.R.Read.remaining c.read.new.script) (g.W.Write.contents c.args.out.now)
     (g.W.Write.contents c.add_line.new.out) (g.R.Read.remaining c.args.script.now) c.in-Err.fault c.in-Err.ensures.stops
 
 pub returns-in-Ok-None-clause-fits : goal.returns-in-Ok-None-clause-fits
@@ -290,9 +293,10 @@ returns-in-Ok-None-clause-fits g c =
     let old = g.W.Write.contents c.args.out.now in
     let new = g.W.Write.contents c.loop-n.out in
     let at : c.loop-n.n ≡ 100000 = omega arith in
-    let parts = subst (λ k. HasParts g.T.Report.form g.T.Report.refusal g.T.Report.remark script now old new k c.loop-n.refused c.loop-n.studies) at
+    let parts = subst (λ k. HasParts g.T.Report.form g.T.Report.refusal g.T.Report.remark (document_seen c.args.session.now.document) (document_seen c.loop-n.session.document) script now old new k c.loop-n.refused c.loop-n.studies) at
     c.loop-n.invariant.5 in
-    parts_end g.T.Report.form g.T.Report.refusal g.T.Report.remark (g.R.Read.remaining c.read_byte.new.script) script now (g.R.Read.remaining
+    parts_end g.T.Report.form g.T.Report.refusal g.T.Report.remark (document_seen c.args.session.now.document)
+    (document_seen c.loop-n.session.document) (g.R.Read.remaining c.read_byte.new.script) script now (g.R.Read.remaining
     c.read_byte.new.script)
     old new [] 100000 c.loop-n.refused c.loop-n.studies parts (has_none now (g.R.Read.remaining c.read_byte.new.script) end.0 end.1)
 
@@ -303,9 +307,10 @@ returns-in-Ok-Some-clause-fits g c =
     let old = g.W.Write.contents c.args.out.now in
     let new = g.W.Write.contents c.loop-n.out in
     let at : c.loop-n.n ≡ 100000 = omega arith in
-    let parts = subst (λ k. HasParts g.T.Report.form g.T.Report.refusal g.T.Report.remark script now old new k c.loop-n.refused c.loop-n.studies) at
+    let parts = subst (λ k. HasParts g.T.Report.form g.T.Report.refusal g.T.Report.remark (document_seen c.args.session.now.document) (document_seen c.loop-n.session.document) script now old new k c.loop-n.refused c.loop-n.studies) at
     c.loop-n.invariant.5 in
-    parts_many g.T.Report.form g.T.Report.refusal g.T.Report.remark (g.R.Read.remaining c.read_byte.new.script) script now old new c.loop-n.refused
+    parts_many g.T.Report.form g.T.Report.refusal g.T.Report.remark (document_seen c.args.session.now.document)
+    (document_seen c.loop-n.session.document) (g.R.Read.remaining c.read_byte.new.script) script now old new c.loop-n.refused
     c.loop-n.studies parts
 
 pub returns-in-Err-Device-clause-fits : goal.returns-in-Err-Device-clause-fits
@@ -313,7 +318,8 @@ returns-in-Err-Device-clause-fits g c =
     let script = g.R.Read.remaining c.args.script.now in
     let now = g.R.Read.remaining c.loop-n.script in
     let left = g.R.Read.remaining c.read.new.script in
-    parts_read g.T.Report.form g.T.Report.refusal g.T.Report.remark left script now (g.W.Write.contents c.args.out.now) (g.W.Write.contents c.loop-n.out)
+    parts_read g.T.Report.form g.T.Report.refusal g.T.Report.remark (document_seen c.args.session.now.document)
+    (document_seen c.loop-n.session.document) left script now (g.W.Write.contents c.args.out.now) (g.W.Write.contents c.loop-n.out)
     c.loop-n.n c.loop-n.refused c.loop-n.studies c.loop-n.invariant.5
     (gave-same script now left c.loop-n.n c.loop-n.invariant.3 (c.in-Err-Device.ensures.no_feed cc))
 
@@ -323,7 +329,8 @@ returns-in-Err-read_byte-clause-fits g c =
     let now = g.R.Read.remaining c.loop-n.script in
     let left = g.R.Read.remaining c.read_byte.new.script in
     let kept : GaveFeeds now left 0 = ([], Consumes-kept now now left [] (Consumes-nil now) c.in-Err-read_byte.ensures.err, omega arith) in
-    parts_read g.T.Report.form g.T.Report.refusal g.T.Report.remark left script now (g.W.Write.contents c.args.out.now) (g.W.Write.contents c.loop-n.out)
+    parts_read g.T.Report.form g.T.Report.refusal g.T.Report.remark (document_seen c.args.session.now.document)
+    (document_seen c.loop-n.session.document) left script now (g.W.Write.contents c.args.out.now) (g.W.Write.contents c.loop-n.out)
     c.loop-n.n c.loop-n.refused c.loop-n.studies c.loop-n.invariant.5 (gave-same script now left c.loop-n.n c.loop-n.invariant.3 kept)
 
 -- ---- the list of a run that stopped

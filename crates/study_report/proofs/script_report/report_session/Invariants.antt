@@ -1,6 +1,7 @@
 use Rattle.std.proofs.Common.{◌≤◌, List, ◌++◌}
 use Rattle.study_command.specs.Lines.{GaveFeeds}
 use Rattle.study_script.specs.State.{State}
+use Rattle.study_script.specs.SessionHolds.{document_seen}
 use Rattle.study_script.specs.Session.{SessionHolds}
 use Rattle.study_script.specs.Stores.{HonestOn}
 use Rattle.study_script.proofs.FirstLines.{Gone}
@@ -24,5 +25,6 @@ invariant-loop-n g l =
     (g.W.Write.contents l.fn.out) (g.W.Write.contents l.out) first l.n l.refused l.studies l.unread)
     × (l.refused ≤ l.n) × (l.studies ≤ l.n) × GaveFeeds (g.R.Read.remaining l.fn.script) (g.R.Read.remaining l.script) l.n
     × Gone (g.R.Read.remaining l.fn.script) (g.R.Read.remaining l.script) l.n
-    × HasParts g.T.Report.form g.T.Report.refusal g.T.Report.remark (g.R.Read.remaining l.fn.script) (g.R.Read.remaining l.script)
+    × HasParts g.T.Report.form g.T.Report.refusal g.T.Report.remark (document_seen l.fn.session.document) (document_seen l.session.document)
+    (g.R.Read.remaining l.fn.script) (g.R.Read.remaining l.script)
     (g.W.Write.contents l.fn.out) (g.W.Write.contents l.out) l.n l.refused l.studies

@@ -4,7 +4,8 @@ use Rattle.study_marks.specs.Edits.{PlainStudy}
 use Rattle.study_marks.specs.BenchState.{marked_study}
 use Rattle.study_marks.specs.Study.{plain_study}
 use Rattle.study_script.specs.SessionHolds.{document_seen, IsMarked, tables_held, are_paged, tables_may_fail}
-use Rattle.study_script.specs.State.{Document, empty, start, study, is_among}
+use Rattle.study_command.specs.Documents.{Document, empty, start, study}
+use Rattle.study_script.specs.State.{is_among}
 use Rattle.study_report.specs.Reported.{IsValueFaultBy, Entry, studies_on}
 use Rattle.study_report.specs.Written.{IsSection, IsSectionPart}
 use Rattle.study_report.proofs.Reviewed.{no_value-same}
