@@ -4,11 +4,15 @@
 //! standard error.
 #![tactic(auto)]
 
+mod code_page;
+mod line_ends;
 mod options;
 mod program;
 mod status;
 mod streaming;
 
+pub use code_page::{CodePage, PageReader};
+pub use line_ends::LineReader;
 pub use options::{Options, VERSION, read_words};
 pub use program::{import_stream, studyimport};
 pub use status::{put_games, put_stop, status_of, status_without_options};

@@ -1,5 +1,7 @@
 //! The command line.
 
+use crate::code_page::{CodePage, page_of};
+use clap::builder::ValueParser;
 use clap::{Arg, ArgAction, Command, Error, value_parser};
 use std::alloc::{AllocError, Global};
 use study_command::{Command as ScriptCommand, read_command};
@@ -26,6 +28,8 @@ Exit status: 0 each game has its block; 1 some game has none, or no game was cho
 #[derive(Clone, Copy, Debug, PartialEq, Eq)]
 pub struct Options {
     pub choice: Choice,
+    /// The code page of the file, if it is neither UTF-8 nor Latin 1.
+    pub encoding: Option<CodePage>,
     /// Whether the number of games read is written to standard error, after every hundred.
     pub progress: bool,
 }
@@ -56,8 +60,16 @@ pub fn read_words(alloc: Global, words: &[String]) -> Result<Option<Options>, Er
         to,
         tails: matches.get_flag("tails"),
     };
+    let encoding = match matches.get_one::<u16>("encoding") {
+        Some(number) => page_of(number),
+        None => None,
+    };
     let progress = matches.get_flag("progress");
-    Ok(Some(Options { choice, progress }))
+    Ok(Some(Options {
+        choice,
+        encoding,
+        progress,
+    }))
 }
 
 /// The options of the program.
@@ -77,6 +89,12 @@ fn command<'a>(alloc: Global) -> Result<Command<'a>, Error> {
         .help(
             "Takes a game with more than four men from the first position of at most four that a comment of its main line names",
         );
+    let encoding = Arg::new(alloc, "encoding")
+        .long("encoding")
+        .value_name("PAGE")
+        .action(ArgAction::Set)
+        .value_parser(ValueParser::Names(&["1250", "1251", "1252"]))
+        .help("Reads the file in this code page of Windows");
     let progress = Arg::new(alloc, "progress")
         .long("progress")
         .action(ArgAction::SetTrue)
@@ -91,6 +109,7 @@ fn command<'a>(alloc: Global) -> Result<Command<'a>, Error> {
             .arg(number(alloc, "from", "N", "Takes the games from N on"))?
             .arg(number(alloc, "to", "M", "Takes the games up to M"))?
             .arg(tails)?
+            .arg(encoding)?
             .arg(progress)?,
     )
 }

@@ -1,8 +1,13 @@
 //! The program, over the streams of its process or over any others.
-ghost use Rattle.std.specs.Prelude.{◌≡◌};
+ghost use Rattle.std.specs.Prelude.{◌≡◌, false, IfOk, OnErr};
+ghost use Rattle.std.specs.Io.KnownBytes.{Keeps};
 ghost use Rattle.study_import_program.specs.Status.{status_reported, IsReported};
 ghost use Rattle.study_import_program.specs.Ended.{HasRun, EndsBy};
+ghost use Rattle.study_import_program.specs.Streams.{IsWhole, IsFront};
+ghost use Rattle.study_import_program.specs.Texts.{text_of};
 
+use crate::code_page::PageReader;
+use crate::line_ends::LineReader;
 use crate::options::{Options, read_words};
 use crate::status::{put_stop, status_of, status_without_options};
 use crate::streaming::{ImportFault, import_games};
@@ -86,16 +91,46 @@ pub fn import_stream<A: Allocator, R: Read, W: Write, E: Write>(
     errors: &mut E,
 ) -> u8
     ensures { EndsBy
-        (HasRun options.now.choice (R.remaining games.old) (W.contents out.old)
-        (W.contents out.new)) result options.now.progress
+        (HasRun options.now.choice (text_of options.now.encoding (R.remaining games.old))
+        (W.contents out.old) (W.contents out.new)) result options.now.progress
         (E.contents errors.old) (E.contents errors.new) }
 {
-    let mut answer = import_games(alloc, games, out, errors, options.choice, options.progress);
+    let mut answer = import_text(alloc, options, games, out, errors);
     // Blocks may still be in the writer's buffer.
     if out.flush().is_err() {
         answer = Err(ImportFault::WriteDevice);
     }
     report_end(errors, &answer)
+}
+
+/// Imports the games of a reader of files.
+fn import_text<A: Allocator, R: Read, W: Write, E: Write>(
+    alloc: &A,
+    options: &Options,
+    games: &mut R,
+    out: &mut W,
+    errors: &mut E,
+) -> Result<Imported, ImportFault>
+    ensures ok { IfOk result (λ imported. IsWhole options.now.choice
+        (text_of options.now.encoding (R.remaining games.old)) (W.contents out.old)
+        (W.contents out.new) imported) }
+    ensures err { OnErr result (IsFront options.now.choice
+        (text_of options.now.encoding (R.remaining games.old)) (W.contents out.old)
+        (W.contents out.new)) }
+    ensures quiet { options.now.progress ≡ false → Keeps (E.contents errors.old)
+        (E.contents errors.new) }
+{
+    let choice = options.choice;
+    match options.encoding {
+        None => {
+            let mut text = LineReader::new(games);
+            import_games(alloc, &mut text, out, errors, choice, options.progress)
+        }
+        Some(page) => {
+            let mut text = LineReader::new(PageReader::new(games, page));
+            import_games(alloc, &mut text, out, errors, choice, options.progress)
+        }
+    }
 }
 
 /// Reports why a run stopped, if it did. A failure of standard error cannot be reported.

@@ -2,7 +2,13 @@
 #![tactic(auto)]
 
 #[cfg(test)]
+mod encoding;
+#[cfg(test)]
+mod encoding_spaces;
+#[cfg(test)]
 mod games;
+#[cfg(test)]
+mod lines;
 #[cfg(test)]
 mod numbering;
 #[cfg(test)]

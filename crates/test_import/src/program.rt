@@ -43,6 +43,7 @@ fn options_of(from: u32, to: u32) -> Options {
             to,
             tails: false,
         },
+        encoding: None,
         progress: false,
     }
 }
