@@ -52,6 +52,32 @@ judgement_with_dash : token_at false (43 ∷ 226 ∷ 128 ∷ 147 ∷ codes " x")
 unfolding lexed_token
 judgement_with_dash = refl
 
+-- a space that does not break, in UTF-8 and in Windows-1252, and a thin space
+hard_space : token_at false (194 ∷ 160 ∷ codes "Kf7") ≡ Some (Ok (blank, codes "Kf7"))
+unfolding lexed_token
+hard_space = refl
+
+byte_space : token_at false (160 ∷ codes "Kf7") ≡ Some (Ok (blank, codes "Kf7"))
+unfolding lexed_token
+byte_space = refl
+
+before_hard_space : token_at false (codes "Kf7" ++ (194 ∷ 160 ∷ codes "Kg5")) ≡ Some (Ok (symbol (codes "Kf7"), 194 ∷ 160 ∷ codes "Kg5"))
+unfolding lexed_token
+before_hard_space = refl
+
+before_byte_space : token_at false (codes "Kf7" ++ (160 ∷ codes "Kg5")) ≡ Some (Ok (symbol (codes "Kf7"), 160 ∷ codes "Kg5"))
+unfolding lexed_token
+before_byte_space = refl
+
+before_thin_space : token_at false (codes "+-" ++ (226 ∷ 128 ∷ 137 ∷ codes "Kg5")) ≡ Some (Ok (sign (codes "+-"), 226 ∷ 128 ∷ 137 ∷ codes "Kg5"))
+unfolding lexed_token
+before_thin_space = refl
+
+-- `à` has the byte A0 and is a letter
+letter_with_byte : token_at false (195 ∷ 160 ∷ codes " x") ≡ Some (Ok (symbol (195 ∷ 160 ∷ []), codes " x"))
+unfolding lexed_token
+letter_with_byte = refl
+
 escape_line : token_at true (codes "%( {") ≡ Some (Ok (blank, []))
 unfolding lexed_token
 escape_line = refl

@@ -5,7 +5,8 @@ use Rattle.std.specs.Prelude.{◌&&◌, ◌||◌, ◌==◌, nat_le}
 use Rattle.std.specs.List.{list_all, prefix_len}
 use Rattle.std.proofs.lemmas.Bool.{cases_Bool, and_parts, and_right, false≢true, ne_eqb, leb-true, lt-leb, or_cases, or_from}
 use Rattle.study_games.specs.Bytes.{is_letter, is_digit, is_high, is_sign, begins_symbol, is_symbol_byte, is_blank, is_glyph}
-use Rattle.study_games.specs.Tokens.{Lexed, token_at, lexed_token, run_of, begins_ellipsis, begins_number, front, behind, symbol}
+use Rattle.study_games.specs.Spaces.{begins_wide_space, begins_hard_space, begins_space, ink_len}
+use Rattle.study_games.specs.Tokens.{Lexed, token_at, lexed_token, ink_of, begins_ellipsis, begins_number, front, behind, symbol}
 
 -- a run ends at the end of the text, or before a byte of another kind
 abbrev pub Stops : (ℕ → Bool) → List ℕ → Type 0
@@ -128,11 +129,6 @@ module _ (b : ℕ) (f : IsFirst b) where
 abbrev pub is_plain_symbol : ℕ → Bool
 is_plain_symbol b = is_symbol_byte b && nat_le b 127
 
-plain_symbols : (w : List ℕ) → list_all is_plain_symbol w ≡ true → list_all is_symbol_byte w ≡ true
-plain_symbols [] h = refl
-plain_symbols (x ∷ xs) h =
-    let a = and_parts (is_plain_symbol x) (list_all is_plain_symbol xs) h in rw (and_parts (is_symbol_byte x) (nat_le x 127) a.0).0 (plain_symbols xs a.1)
-
 plain_low : (b : ℕ) → is_plain_symbol b ≡ true → b ≡ 226 → ⊥
 plain_low b h e = let le = leb-true b 127 (and_parts (is_symbol_byte b) (nat_le b 127) h).1 in absurd (omega (arith, le, e))
 
@@ -169,22 +165,50 @@ number_ends (x ∷ xs) rest all stops =
       | inr other ↦ ap begins_ellipsis (behind_stop is_digit x (xs ++ rest) other) ∙ no_ellipsis x (xs ++ rest) (plain_low x a.0)
     ]
 
-symbol_token : (fresh : Bool) (b : ℕ) (bs : List ℕ) → IsFirst b → begins_symbol b ≡ true → begins_ellipsis (b ∷ bs) ≡ false → begins_number (b ∷ bs) ≡ false
-    → lexed_token fresh b bs ≡ run_of symbol is_symbol_byte (b ∷ bs)
+-- ---- no space outside of ASCII in ASCII
+
+not_wide : (b : ℕ) (bs : List ℕ) → b ≤ 127 → begins_wide_space (b ∷ bs) ≡ false
+not_wide b [] h = refl
+not_wide b (c ∷ []) h = refl
+not_wide b (c ∷ d ∷ ds) h =
+    rw (ne_eqb b 226 (λ e. omega (arith, h, e))) (rw (ne_eqb b 227 (λ e. omega (arith, h, e))) (rw (ne_eqb b 225 (λ e. omega (arith, h, e))) refl))
+
+not_hard : (b : ℕ) (bs : List ℕ) → b ≤ 127 → begins_hard_space (b ∷ bs) ≡ false
+not_hard b [] h = refl
+not_hard b (c ∷ cs) h = rw (ne_eqb b 194 (λ e. omega (arith, h, e))) refl
+
+no_space : (plain : Bool) (b : ℕ) (bs : List ℕ) → b ≤ 127 → begins_space plain (b ∷ bs) ≡ false
+no_space plain b bs h =
+    rw (not_wide b bs h) (rw (not_hard b bs h) (rw (and_right plain (b == 160) (ne_eqb b 160 (λ e. omega (arith, h, e)))) refl))
+
+-- a symbol in ASCII ends before a byte of another kind
+ink_ends : (b : ℕ) (w rest : List ℕ) → list_all is_plain_symbol w ≡ true → Stops is_symbol_byte rest → ink_len is_symbol_byte b (w ++ rest) ≡ length w
+ink_ends b [] [] all stops = refl
+ink_ends b [] (c ∷ cs) all stops = rw stops refl
+ink_ends b (x ∷ xs) rest all stops =
+    let a = and_parts (is_plain_symbol x) (list_all is_plain_symbol xs) all in
+    let s = and_parts (is_symbol_byte x) (nat_le x 127) a.0 in
+    rw s.0 (rw (no_space (nat_le b 127) x (xs ++ rest) (leb-true x 127 s.1))
+    (ap (λ n. 1 + n) (ink_ends x xs rest a.1 stops) ∙ sym (one_more (length xs))))
+
+symbol_token : (fresh : Bool) (b : ℕ) (bs : List ℕ) → IsFirst b → begins_symbol b ≡ true → begins_ellipsis (b ∷ bs) ≡ false
+    → begins_space true (b ∷ bs) ≡ false → begins_number (b ∷ bs) ≡ false → lexed_token fresh b bs ≡ ink_of symbol is_symbol_byte b bs
 unfolding lexed_token
-symbol_token fresh b bs f begins ellipsis number =
+symbol_token fresh b bs f begins ellipsis space number =
     rw (and_right fresh (b == 37) (low b f 37 (omega arith))) (rw (no_blank b f) (rw (top b f 123 (omega arith) (omega arith))
     (rw (middle b f 59 (omega arith) (omega arith)) (rw (upper b f 91 (omega arith) (omega arith)) (rw (low b f 40 (omega arith))
     (rw (low b f 41 (omega arith)) (rw (low b f 42 (omega arith))
-    (rw (low b f 36 (omega arith)) (rw (no_glyph b f) (rw (no_sign b f) (rw ellipsis (rw begins (rw number refl)))))))))))))
+    (rw (low b f 36 (omega arith)) (rw (no_glyph b f) (rw (no_sign b f) (rw ellipsis (rw space (rw begins (rw number refl))))))))))))))
 
 -- a symbol in ASCII before anything that ends it
 pub symbol_read : (fresh : Bool) (b : ℕ) (w rest : List ℕ) → begins_symbol b ≡ true → list_all is_plain_symbol (b ∷ w) ≡ true
     → Stops is_symbol_byte rest → token_at fresh (b ∷ (w ++ rest)) ≡ Some (Ok (symbol (b ∷ w), rest))
 symbol_read fresh b w rest begins all stops =
-    let cut = run_cut is_symbol_byte (b ∷ w) rest (plain_symbols (b ∷ w) all) stops in
-    let low = plain_low b (and_parts (is_plain_symbol b) (list_all is_plain_symbol w) all).0 in
+    let a = and_parts (is_plain_symbol b) (list_all is_plain_symbol w) all in
+    let low = leb-true b 127 (and_parts (is_symbol_byte b) (nat_le b 127) a.0).1 in
     let number = and_right (is_digit b) (begins_ellipsis (behind is_digit (b ∷ (w ++ rest)))) (number_ends (b ∷ w) rest all stops) in
-    ap (λ (x : Lexed). Some x) (symbol_token fresh b (w ++ rest) (firsts b begins) begins (no_ellipsis b (w ++ rest) low) number)
-    ∙ ap (λ (x : List ℕ). Some (Ok (symbol x, behind is_symbol_byte (b ∷ (w ++ rest))))) cut.0
-    ∙ ap (λ (x : List ℕ). Some (Ok (symbol (b ∷ w), x))) cut.1
+    ap (λ (x : Lexed). Some x) (symbol_token fresh b (w ++ rest) (firsts b begins) begins (no_ellipsis b (w ++ rest) (plain_low b a.0))
+    (no_space true b (w ++ rest) low) number)
+    ∙ ap (λ (n : ℕ). Some (Ok (symbol (b ∷ take n (w ++ rest)), drop n (w ++ rest)))) (ink_ends b w rest a.1 stops)
+    ∙ ap (λ (x : List ℕ). Some (Ok (symbol (b ∷ x), drop (length w) (w ++ rest)))) (take_all w rest)
+    ∙ ap (λ (x : List ℕ). Some (Ok (symbol (b ∷ w), x))) (drop_all w rest)

@@ -1,4 +1,5 @@
 pub mod Bytes
+pub mod Spaces
 pub mod Tokens
 pub mod Symbols
 pub mod Words

@@ -1,5 +1,5 @@
 -- The tokens of a PGN text.
-use Rattle.std.specs.Prelude.{ℕ, ◌+◌, Bool, false, not, ◌&&◌, ◌||◌, ◌==◌, List, [], ◌∷◌, take, drop}
+use Rattle.std.specs.Prelude.{ℕ, ◌+◌, Bool, true, false, not, ◌&&◌, ◌||◌, ◌==◌, List, [], ◌∷◌, take, drop}
 use Rattle.std.specs.Prelude.{Option, Some, None, Result, Ok, Err, if◌then◌else◌}
 use Rattle.std.specs.List.{prefix_len}
 use Rattle.study_games.specs.declared.token.TokenFault.{TokenFault}
@@ -9,8 +9,9 @@ use Rattle.study_games.specs.declared.token.Token.{Token as Read}
 use Rattle.study_games.specs.declared.token.Token.TheVariants as read
 use Rattle.study_games.specs.Bytes.{is_blank, is_gap, is_letter, is_digit, is_name_byte, is_sign, is_tail, begins_symbol, is_symbol_byte, is_glyph, is_feed}
 use Rattle.study_games.specs.Bytes.{is_brace_end}
+use Rattle.study_games.specs.Spaces.{space_len, begins_space, ink_len}
 
--- blank: blanks, dots, `…` and escape lines, which are ignored; aside: a NAG or a glyph
+-- blank: blanks, spaces outside of ASCII, dots, `…` and escape lines, which are ignored; aside: a NAG or a glyph
 pub data Token : Type 0 where
   blank aside opening closing star : Token
   tag : (name value : List ℕ) → Token
@@ -95,6 +96,10 @@ tag_at text = lexed_name (behind is_gap text)
 abbrev pub run_of : (List ℕ → Token) → (ℕ → Bool) → List ℕ → Lexed
 run_of token p text = Ok (token (front p text), behind p text)
 
+-- the byte b, and the bytes of one kind after it, before a space outside of ASCII
+abbrev pub ink_of : (List ℕ → Token) → (ℕ → Bool) → ℕ → List ℕ → Lexed
+ink_of token p b bs = Ok (token (b ∷ take (ink_len p b bs) bs), drop (ink_len p b bs) bs)
+
 -- `…`, the three dots as one character in UTF-8
 abbrev pub begins_ellipsis : List ℕ → Bool
 begins_ellipsis (a ∷ b ∷ c ∷ bs) = a == 226 && (b == 128 && c == 166)
@@ -110,17 +115,18 @@ begins_number [] = false
 begins_number (b ∷ bs) = is_digit b && begins_ellipsis (behind is_digit (b ∷ bs))
 
 -- such a number ends before `…`
-abbrev pub symbol_at : List ℕ → Lexed
-symbol_at text = if begins_number text then run_of symbol is_digit text else run_of symbol is_symbol_byte text
+abbrev pub symbol_at : ℕ → List ℕ → Lexed
+symbol_at b bs = if begins_number (b ∷ bs) then run_of symbol is_digit (b ∷ bs) else ink_of symbol is_symbol_byte b bs
 
--- signs, with any judgement that they begin, as `+–`; a symbol; or `…` by itself, which is blank like dots
+-- signs, with any judgement that they begin, as `+–`; `…` by itself or a space, which are blank like dots; or a symbol
 abbrev pub ink_at : List ℕ → Lexed
 ink_at [] = Err Byte
 ink_at (b ∷ bs) =
-    if is_sign b then run_of sign is_tail (b ∷ bs)
+    if is_sign b then ink_of sign is_tail b bs
     else (if begins_ellipsis (b ∷ bs) then Ok (blank, behind_ellipsis (b ∷ bs))
-    else (if begins_symbol b then symbol_at (b ∷ bs)
-    else Err Byte))
+    else (if begins_space true (b ∷ bs) then Ok (blank, drop (space_len true (b ∷ bs)) (b ∷ bs))
+    else (if begins_symbol b then symbol_at b bs
+    else Err Byte)))
 
 -- ---- the whole
 

@@ -14,6 +14,7 @@ mod header;
 mod laws;
 mod letters;
 mod runs;
+mod spaces;
 mod spelling;
 mod symbols;
 mod token;

@@ -27,7 +27,8 @@ pub enum Run {
     Comment,
 }
 
-fn is_in(run: Run, b: u8) -> bool
+/// Whether the byte is of the run's kind.
+pub fn is_in(run: Run, b: u8) -> bool
     ensures { result ≡ is_in run b }
 {
     match run {

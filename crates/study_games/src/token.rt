@@ -1,20 +1,22 @@
 //! The tokens of a PGN text, one by one.
-ghost use Rattle.std.specs.Prelude.{◌≡◌, ◌≤◌, ◌∷◌, Some, Ok, false, length, drop, IfSome};
+ghost use Rattle.std.specs.Prelude.{◌≡◌, ◌≤◌, ◌∷◌, Some, Ok, true, false, length, drop, IfSome};
 ghost use Rattle.std.specs.Option.{option_map};
 ghost use Rattle.std.specs.List.{prefix_len};
 ghost use Rattle.study_games.specs.Bytes.{is_digit, is_tail, is_glyph};
 ghost use Rattle.study_games.specs.Tokens.{is_in_line, ends_tag, value_end, behind_value, comment_at, tag_at, lexed_token, token_seen, lexed_seen};
-ghost use Rattle.study_games.specs.Tokens.{lexed_value, lexed_quotation, lexed_name, run_of, begins_ellipsis, behind_ellipsis, begins_number, symbol_at, ink_at};
+ghost use Rattle.study_games.specs.Tokens.{lexed_value, lexed_quotation, lexed_name, run_of, ink_of, begins_ellipsis, behind_ellipsis, begins_number, symbol_at, ink_at};
+ghost use Rattle.study_games.specs.Spaces.{space_len};
 ghost use Rattle.study_games.specs.Tokens.{token_at, begins_feed, blank, aside, sign, rest};
 
 use crate::bytes::{begins_symbol, is_blank, is_digit, is_glyph, is_letter, is_sign};
 use crate::runs::{Run, cut_run};
+use crate::spaces::{begins_space, ink_len, space_len};
 use thiserror::Error;
 
 /// A token of a PGN text. Texts are parts of it.
 #[derive(Clone, Copy, Debug)]
 pub enum Token<'t> {
-    /// Blanks, a dot, `…`, or an escape line.
+    /// Blanks, a space outside of ASCII, a dot, `…`, or an escape line.
     Blank,
     /// A NAG or a glyph as `!?`.
     Aside,
@@ -177,10 +179,19 @@ fn read_rest(text: &[u8]) -> Result<Cut<'_>, TokenFault>
     cut_of(Token::Rest(line), behind)
 }
 
-fn read_sign(text: &[u8]) -> Result<Cut<'_>, TokenFault>
-    ensures { lexed_seen result ≡ run_of sign is_tail text.now }
+/// The rest after a space outside of ASCII.
+fn read_space(text: &[u8]) -> Result<Cut<'_>, TokenFault>
+    ensures { lexed_seen result ≡ Ok (blank, drop (space_len true text.now) text.now) }
 {
-    let (signs, behind) = cut_run(Run::Signs, text);
+    let (_, behind) = text.split_at(space_len(text, true));
+    cut_of(Token::Blank, behind)
+}
+
+fn read_sign<'t>(text: &'t [u8], first: u8, rest: &[u8]) -> Result<Cut<'t>, TokenFault>
+    requires { text.now ≡ first ∷ rest.now }
+    ensures { lexed_seen result ≡ ink_of sign is_tail first rest.now }
+{
+    let (signs, behind) = text.split_at(ink_len(Run::Signs, first, rest) + 1);
     cut_of(Token::Sign(signs), behind)
 }
 
@@ -217,14 +228,15 @@ fn begins_number(text: &[u8]) -> bool
 }
 
 /// A symbol, or digits before `…`.
-fn read_symbol(text: &[u8]) -> Result<Cut<'_>, TokenFault>
-    ensures { lexed_seen result ≡ symbol_at text.now }
+fn read_symbol<'t>(text: &'t [u8], first: u8, rest: &[u8]) -> Result<Cut<'t>, TokenFault>
+    requires { text.now ≡ first ∷ rest.now }
+    ensures { lexed_seen result ≡ symbol_at first rest.now }
 {
     if begins_number(text) {
         let (digits, behind) = cut_run(Run::Digits, text);
         return cut_of(Token::Symbol(digits), behind);
     }
-    let (bytes, behind) = cut_run(Run::Symbol, text);
+    let (bytes, behind) = text.split_at(ink_len(Run::Symbol, first, rest) + 1);
     cut_of(Token::Symbol(bytes), behind)
 }
 
@@ -242,14 +254,15 @@ fn read_glyphs(text: &[u8]) -> Result<Cut<'_>, TokenFault>
     cut_of(Token::Aside, behind)
 }
 
-/// Signs, a symbol, or `…`.
+/// Signs, `…`, a space outside of ASCII, or a symbol.
 fn read_ink(text: &[u8]) -> Result<Cut<'_>, TokenFault>
     ensures { lexed_seen result ≡ ink_at text.now }
 {
     match text {
-        [first, ..] if is_sign(*first) => read_sign(text),
+        [first, rest @ ..] if is_sign(*first) => read_sign(text, *first, rest),
         _ if begins_ellipsis(text) => read_ellipsis(text),
-        [first, ..] if begins_symbol(*first) => read_symbol(text),
+        _ if begins_space(text, true) => read_space(text),
+        [first, rest @ ..] if begins_symbol(*first) => read_symbol(text, *first, rest),
         _ => Err(TokenFault::Byte),
     }
 }
