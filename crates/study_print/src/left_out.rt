@@ -39,7 +39,7 @@ fn moves_reason(why: &[u8]) -> &'static [u8]
 
 /// The reason why a game was left out, by the name with which the words of its remark begin.
 #[tactic(auto, unfolding(crate::specs::LeftOut::game_reason))]
-fn game_reason(why: &[u8]) -> &'static [u8]
+pub fn game_reason(why: &[u8]) -> &'static [u8]
     ensures { result.now ≡ game_reason why.now }
 {
     if begins(why, b"GameTooLarge") {

@@ -13,6 +13,7 @@ mod remarks;
 mod script_pages;
 mod watch;
 
+pub use left_out::game_reason;
 pub use pages::{EntryCount, Pages};
 pub use refusals::{refusal_name, write_refused};
 pub use script_pages::{write_pages, write_pages_over};

@@ -8,6 +8,7 @@ pub mod Opening
 pub mod PositionsRead
 pub mod Printing
 pub mod Reviews
+pub mod RowsRead
 pub mod Shelves
 pub mod Unread
 pub mod ViewsLeft

@@ -4,7 +4,8 @@ use Rattle.std.specs.Prelude.{IfOk}
 use Rattle.study_material.specs.declared.class.Class.{Class}
 use Rattle.study_values.specs.declared.fault.SourceFault.{SourceFault}
 use Rattle.study_script.specs.declared.store.StoreFault.{StoreFault}
-use Rattle.study_script.specs.State.{Document, StoreKnowledge, State, is_among}
+use Rattle.study_command.specs.Documents.{Document}
+use Rattle.study_script.specs.State.{StoreKnowledge, State, is_among}
 use Rattle.study_web.specs.Opened.{IsHeldAs}
 use Rattle.study_web.specs.Views.{IsDocumentView, IsLeft, IsViewOver, OverStore}
 

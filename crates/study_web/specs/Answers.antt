@@ -39,7 +39,9 @@ use Rattle.study_web.specs.declared.file_spans.FileSpan.{FileSpan}
 use Rattle.study_web.specs.Spans.{spans_for}
 use Rattle.study_web.specs.Making.{IsRightFileOf, IsMakeFault, HasRightNeeds}
 use Rattle.study_web.specs.Opened.{AreAllRight, IsOfFiles, IsOfFileValues, IsOfFileSearch}
-use Rattle.study_web.specs.Asked.{Asked, Asks, run, review, report, tables, make, view, survey, passed, find, unread, row, bring}
+use Rattle.study_web.specs.Asked.{Asked, Asks, run, review, report, tables, wording, remarks, make, view, survey, passed, find, unread, row, bring}
+use Rattle.study_web.specs.CoreWords.{core_words}
+use Rattle.study_web.specs.RemarkRows.{rows_from}
 use Rattle.study_web.specs.Row.{IsRow}
 use Rattle.study_web.specs.Setup.{AreTables, positions_in, squares_text}
 use Rattle.study_web.specs.Store.{IsShelf, AreRightFiles}
@@ -220,6 +222,14 @@ IsRowTo spans bytes o start text ended =
 abbrev pub IsImported : List ℕ → Option Stipulation → List ℕ → Ending → Type 0
 IsImported pgn given = IsWhole (λ text. text ≡ script_of (all_games given) pgn) IsOutOfMemory IsNoMemory
 
+-- the words that a page shows without a reply that has them
+abbrev pub IsWording : List ℕ → Ending → Type 0
+IsWording = IsWhole (λ text. text ≡ core_words) IsOutOfMemory IsNoMemory
+
+-- the remarks of the script, a line each
+abbrev pub IsRemarkList : List ℕ → List ℕ → Ending → Type 0
+IsRemarkList script = IsWhole (λ text. text ≡ rows_from 1 (script_lines script)) IsOutOfMemory (IsUnread script)
+
 -- ---- the answer
 
 abbrev pub IsAnswerTo : List FileSpan → List ℕ → Bool → List ℕ → Asked → List ℕ → Ending → Type 0
@@ -235,6 +245,8 @@ IsAnswerTo spans bytes by_pages script (find piece) text ended = IsFoundTo spans
 IsAnswerTo spans bytes by_pages script (unread fault) text ended = IsDenied (denial.Unread fault) text ended
 IsAnswerTo spans bytes by_pages script (row o start) text ended = IsRowTo spans bytes o start text ended
 IsAnswerTo spans bytes by_pages script (bring given) text ended = IsImported script given text ended
+IsAnswerTo spans bytes by_pages script wording text ended = IsWording text ended
+IsAnswerTo spans bytes by_pages script remarks text ended = IsRemarkList script text ended
 
 -- the answer to the request, or the reason why the line is not a valid request
 abbrev pub IsAnswer : List FileSpan → List ℕ → Bool → List ℕ → Asks → List ℕ → Ending → Type 0

@@ -10,7 +10,7 @@ use Rattle.study_listing.specs.declared.piece_words.Piece.{Piece}
 
 -- a request, with its arguments read; or a search whose words name no theme
 pub data Asked : Type 0 where
-  run review report tables : Asked
+  run review report tables wording remarks : Asked
   make : (class : Class) → Asked
   view : (steps : List ℕ) → Asked
   survey : (square : ℕ) (stipulation : Stipulation) (start : Start) → Asked

@@ -10,5 +10,7 @@ pub mod Spans
 pub mod Store
 pub mod Reported
 pub mod Row
+pub mod RemarkRows
+pub mod CoreWords
 pub mod Views
 pub mod Answers

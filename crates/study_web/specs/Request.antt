@@ -19,7 +19,7 @@ use Rattle.study_reply.specs.declared.refusal.Refusal.TheVariants.{Form, NotACla
 use Rattle.study_script.specs.Replies.{class_parsed}
 use Rattle.study_search.specs.declared.only_moves.Outcome.{Outcome}
 use Rattle.study_listing.specs.Requests.{outcome_named}
-use Rattle.study_web.specs.Asked.{Asked, Asks, run, review, report, tables, make, view, survey, passed, find, unread, row, bring}
+use Rattle.study_web.specs.Asked.{Asked, Asks, run, review, report, tables, wording, remarks, make, view, survey, passed, find, unread, row, bring}
 use Rattle.study_web.specs.FindWords.{find_asked}
 use Rattle.study_web.specs.declared.request.Request.{Request}
 use Rattle.study_web.specs.declared.request.Request.TheVariants as request
@@ -131,7 +131,9 @@ word_asked word rest =
     else (if bytes_eq word (codes "find") then find_asked (words rest)
     else (if bytes_eq word (codes "import") then import_asked (words rest) rest
     else (if bytes_eq word (codes "row") then row_asked (words rest) rest
-    else Err (Form UnknownCommand)))))))))))
+    else (if bytes_eq word (codes "words") then without_arguments wording (words rest)
+    else (if bytes_eq word (codes "remarks") then without_arguments remarks (words rest)
+    else Err (Form UnknownCommand)))))))))))))
 
 abbrev pub words_asked : List (List ℕ) → List ℕ → Asks
 words_asked [] line = Err (Form UnknownCommand)
@@ -156,6 +158,8 @@ request_seen (request.Find piece) = find piece
 request_seen (request.Unread fault) = unread fault
 request_seen (request.Import given) = bring given
 request_seen (request.Row r) = row r.outcome r.start
+request_seen request.Words = wording
+request_seen request.Remarks = remarks
 
 abbrev pub asks_seen : Result Request Refusal → Asks
 asks_seen (Ok r) = Ok (request_seen r)

@@ -11,7 +11,8 @@ use Rattle.study_values.specs.declared.values.ProbeFault.{ProbeFault}
 use Rattle.study_facts.specs.declared.entry.EntryInfo.{EntryInfo}
 use Rattle.study_facts.specs.Asked.{Stopped, within}
 use Rattle.study_script.specs.declared.store.StoreFault.{StoreFault}
-use Rattle.study_script.specs.State.{Document, empty, start, study, StoreKnowledge, State, is_among}
+use Rattle.study_command.specs.Documents.{Document, empty, start, study}
+use Rattle.study_script.specs.State.{StoreKnowledge, State, is_among}
 use Rattle.study_report.specs.Lines.{refusal_line, no_remark}
 use Rattle.study_report.specs.Outcome.{AreAdded, start_point, point_after, report_text}
 use Rattle.study_report.specs.Reported.{Added, IsValueFaultIn}

@@ -4,12 +4,15 @@ ghost use Rattle.study_command.specs.Paths.{steps_of, is_path_word};
 ghost use Rattle.study_web.specs.Answers.{IsAnswer, IsMakeAnswer, IsMadeFile, IsMakeDenial, IsNoMemory, IsPassedList, IsPrinted, IsReviewed, IsRun};
 ghost use Rattle.study_web.specs.Answers.{answer_make};
 ghost use Rattle.study_web.specs.Answers.{IsFoundTo, IsImported, AreNeeded, IsOutOfMemory, IsRowTo, IsSurveyedTo, IsTableList, IsUnread, IsViewed};
+ghost use Rattle.study_web.specs.Answers.{IsWording, IsRemarkList};
 ghost use Rattle.study_web.specs.Answers.{MayEnd, OverNeeded};
 ghost use Rattle.study_web.specs.Request.{request_of};
 
+use crate::answers::core_words::words_of;
 use crate::answers::find::found_of;
 use crate::answers::imported_script::imported_of;
 use crate::answers::make::{MakeFault, make_file};
+use crate::answers::remark_rows::remarks_of;
 use crate::answers::replies::replies_over;
 use crate::answers::report_pages::printed_of;
 use crate::answers::row::row_of;
@@ -34,8 +37,8 @@ use study_view::classes_needed;
 /// Answers a request for a script, over the files of the request.
 ///
 /// A request is a line of words: `run`, `make CLASS`, `view PATH`, `review`, `report`, `survey SQUARE SIDE GOAL FEN`, `tables`,
-/// `passed FEN`, `find CLASS THEME [FILTER ..] FROM TO`, `import`, `import SIDE GOAL`, `row win FEN`, `row draw FEN`. For `import` the
-/// script is PGN, as Latin-1 or UTF-8. Files are read by pages and must be tables: for `view`, `review` and `report` those that the
+/// `passed FEN`, `find CLASS THEME [FILTER ..] FROM TO`, `import`, `import SIDE GOAL`, `row win FEN`, `row draw FEN`, `words`, `remarks`.
+/// For `import` the script is PGN, as Latin-1 or UTF-8. Files are read by pages and must be tables: for `view`, `review` and `report` those that the
 /// script's positions need, for `survey`, `row` and `find` those that the position or the class needs. Other files are not opened. What
 /// `run` saves is put into the cells, one for each class.
 pub fn answer<'f, 'a, A: Allocator>(
@@ -63,6 +66,8 @@ pub fn answer<'f, 'a, A: Allocator>(
         Ok(Request::Unread(fault)) => fault_answer(alloc, RequestFault::Unread(fault)),
         Ok(Request::Import(given)) => of_import(alloc, script, given),
         Ok(Request::Row(row)) => of_row(alloc, &row, files),
+        Ok(Request::Words) => of_words(alloc),
+        Ok(Request::Remarks) => of_remarks(alloc, script),
     }
 }
 
@@ -332,4 +337,16 @@ fn of_import<'a, A: Allocator>(
     ensures { IsImported pgn.now given result.text.items result.ended }
 {
     answer_of(alloc, imported_of(alloc, pgn, given))
+}
+
+fn of_words<'a, A: Allocator>(alloc: &'a A) -> Answer<'a, A>
+    ensures { IsWording result.text.items result.ended }
+{
+    answer_of(alloc, words_of(alloc))
+}
+
+fn of_remarks<'a, A: Allocator>(alloc: &'a A, script: &[u8]) -> Answer<'a, A>
+    ensures { IsRemarkList script.now result.text.items result.ended }
+{
+    answer_of(alloc, remarks_of(alloc, script))
 }

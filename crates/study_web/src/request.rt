@@ -66,6 +66,10 @@ pub enum Request<'r> {
     Unread(Unread),
     /// `import` or `import SIDE GOAL`: the script of the games of PGN; the stipulation is for the games that have none of their own.
     Import(Option<Stipulation>),
+    /// `words`: words that the page shows without a reply that has them.
+    Words,
+    /// `remarks`: the remarks of the script, apart.
+    Remarks,
     /// `row win FEN`, `row draw FEN`: how many only moves in a row the defender can make the side to move find.
     Row(Rowed),
 }
@@ -111,6 +115,10 @@ fn read_words<'r>(word: &'r [u8], rest: &'r [u8]) -> Result<Request<'r>, Refusal
         read_import(rest)
     } else if word == b"row".as_slice() {
         read_row(rest)
+    } else if word == b"words".as_slice() {
+        without_arguments(rest, Request::Words)
+    } else if word == b"remarks".as_slice() {
+        without_arguments(rest, Request::Remarks)
     } else {
         Err(Refusal::Form(SyntaxFault::UnknownCommand))
     }

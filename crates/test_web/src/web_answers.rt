@@ -315,6 +315,8 @@ fn refused_by_name(rt: HostRuntime) -> Result<(), Fail> {
         ("row win 4k3/8/8/8/8/8/8/R3K3 w - -", "NoTable KRK\n"),
         ("import white", "UnknownStipulation\n"),
         ("import white win 5", "BadArguments\n"),
+        ("words all", "BadArguments\n"),
+        ("remarks all", "BadArguments\n"),
     ];
     for (request, name) in cases {
         let text = refusal(&alloc, request, "", &[], &[])?;
@@ -381,33 +383,63 @@ fn files_that_are_not_needed(rt: HostRuntime) -> Result<(), Fail> {
     Ok(())
 }
 
-/// In heaps of growing size a request is refused or stopped for want of memory, until it is answered.
-#[test]
-fn memory_for_an_answer(rt: HostRuntime) -> Result<(), Fail> {
-    let alloc = rt.alloc();
+/// Tries a request in heaps of growing size: it is refused or stopped for want of memory, until it is answered with this text.
+fn answered_with_memory(
+    alloc: Global,
+    request: &str,
+    script: &str,
+    text: &[u8],
+) -> Result<(), Fail> {
     let mut refused = 0u32;
-    for step in 0..400usize {
-        let heap = LocalHeap::new(alloc, 64 + step * 32)?;
+    for step in 0..500usize {
+        let heap = LocalHeap::new(alloc, 64 + step * 64)?;
         let saved = Vec::new(&heap);
-        let view = b"view root".as_slice();
-        let script = b"square\n".as_slice();
         let files = TableFiles {
             spans: &[],
             bytes: &[],
             pages: Some(1),
         };
-        let reply = answer(&heap, view, script, &files, saved.as_slice());
+        let reply = answer(
+            &heap,
+            request.as_bytes(),
+            script.as_bytes(),
+            &files,
+            saved.as_slice(),
+        );
         if reply.ended == Ending::Answered {
-            assert!(rt; reply.text.as_slice() == b"refused 1 UnknownCommand\n".as_slice());
-            assert!(rt; refused > 0);
+            if reply.text.as_slice() != text || refused == 0 {
+                return Err(Fail::from("another answer"));
+            }
             return Ok(());
         }
         let named = reply.text.as_slice() == b"OutOfMemory\n".as_slice();
         let stopped = reply.ended == Ending::Stopped(RunFault::OutOfMemory);
-        assert!(rt; named || stopped && reply.text.is_empty(), "{step}");
+        if !named && !(stopped && reply.text.is_empty()) {
+            return Err(Fail::from("another fault"));
+        }
         refused = refused.saturating_add(1);
     }
     Err(Fail::from("no heap was large enough"))
+}
+
+/// Requests with little memory.
+#[test]
+fn memory_for_an_answer(rt: HostRuntime) -> Result<(), Fail> {
+    let alloc = rt.alloc();
+    answered_with_memory(
+        alloc,
+        "view root",
+        "square\n",
+        b"refused 1 UnknownCommand\n",
+    )?;
+    answered_with_memory(
+        alloc,
+        "remarks",
+        "#! games 3, studies 2\n",
+        b"1\ttotal\t3\t2\n",
+    )?;
+    let words = ask(&alloc, "words", "", &[], &[]);
+    answered_with_memory(alloc, "words", "", words.text.as_slice())
 }
 
 /// By an independent program: the one draw of king and rook with two only moves in a row and a king on c3, and its first image with
@@ -507,5 +539,98 @@ fn games_come_in(rt: HostRuntime) -> Result<(), Fail> {
     let given = ask(&alloc, "import white draw", GAME, &[], &[]);
     assert!(rt; given.ended == Ending::Answered);
     assert!(rt; given.text.as_slice().ends_with(BLOCK.as_bytes()));
+    Ok(())
+}
+
+/// Lines as docs/IMPORT.md has them, two of version 1.7, and comments.
+const REMARKS: &str = r#"#! game 1, line 1: stipulated by its comment
+#! game 4, line 52, column 17 (Kasparyan, G.): NoSuchMove at Kb6
+#! game 5, line 60 (A (B)): left out: 7 men
+#! game 6, line 70, column 3: not read: 7. b6
+#! game 7, line 80: stipulated by the option
+#! the stipulation differs from its tag Result
+#! the stipulation of its comment is not understood
+#! not taken over: comments 9, NAGs 4
+#! behind the result: line 14, column 715
+#! White was: Troickij
+position 8/8
+#! a tail: moves before 3; its position is another program's word
+#! games 7, studies 2
+# game 7, line 3: left out: 5 men
+# White was: R
+# a study
+#! note Kg3: good
+ # no remark
+#! game 8, line 1: stipulated by hand
+"#;
+
+/// Each kind with its fields; a column and an author may be missing.
+const ROWS: &str = "1\tstipulated\t1\t1\t\t\tcomment
+2\tleft-out\t4\t52\t17\tKasparyan, G.\tNoSuchMove at Kb6
+3\tleft-out\t5\t60\t\tA (B)\tleft out: 7 men
+4\tnot-read\t6\t70\t3\t\t7. b6
+5\tstipulated\t7\t80\t\t\toption
+6\tdoubted\tresult-tag-differs
+7\tdoubted\tcomment-unread
+8\tnot-taken-over\tcomments 9, NAGs 4
+9\tbehind-result\t14\t715
+10\toriginal\tWhite\tTroickij
+12\ttail\t3
+13\ttotal\t7\t2
+14\tleft-out\t7\t3\t\t\tleft out: 5 men
+15\toriginal\tWhite\tR
+16\tother\ta study
+17\tother\tnote Kg3: good
+19\tother\tgame 8, line 1: stipulated by hand
+";
+
+/// Remarks are taken apart, each at the number of its line.
+#[test]
+fn remarks_apart(rt: HostRuntime) -> Result<(), Fail> {
+    let alloc = rt.alloc();
+    let remarks = ask(&alloc, "remarks", REMARKS, &[], &[]);
+    assert!(rt; remarks.ended == Ending::Answered);
+    assert!(rt; remarks.text.as_slice() == ROWS.as_bytes());
+    let none = ask(&alloc, "remarks", SCRIPT, &[], &[]);
+    assert!(rt; none.ended == Ending::Answered && none.text.is_empty());
+    Ok(())
+}
+
+/// Lines as the printed page and docs/SCRIPT.md have them.
+const SAID: &str = "refused BadByte a letter outside plain ASCII
+refused ShiftBroken a move of the tree is not legal from the new start
+refused OutOfMemory no memory is left
+left-out NullMove a null move in the main line
+left-out TooNested more than 256 variations within one another
+command position edit
+command mark question
+command verify table
+word draw draw
+word mates White mates in 1
+word start At the start: draw.
+word holds holds
+word time sound but for loss of time
+word unread not read: line 1
+word unread-sentence A line of this study was refused, so it is not stamped.
+word time-sentence The stipulation holds; the solution has one fault, which loses time alone.
+word times-sentence The stipulation holds; the solution has 2 faults, which lose time alone.
+word untitled Untitled
+word tries Tries and their refutations
+word list-heads No.\tTitle\tAuthor\tStipulation\tVerdict
+word longer , 1 move longer
+word hold 2 hold
+word full full point\tBlack wins\tWhite wins
+word half-black half a point\tBlack wins\tdraw
+";
+
+/// The words that a page needs without a reply.
+#[test]
+fn words_without_a_reply(rt: HostRuntime) -> Result<(), Fail> {
+    let alloc = rt.alloc();
+    let words = ask(&alloc, "words", "", &[], &[]);
+    assert!(rt; words.ended == Ending::Answered);
+    for line in SAID.lines() {
+        assert!(rt; has(words.text.as_slice(), line), "{line}");
+    }
     Ok(())
 }

@@ -2,7 +2,7 @@ use Rattle.std.proofs.Common.{◌≡◌, false, Err, refl, sym, ap, subst, ◌�
 use Rattle.study_values.specs.declared.values.ProbeFault.{ProbeFault}
 use Rattle.study_tree.specs.Tree.{has_spot}
 use Rattle.study_marks.specs.Study.{plain_study}
-use Rattle.study_script.specs.State.{study}
+use Rattle.study_command.specs.Documents.{study}
 use Rattle.study_web.specs.Views.{StudyStopped}
 use Rattle.study_reply.specs.declared.refusal.Refusal.{Refusal}
 use Rattle.study_web.specs.declared.request_fault.RequestFault.TheVariants as denial

@@ -4,7 +4,8 @@ use Rattle.study_material.specs.Class.{class_list}
 use Rattle.study_prober.specs.PagedTables.{held_of}
 use Rattle.study_command.specs.Paths.{steps_of}
 use Rattle.study_script.specs.SessionHolds.{document_seen}
-use Rattle.study_script.specs.State.{Document, StoreKnowledge, is_among}
+use Rattle.study_command.specs.Documents.{Document}
+use Rattle.study_script.specs.State.{StoreKnowledge, is_among}
 use Rattle.study_web.specs.Answers.{IsNever, IsUnread}
 use Rattle.study_web.specs.Opened.{IsHeldAs, IsOfTables}
 use Rattle.study_web.specs.Views.{IsValueFaultOver, LacksNode, LacksNodeOver, OverStore}
