@@ -14,7 +14,6 @@ for it in "rt:the Rattle toolchain" "python3:Debian's python3" "esbuild:Debian's
     command -v "${it%%:*}" > /dev/null || missing="$missing; ${it%%:*} is in ${it#*:}"
 done
 [ -z "$missing" ] || { echo "tools/release/web.sh: not everything is here$missing" >&2; exit 2; }
-python3 "$top/tools/release/write_core_words.py" --check
 . "$top/tools/release/libraries.sh"
 target=wasm64-unknown-unknown; name=study_web_module
 mkdir -p "$work/out" "$top/web/out"

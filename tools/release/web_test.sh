@@ -13,7 +13,6 @@ tables=${1:-}; page=${STUDYBOARD:-$top/web/out/studyboard.html}; python=${PYTHON
 say() { echo "tools/release/web_test.sh: $1"; }
 try() { "$@" || status=1; }
 
-try "$python" "$top/tools/release/write_core_words.py" --check
 if ! command -v tsc > /dev/null; then
     say "no tsc (Debian's node-typescript): types are not checked"
 elif tsc -p "$top/web"; then echo "types: checked"; else status=1; fi

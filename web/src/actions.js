@@ -1,6 +1,6 @@
 // @ts-check
 // What is done to the document, one action after the other.
-import {countsOf, linesToRun, repliesTo, reviewOf, viewOf} from './answer_cache.js';
+import {countsOf, learn, linesToRun, repliesTo, reviewOf, viewOf} from './answer_cache.js';
 import {newlyRefused} from './entries.js';
 import {advance, redo as redone, replace, undo as undone} from './history.js';
 import {editsTo, fensOf, toText, overLimit, readScript, repliesOf, wordsOf} from './script.js';
@@ -60,7 +60,8 @@ function showFault(fault, where) {
  */
 export async function evaluate(lines) {
   readable(lines);
-  const {sent, texts} = await linesToRun(lines), {text, ended} = await repliesTo(toText(texts));
+  const {sent, texts} = await linesToRun(lines),
+               [{text, ended}] = await Promise.all([repliesTo(toText(texts)), learn(lines)]);
   if (ended === 'TooManyLines') throw notRun(ended);
   if (ended !== 'done') throw new Error(endedReason(ended));
   return readScript(lines, sent, repliesOf(texts, text).slice(texts.length - sent.length));
@@ -140,6 +141,7 @@ async function showUnmarked(make) {
   const now = doc(), wanted = make(now);
   if (!wanted) return;
   readable(wanted.lines);
+  await learn(wanted.lines);
   await arrive(advance(app.history, docAfter(now, wanted, unjudged(wanted.lines), false)));
 }
 /**
@@ -225,6 +227,7 @@ async function read(history) {
   if (now.judged) return history;
   const here = !(await services.tables.lacking(fensOf(now.lines))).length;
   if (here) prefetchView({...now, studies: []}, {lines: now.lines, at: now.at, path: now.path}).catch(() => {});
+  await learn(now.lines);
   const script = here ? await evaluate(now.lines) : unjudged(now.lines);
   return replace(
     history, {...now, ...script, at: Math.max(0, Math.min(now.at, script.studies.length - 1)), judged: here});

@@ -1,8 +1,10 @@
 // @ts-check
 // What the program has answered, kept by the text of its script: replies, views and reviews.
 import {countsIn, readReview, readView, refusalIn} from './parse_answers.js';
-import {fensOf, toRun} from './script.js';
+import {keepRemarks, unknownIn} from './remarks.js';
+import {fensOf, toRun, toText} from './script.js';
 import {PAGES, app, services} from './state.js';
+import {readWording} from './wording.js';
 import {reason} from './words.js';
 /** @typedef {import('./types.js').View} View @typedef {import('./types.js').Review} Review */
 /** @typedef {import('./types.js').Answer} Answer @typedef {import('./types.js').Engine} Engine */
@@ -19,6 +21,23 @@ export const pause = (/** @type {number} */ ms) => new Promise(on => setTimeout(
 function remember(map, key, value) {
   while (map.size >= (key.length < LARGE ? 400 : 40)) map.delete(map.keys().next().value || '');
   map.set(key, value);
+}
+
+// ---- words and remarks
+/** Asks for the words that no reply has. */
+export async function learnWords() {
+  const {text, ended} = await services.core.answer('words', '', PAGES);
+  if (ended === 'done') readWording(text);
+}
+/**
+ * Has the program read the remarks of lines that it has not read yet.
+ * @param {string[]} lines
+ */
+export async function learn(lines) {
+  const unknown = unknownIn(lines);
+  if (!unknown.length) return;
+  const {text, ended} = await services.core.answer('remarks', toText(unknown), PAGES);
+  if (ended === 'done') keepRemarks(unknown, text);
 }
 
 // ---- replies

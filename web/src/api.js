@@ -89,6 +89,13 @@ export function makeApi(spawn) {
       await services.tables.ready([fen]);
       return answer(`row ${goal} ${fen}`, '');
     },
+    /** The words that no reply has. */
+    words: () => answer('words', ''),
+    /**
+     * The remarks and comments of a script, a line each, with tabs between their fields.
+     * @param {string} script
+     */
+    remarks: script => answer('remarks', script),
     /**
      * The tables that a script's positions need.
      * @param {string} script

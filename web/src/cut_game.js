@@ -2,6 +2,7 @@
 // A game of a PGN with a bad move, up to there: its text is kept in remarks, cut at the place that the program reports;
 // what stands before is read as a game, and a line that is refused says where it ends.
 import {leftOutBy} from './left_out.js';
+import {ownRemark, remarkOf} from './remarks.js';
 import {RESULT, TOKEN, isMoveText, looseMove, plain} from './notes.js';
 import {bareTree} from './unmarked.js';
 /**
@@ -24,6 +25,12 @@ export function textRemarks({text, rest}) {
     ...behind.flat()
   ];
 }
+const PARTS = /** @type {Record<string, {of: keyof CutText, more: boolean}>} */ ({
+  'text:': {of: 'text', more: false},
+  'text+:': {of: 'text', more: true},
+  'rest:': {of: 'rest', more: false},
+  'rest+:': {of: 'rest', more: true}
+});
 /**
  * The text that remarks keep.
  * @param {string[]} remarks
@@ -32,10 +39,10 @@ export function textRemarks({text, rest}) {
 export function textIn(remarks) {
   const found = {text: '', rest: ''};
   let begun = false;
-  for (const line of remarks) {
-    const [, name, more, part] = /^#! (text|rest)(\+?): (.*)$/.exec(line) || [];
-    if (name) found[/** @type {'text' | 'rest'} */ (name)] += (more || !begun ? '' : '\n') + part;
-    begun = begun || Boolean(name);
+  for (const {word, rest} of remarks.map(ownRemark)) {
+    const part = PARTS[word];
+    if (part) found[part.of] += (part.more || !begun ? '' : '\n') + rest;
+    begun = begun || Boolean(part);
   }
   return begun ? found : null;
 }
@@ -91,7 +98,7 @@ export function upTo({text, rest}) {
   };
 }
 /**
- * The node of a tree to which moves lead; the start, where they are not found.
+ * The node of a tree that moves lead to; the start, if they are not in the tree.
  * @param {import('./unmarked.js').Bare} root
  * @param {string[]} moves
  */
@@ -126,7 +133,8 @@ export function cutBlock(block, game, cut) {
  * @param {number} line
  */
 export function leftOutText(lines, line) {
-  const found = lines.findIndex((text, at) => at > line && !/^#! (its |text|rest)/.test(text)),
+  const found =
+          lines.findIndex((text, at) => at > line && ownRemark(text).word !== 'its' && !PARTS[ownRemark(text).word]),
         end = found < 0 ? lines.length : found;
   return {game: leftOutBy(lines[line] || ''), cut: textIn(lines.slice(line + 1, end)), end};
 }
@@ -149,5 +157,7 @@ export function cutOf(text, line, game, lettersIn) {
  * @param {number} game
  * @param {number} line
  */
-export const asGame = (block, game, line) =>
-  block.map(text => text.replace(/^#! game 1, line \d+(?=[:,])/, `#! game ${game}, line ${line}`));
+export const asGame = (block, game, line) => block.map(text => {
+  const remark = remarkOf(text);
+  return remark && remark.game === 1 ? text.replace(`game 1, line ${remark.line}`, `game ${game}, line ${line}`) : text;
+});

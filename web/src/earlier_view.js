@@ -68,7 +68,7 @@ const moveView = move => h('button',
   {class: `chip m ${move.mark}`, 'data-before': move.san, title: control(move.fen), onclick: () => choose(move)},
   move.san, markSign(move) && h('b', {}, markSign(move)), h('small', {}, ` from ${squareName(move.from)}`));
 /**
- * What the marks of the moves say, of which those come first that are best.
+ * What the marks of the moves say; the best moves come first.
  * @param {Before[]} list
  * @param {boolean} mine      whether they are the hero's
  */

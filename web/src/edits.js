@@ -174,8 +174,8 @@ const isUpTo = (n, most) => !n || (Number(n) >= 1 && Number(n) <= most);
  */
 const daysIn = (year, month) => new Date(Date.UTC(Number(year) || 2000, Number(month) || 1, 0)).getUTCDate();
 /**
- * A date as PGN writes it, of which year, month and day are known, or not all: `1895`, `1921-05`, `12 May 1921`, `May
- * 1921`, `12.5.1921`. What is no date is left as it is.
+ * A date as PGN writes it, with year, month and day, or only some of them: `1895`, `1921-05`, `12 May 1921`,
+ * `May 1921`, `12.5.1921`. Any other text stays as it is.
  * @param {string} text
  */
 export function wholeDate(text) {

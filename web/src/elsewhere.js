@@ -1,13 +1,13 @@
 // @ts-check
 // A man on another square: how many only moves in a row the side to move would have to find, and what a study's tree
 // would be. Both are for the program to say.
-import {HOLDS_STAMP} from './core_words.js';
 import {hasHeroMove} from './entries.js';
 import {menOf, placement} from './fen.js';
 import {readReview, readView, refusalIn} from './parse_answers.js';
 import {toText} from './script.js';
 import {PAGES} from './state.js';
 import {insertions, legalPart, turnedTree} from './turning.js';
+import {wordOf} from './wording.js';
 import {counted, reason} from './words.js';
 /** @typedef {import('./types.js').Engine} Engine @typedef {import('./unmarked.js').Bare} Bare */
 /** @typedef {import('./types.js').View} View */
@@ -87,7 +87,7 @@ async function stampThere(core, view, lines) {
   if (!view || !view.aim) return {faults: 0, stamp: ''};
   const {fen, aim, root, verdict} = view;
   if (!root.faults)
-    return {faults: 0, stamp: verdict === 'sound' && !hasHeroMove(root, fen, aim) ? HOLDS_STAMP : verdict};
+    return {faults: 0, stamp: verdict === 'sound' && !hasHeroMove(root, fen, aim) ? wordOf('holds') : verdict};
   const review = readReview((await core.answer('review', toText(lines), PAGES)).text);
   return {faults: root.faults, stamp: (review && review.waste) || verdict};
 }

@@ -1,12 +1,12 @@
 // @ts-check
 // The entries of a script, one a row: its studies with what is said of them, and those that were left out.
-import {HOLDS_STAMP, NOT_READ} from './core_words.js';
 import {isKnown} from './edits.js';
 import {control, sideOf} from './fen.js';
 import {mostGames, originalsIn, sourceText} from './imported.js';
 import {leftOutBy, whyLeftOut} from './left_out.js';
 import {isCommand, isEdit, isPosition, wordsOf} from './script.js';
 import {bareTree} from './unmarked.js';
+import {wordOf} from './wording.js';
 import {aimText, reason} from './words.js';
 /** @typedef {import('./types.js').Study} Study @typedef {import('./types.js').Doc} Doc */
 /** @typedef {import('./types.js').Review} Review */
@@ -85,9 +85,11 @@ function refusedText({text}) {
   const words = wordsOf(text);
   return words.slice(words[0] === 'insert' ? 2 : 0).join(' ').slice(0, 40);
 }
+/** @param {import('./types.js').Refused} r */
+const unreadAt = ({line}) => wordOf('unread').replace('1', `${line + 1}`);
 /**
- * What is said in a game of a study that was not read to its end: up to which move of the file, or by the first line
- * that was refused. Its verdict is not that of the entry then.
+ * What a game says if its study was not read to the end: up to which move of the file it was read, or the first line
+ * that was refused. Then its verdict is not the entry's.
  * @param {{refused: import('./types.js').Refused[]}} doc
  * @param {Study} s
  */
@@ -106,9 +108,9 @@ export function unreadIn(doc, s) {
 export function stampOf(doc, s, review) {
   const unread = refusedIn(doc, s, isEdit), [kind] = s.verdict.split(' ');
   if (s.origin && s.origin.cut) return {kind: 'not read', text: unreadIn(doc, s)};
-  if (unread) return {kind: 'not read', text: `${NOT_READ}${unread.line + 1}, ${refusedText(unread)}`};
+  if (unread) return {kind: 'not read', text: `${unreadAt(unread)}, ${refusedText(unread)}`};
   if (!kind) return {kind: 'not judged', text: 'not judged'};
-  if (kind === 'sound' && !hasSolution(doc.lines, s, review)) return {kind: 'holds', text: HOLDS_STAMP};
+  if (kind === 'sound' && !hasSolution(doc.lines, s, review)) return {kind: 'holds', text: wordOf('holds')};
   if (review && review.waste.startsWith('sound')) return {kind: 'time', text: review.waste};
   return {kind, text: (review && review.waste) || s.verdict};
 }

@@ -1,18 +1,17 @@
 // @ts-check
 // The list of entries: how many there are of each kind, as a menu, and as a file.
-import {TIME_STAMP} from './core_words.js';
 import {studyName} from './entries.js';
 import {againstText} from './imported.js';
+import {wordOf} from './wording.js';
 /** @typedef {import('./entries.js').Entry} Entry */
 
 const KINDS = ['sound', 'time', 'unsound', 'wrong', 'holds', 'not read', 'left out', 'not judged'];
 const DIFFER = 'differ';
-/** @type {Record<string, string>} */
-export const KIND_WORDS = {
-  time: TIME_STAMP,
-  unsound: 'unsound',
-  [DIFFER]: 'whose sources differ'
-};
+/**
+ * The words of a kind in the menu.
+ * @param {string} kind
+ */
+export const kindWords = kind => (kind === 'time' ? wordOf('time') : kind === DIFFER ? 'whose sources differ' : kind);
 /**
  * Whether an entry is of a kind; of those whose sources of a stipulation differ, whatever its verdict.
  * @param {{kind: string, against?: string[]}} entry
@@ -43,8 +42,8 @@ export function menuText(studies, {at, number, title, author, stamp}) {
  */
 const field = value => (/[",\r\n]/.test(`${value}`) ? `"${`${value}`.replace(/"/g, '""')}"` : `${value}`);
 /**
- * The list as comma-separated values, lines ended by CR LF: numbers of duals, of those that lose time alone, and of
- * defences that are not in the tree, where they are known.
+ * The list as comma-separated values, with CR LF at the end of each line: the numbers of duals, of duals that only lose
+ * time, and of defences that are not in the tree, if they are known.
  * @param {Entry[]} entries
  */
 export function csvOf(entries) {

@@ -2,7 +2,6 @@
 // The head of a study: title, stipulation, tags.
 import {$, h} from './dom.js';
 import {change} from './actions.js';
-import {UNTITLED} from './core_words.js';
 import {app, doc, services, say} from './state.js';
 import {isDate, isKnown, setTag, stipulate, wholeDate} from './edits.js';
 import {isAimCarried, isCarried, nameOf, numbersOf} from './entries.js';
@@ -12,6 +11,7 @@ import {plainText} from './opening.js';
 import {guess} from './setup.js';
 import {typedOr} from './node_view.js';
 import {TAGS} from './script.js';
+import {wordOf} from './wording.js';
 import {aimWords} from './words.js';
 /** @typedef {import('./types.js').Study} Study @typedef {import('./types.js').Aim} Aim */
 
@@ -34,7 +34,7 @@ export function headView(s) {
       .join(' · ');
   const old = Object.keys(t).filter(name => isCarried(s, name) && isKnown(t[name]));
   return [
-    h('h1', {}, nameOf(s, 'Event') || UNTITLED), by && h('p', {class: 'by'}, by),
+    h('h1', {}, nameOf(s, 'Event') || wordOf('untitled')), by && h('p', {class: 'by'}, by),
     old.length > 0 &&
       h('p', {class: 'note'}, `Set for an earlier study and not since: ${old.map(name => LABELS[name]).join(', ')}. `,
         h('button',

@@ -56,7 +56,7 @@ function noteView(note) {
 }
 const MOST_OFFERED = 5;
 /**
- * The games of a PGN of which none was read that can be read up to a bad move.
+ * If no game of a PGN was read, the games that can be read up to a bad move.
  * @param {Source} again
  */
 function upToView(again) {

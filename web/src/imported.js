@@ -1,7 +1,8 @@
 // @ts-check
 // What the program makes of a PGN: blocks of lines with remarks above them, and for each game that has none a remark
-// that says why. A remark begins with `#!`; scripts of version 1.7 have `#`, and are read, too.
-import {GAME, STIPULATED, cutIn, leftOut, whyLeftOut} from './left_out.js';
+// that says why.
+import {cutIn, leftOut, whyLeftOut} from './left_out.js';
+import {cutAt, ownRemark, remarkOf, remarksOfKind} from './remarks.js';
 import {counted} from './words.js';
 /**
  * Whether a text is a PGN: its first line is a tag, or some line is the tag of a position.
@@ -19,7 +20,7 @@ export function decode(bytes) {
 }
 /**
  * The bytes of a file in UTF-8, where the mark at their front says that they are UTF-16; with line feeds, where its
- * lines end with carriage returns alone.
+ * lines end with carriage returns only.
  * @param {Uint8Array} bytes
  */
 export function plainBytes(bytes) {
@@ -27,7 +28,6 @@ export function plainBytes(bytes) {
   const read = code ? new TextEncoder().encode(new TextDecoder(code).decode(bytes)) : bytes;
   return read.includes(10) ? read : read.map(byte => (byte === 13 ? 10 : byte));
 }
-const AGAINST = /^#! the stipulation (.*)$/, COUNTS = /^#!? games (\d+), studies (\d+)$/;
 /** @param {import('./left_out.js').LeftOut} game */
 const placeOf = ({game, line, column, author}) =>
   `game ${game}${author && ` (${author})`}, line ${line}${column ? `, column ${column}` : ''}`;
@@ -36,19 +36,20 @@ const GONE = /** @type {Record<string, [string, string]>} */ ({
   'null moves': ['null move', 'null moves'],
   'moves behind': ['move behind a null move', 'moves behind null moves']
 });
+/** @param {{word: string, rest: string}} remark */
+const isAtNullMove = ({word, rest}) => word === 'note' && cutAt(rest, ': ')[0].split(' ').includes('--');
 /**
  * What of a PGN is not in the script, in no form: its comments, NAGs and other tags are kept as remarks.
  * @param {string[]} lines
  */
 export function notKept(lines) {
   const sums = /** @type {Map<string, number>} */ (new Map());
-  for (const line of lines) {
-    const m = /^#!? not taken over: (.*)$/.exec(line);
-    for (const [, name, n] of m ? m[1].matchAll(/([A-Za-z ]+?) (\d+)(?:, |$)/g) : [])
-      if (GONE[name]) sums.set(name, (sums.get(name) || 0) + Number(n));
+  for (const count of remarksOfKind(lines, 'not-taken-over').flatMap(({said}) => said.split(', '))) {
+    const at = count.lastIndexOf(' '), name = count.slice(0, at);
+    if (GONE[name]) sums.set(name, (sums.get(name) || 0) + Number(count.slice(at)));
   }
-  const many = (/** @type {RegExp} */ form) => lines.filter(line => form.test(line)).length,
-        atNull = many(/^#!? note (\S+ )*--[ :]/), behind = many(/^#!? behind the result: /);
+  const atNull = lines.map(ownRemark).filter(isAtNullMove).length,
+        behind = remarksOfKind(lines, 'behind-result').length;
   const list = [...sums].map(([name, n]) => counted(n, ...GONE[name]));
   if (atNull) list.push(counted(atNull, 'comment or NAG there', 'comments and NAGs there'));
   if (behind) list.push(behind === 1 ? 'text behind a result' : `text behind ${behind} results`);
@@ -65,15 +66,16 @@ function firstLeftOut(games) {
   return first.join('; ') + (games.length > MOST ? `; and ${games.length - MOST} more` : '');
 }
 /**
- * The games of an import whose sources of a stipulation differ, or have one that is not understood.
+ * The games of an import with sources of a stipulation that differ, or with one that is not understood.
  * @param {string[]} lines
  */
 function doubtedGames(lines) {
   const games = /** @type {Set<string>} */ (new Set());
   let game = '';
   for (const line of lines) {
-    game = (GAME.exec(line) || [])[1] || game;
-    if (AGAINST.test(line)) games.add(game);
+    const remark = remarkOf(line);
+    if (remark && remark.game) game = `${remark.game}`;
+    if (remark && remark.kind === 'doubted') games.add(game);
   }
   return [...games];
 }
@@ -88,93 +90,134 @@ const doubtNote = games =>
  * @param {string[]} lines
  */
 export function importNote(lines) {
-  const counts = lines.map(line => COUNTS.exec(line)).find(Boolean), out = leftOut(lines);
+  const [counts] = remarksOfKind(lines, 'total'), out = leftOut(lines);
   if (!counts) return '';
-  const listed = Number(counts[2]) > 0 && out.length > 1,
+  const listed = counts.studies > 0 && out.length > 1,
         which = listed ? `${out.length} games, each with its reason in the list` : firstLeftOut(out);
-  return `${counted(Number(counts[1]), 'game')}, ${counted(Number(counts[2]), 'study', 'studies')}.` +
+  return `${counted(counts.games, 'game')}, ${counted(counts.studies, 'study', 'studies')}.` +
     (out.length ? ` Left out: ${which}.` : '') + doubtNote(doubtedGames(lines));
 }
+/** @param {string} line */
+const isTotal = line => remarksOfKind([line], 'total').length > 0;
 /**
  * The lines of an import as a document: without the counts at its end, which the next change would make wrong.
  * @param {string[]} lines
  */
 export function documentOf(lines) {
-  const kept = lines.filter(line => !COUNTS.test(line));
+  const kept = lines.filter(line => !isTotal(line));
   while (kept.length && kept[kept.length - 1] === '') kept.pop();
   return kept;
 }
 /**
  * Where a study comes from, as the remarks above its position say: the game of the file and its line, which source its
- * stipulation is from, as `its tag Result`, and what speaks against it, as `differs from its result`; where it ends,
- * if a bad move stands there in the file.
+ * stipulation is from, such as `result-tag`, and what speaks against it, such as `result-differs`; where it ends, if a
+ * bad move stands there in the file.
  * @typedef {{game: number, line: number, source: string, against: string[],
  *   cut: import('./left_out.js').Cut | null}} Origin
  */
+/** What the page writes where the user states another stipulation. */
+const BY_HAND = 'stipulated by hand', HAND = 'hand';
+/**
+ * The game of a remark that says where a stipulation is from.
+ * @param {string} row
+ */
+function stipulatedBy(row) {
+  const remark = remarkOf(row);
+  if (!remark) return null;
+  if (remark.kind === 'stipulated') return {game: remark.game, line: remark.line, source: remark.said};
+  if (remark.kind !== 'other' || !remark.said.endsWith(`: ${BY_HAND}`)) return null;
+  const [, game, , line] = cutAt(remark.said, ':')[0].split(/,? /);
+  return {game: Number(game), line: Number(line), source: HAND};
+}
+/**
+ * Whether the file states a stipulation.
+ * @param {Origin} origin
+ */
+export const isOfFile = ({source}) => source !== '' && source !== HAND && source !== 'option';
 /**
  * @param {string[]} remarks
  * @returns {Origin}
  */
 export function originIn(remarks) {
-  const found = remarks.map(line => GAME.exec(line)).find(m => m && m[5].startsWith(STIPULATED)),
-        against = remarks.map(line => AGAINST.exec(line)).filter(Boolean);
-  return {
-    game: found ? Number(found[1]) : 0,
-    line: found ? Number(found[2]) : 0,
-    source: found ? found[5].slice(STIPULATED.length) : '',
-    against: /** @type {RegExpExecArray[]} */ (against).map(m => m[1]),
-    cut: cutIn(remarks)
-  };
+  const found = remarks.map(stipulatedBy).find(Boolean) || {game: 0, line: 0, source: ''},
+        against = remarksOfKind(remarks, 'doubted').map(({said}) => said);
+  return {...found, against, cut: cutIn(remarks)};
 }
 /**
  * The remarks above a position once the user states another stipulation, or sets up other men: what the file says of
  * stipulation and result, and the marks in it, are of what stood there before.
  * @param {string[]} remarks
  */
-export const restated = remarks =>
-  remarks.filter(line => !AGAINST.test(line) && !/^#!? (tag Result|result|mark) /.test(line)).map(line => {
-    const m = GAME.exec(line);
-    return m && m[5].startsWith(STIPULATED) ? `${line.slice(0, line.length - m[5].length)}${STIPULATED}hand` : line;
-  });
+export const restated = remarks => remarks.filter(line => !isOfBefore(line)).map(line => {
+  const [stipulated] = remarksOfKind([line], 'stipulated');
+  if (!stipulated) return line;
+  const {game, line: row, author} = stipulated;
+  return `#! game ${game}, line ${row}${author && ` (${author})`}: ${BY_HAND}`;
+});
+/**
+ * Whether a remark says what the file states as stipulation, as result, or as marks.
+ * @param {string} line
+ */
+function isOfBefore(line) {
+  const {word, rest} = ownRemark(line);
+  return remarksOfKind([line], 'doubted').length > 0 || word === 'result' || word === 'mark' ||
+    (word === 'tag' && cutAt(rest, ' ')[0] === 'Result');
+}
 /**
  * Whether a remark says which game of the file a study is, which a copy of it is not.
  * @param {string} line
  */
-export const isOfGame = line => AGAINST.test(line) || GAME.test(line);
+export function isOfGame(line) {
+  const remark = remarkOf(line);
+  return stipulatedBy(line) !== null || (remark !== null && (remark.game > 0 || remark.kind === 'doubted'));
+}
 const SOURCES = /** @type {Record<string, string>} */ ({
-  'its comment': 'from its comment',
-  'its tag Stipulation': 'from its tag Stipulation',
-  'its tag Result': 'from the Result',
-  'its result': 'from the final result',
-  'the option': 'chosen for games that state none'
+  'comment': 'from its comment',
+  'stipulation-tag': 'from its tag Stipulation',
+  'result-tag': 'from the Result',
+  'result': 'from the final result',
+  'option': 'chosen for games that state none'
 });
 /**
  * Where the stipulation of a study is from, in words; nothing where the user set it.
  * @param {Origin | undefined} origin
  */
 export const sourceText = origin => (origin && SOURCES[origin.source]) || '';
+const AGAINST = /** @type {Record<string, string>} */ ({
+  'comment-unread': 'its comment is not understood',
+  'stipulation-tag-unread': 'its tag Stipulation is not understood',
+  'stipulation-tag-differs': 'its tag Stipulation differs',
+  'result-tag-differs': 'its tag Result differs',
+  'result-differs': 'its result differs'
+});
 /**
- * What speaks against a stipulation, by the words of the remark: a source that differs, or is not understood.
+ * What speaks against a stipulation, in words: a source that differs, or is not understood.
  * @param {string} against
  */
-export const againstText = against => against.replace(/^differs from (.*)$/, '$1 differs').replace(/^of /, '');
+export const againstText = against => AGAINST[against] || against;
 /**
  * The greatest number of a game that the remarks of a script name; none where it was written by hand.
  * @param {string[]} lines
  */
 export const mostGames = lines => lines.reduce((most, line) => {
-  const m = line.startsWith('#') ? GAME.exec(line) : null;
-  return m ? Math.max(most, Number(m[1])) : most;
+  const remark = remarkOf(line), game = remark ? remark.game || (stipulatedBy(line) || {game: 0}).game : 0;
+  return Math.max(most, game);
 }, 0);
-const ORIGINAL = /^#!? (?:its )?(Event|White|Black|Site|Date|Round) was: (.*)$/;
+/**
+ * The name of a tag and its text in its own letters, if a remark has them: of a study, or of a game that is left out.
+ * @param {string} line
+ */
+function originalIn(line) {
+  const [own] = remarksOfKind([line], 'original'), {word, rest} = ownRemark(line);
+  return own ? [[own.name, own.said]] : word === 'its' ? [cutAt(rest, ' was: ')] : [];
+}
 /**
  * The texts of tags in their own letters, as remarks above a position have them.
  * @param {string[]} remarks
  * @returns {Record<string, string>}
  */
 export function originalsIn(remarks) {
-  const found = /** @type {RegExpExecArray[]} */ (remarks.map(line => ORIGINAL.exec(line)).filter(Boolean));
-  return Object.fromEntries(found.map(m => [m[1], m[2].trim()]));
+  return Object.fromEntries(remarks.flatMap(originalIn).map(([name, text]) => [name, text.trim()]));
 }
 /**
  * What the remarks above its position say of a study.

@@ -1,24 +1,31 @@
 // @ts-check
 // The games of a PGN that were left out: what their remarks say, in words, with what to write instead.
-import {GAME_REASONS} from './core_words.js';
+import {cutAt, ownRemark, remarkOf} from './remarks.js';
+import {gameReason} from './wording.js';
 import {reason} from './words.js';
 /**
  * A game that was left out: where in the PGN, its author as far as one is named, why, and at which text.
  * @typedef {{game: number, line: number, column: number, author: string, why: string, text: string}} LeftOut
  */
 
-export const GAME = /^#!? game (\d+), line (\d+)(?:, column (\d+))?(?: \(([^:]*)\))?: (.*)$/,
-             STIPULATED = 'stipulated by ';
+/**
+ * Why a game was left out, as a remark has it: `left out: 7 men`, `NoSuchMove at Kb6`.
+ * @param {string} said
+ */
+function whyIn(said) {
+  const [head, words] = cutAt(said, ': '), [why, text] = cutAt(head === 'left out' ? words : said, ' at ');
+  return {why, text};
+}
 /**
  * The game that a remark says was left out.
- * @param {string} line
+ * @param {string} row
  * @returns {LeftOut | null}
  */
-export function leftOutBy(line) {
-  const m = GAME.exec(line);
-  if (!m || m[5].startsWith(STIPULATED)) return null;
-  const [why, text = ''] = m[5].replace(/^left out: /, '').split(' at ');
-  return {game: Number(m[1]), line: Number(m[2]), column: Number(m[3]) || 0, author: m[4] || '', why, text};
+export function leftOutBy(row) {
+  const remark = remarkOf(row);
+  if (!remark || remark.kind !== 'left-out') return null;
+  const {game, line, column, author, said} = remark;
+  return {game, line, column, author, ...whyIn(said)};
 }
 /** @param {string[]} lines */
 export const leftOut = lines => /** @type {LeftOut[]} */ (lines.map(leftOutBy).filter(Boolean));
@@ -70,7 +77,7 @@ export function whyLeftOut({why, text}) {
   const kind = why === 'NotSan' ? kindOf(text) : '';
   const words = kind === 'foreign' ? 'not a move with the letters K Q R B N'
     : why === 'NotSan'             ? 'not a move'
-                                   : GAME_REASONS[why] || (/^[A-Z]\w+$/.test(why) ? reason('error ' + why) : why);
+                                   : gameReason(why) || (/^[A-Z]\w+$/.test(why) ? reason('error ' + why) : why);
   const instead = kind === 'foreign' ? 'write the men with these letters, as a PGN has them'
     : kind === 'word'                ? `write words in braces: {${text}}`
                    : /^\d+ men$/.test(why) ? 'write a position of two to four men, kings included'
@@ -100,16 +107,18 @@ export const canBeCut = game => game !== null && game.column > 0 && AMONG_MOVES.
  * @returns {Cut | null}
  */
 export function cutIn(remarks) {
-  const [, move, place, why] =
-    remarks.map(line => /^#! up to (.+), (line \d+, column \d+): (.+)$/.exec(line)).find(Boolean) || [];
-  const game = why ? leftOutBy(`#! game 0, ${place}: ${why}`) : null;
-  return game && {move, game};
+  const own = remarks.map(ownRemark).find(({word}) => word === 'up');
+  if (!own) return null;
+  const [move, behind] = cutAt(own.rest.slice('to '.length), ', line '), [place, said] = cutAt(behind, ': ');
+  const [line, column] = place.split(', column ').map(Number);
+  return said ? {move, game: {game: 0, line, column, author: '', ...whyIn(said)}} : null;
 }
+const OF_CUT = new Set(['up', 'text:', 'text+:', 'rest:', 'rest+:']);
 /**
  * The remarks above a position without what says that the game goes on.
  * @param {string[]} remarks
  */
-export const withoutCut = remarks => remarks.filter(line => !/^#! (up to |(text|rest)\+?: )/.test(line));
+export const withoutCut = remarks => remarks.filter(line => !OF_CUT.has(ownRemark(line).word));
 /**
  * Whether a line stands for the bad move.
  * @param {string} line

@@ -2,15 +2,15 @@
 // The list of a script's entries with their verdicts: how many of each kind, by which it is filtered, and as a file.
 import {button, download, h, smallButton} from './dom.js';
 import {goStudy, track} from './actions.js';
-import {HEADS, TITLES} from './core_words.js';
 import {doc, say, services} from './state.js';
-import {KIND_WORDS, countsOf, csvOf, isOfKind} from './entry_list.js';
+import {countsOf, csvOf, isOfKind, kindWords} from './entry_list.js';
 import {againstText} from './imported.js';
 import {canBeCut, leftOutBy} from './left_out.js';
 import {openLeftOut} from './mending.js';
 import {knownEntries, reviewAll} from './list_facts.js';
 import {table} from './review_view.js';
 import {verdictsBefore} from './script.js';
+import {wordOf, wordsNamed} from './wording.js';
 /** @typedef {import('./entries.js').Entry} Entry */
 
 let filter = '';
@@ -62,14 +62,14 @@ export function listView() {
     return entry.at < 0 ? text : button(text, 'show it', () => goStudy(entry.at), props);
   };
   const count = (/** @type {[string, number]} */[kind, n]) =>
-    button(`${n} ${KIND_WORDS[kind] || kind}`, 'show these alone', () => toggleFilter(kind),
+    button(`${n} ${kindWords(kind)}`, 'show these alone', () => toggleFilter(kind),
       {class: `chip act${filter === kind ? ' on' : ''}`, 'data-kind': kind, 'aria-pressed': `${filter === kind}`});
   return [
-    h('h2', {id: 'studiesTitle'}, TITLES.list),
+    h('h2', {id: 'studiesTitle'}, wordOf('list')),
     h('p', {class: 'row', role: 'group', 'aria-label': 'Show one kind'}, counts.map(count), h('span', {class: 'gap'}),
       button('Save list', 'as comma-separated values, with the numbers of duals and missing defences', saveList,
         {id: 'saveList'})),
-    table(HEADS.list.map(head => head.replace('pul', 'pu\u00adl')), shown,
+    table(wordsNamed('list-heads').map(head => head.replace('pul', 'pu\u00adl')), shown,
       entry => [number(entry), entry.title, entry.author, ...(entry.aim ? [aimCell(entry)] : []), stampView(entry)])
   ];
 }

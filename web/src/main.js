@@ -3,6 +3,7 @@
 import {$, download, onDocument} from './dom.js';
 import {makeApi} from './api.js';
 import {arrive, go, track, goStudy, judgeAgain, work} from './actions.js';
+import {learnWords} from './answer_cache.js';
 import {PAGES, app, doc, services, say, study} from './state.js';
 import {showBoard} from './board.js';
 import {listen} from './board_input.js';
@@ -234,9 +235,10 @@ async function start() {
   watch();
   const dark = local.getItem('studyboardDark');
   theme(dark === null ? matchMedia('(prefers-color-scheme: dark)').matches : dark === '1', false);
-  const {kept, draft} = await firstDocument();
+  const words = learnWords().catch(fault => console.error(fault)), {kept, draft} = await firstDocument();
+  if (kept) showBoard();
+  await words;
   if (kept) {
-    showBoard();
     await work(() => arrive(kept.history));
     // Where the program did not run at all the script is shown as it is, and can be saved.
     if (!doc().id) app.history = {...kept.history, now: {...kept.history.now, judged: true}};

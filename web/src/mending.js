@@ -37,7 +37,7 @@ async function readUpTo(game, cut, aim) {
  * @param {Study[]} studies
  */
 function chosenAim(studies) {
-  const [chosen] = studies.filter(s => s.aim && s.origin.source === 'the option');
+  const [chosen] = studies.filter(s => s.aim && s.origin.source === 'option');
   return chosen && chosen.aim ? aimWords(chosen.aim) : '';
 }
 /**

@@ -3,7 +3,6 @@
 import {button, h} from './dom.js';
 import {control, other, sideOf, squareName} from './fen.js';
 import {change, go} from './actions.js';
-import {AT_START} from './core_words.js';
 import {app, doc, node, services, say} from './state.js';
 import {flip} from './board.js';
 import {insert} from './board_input.js';
@@ -12,6 +11,7 @@ import {promoteNode, removeNode} from './edits.js';
 import {nodeAt} from './parse_answers.js';
 import {openSetup} from './setup.js';
 import {typedMoves as movesIn} from './typed.js';
+import {atStart} from './wording.js';
 import {counted, letsGo, markMeaning, markSign, moveName, valueSign, valueText, zugzwangText} from './words.js';
 /** @typedef {import('./types.js').TreeNode} TreeNode @typedef {import('./types.js').Move} Move */
 /** @typedef {import('./types.js').Study} Study */
@@ -105,7 +105,7 @@ export function hereView(s, n) {
         meaning = markMeaning(n, s.aim ? s.aim.hero : undefined);
   const caption = h('p', {class: 'caption'},
     h('b', {id: 'value'},
-      n.parent ? `After ${moveName(n)}: ${valueText(mover, n.value)}` : AT_START + valueText(mover, n.value)),
+      n.parent ? `After ${moveName(n)}: ${valueText(mover, n.value)}` : atStart(valueText(mover, n.value))),
     meaning && h('span', {class: 'mark ' + n.mark}, meaning),
     n.zugzwang && h('span', {class: 'tag', title: zugzwangText(n.zugzwang)}, 'mutual zugzwang'), h('br', {}),
     h('small', {},
@@ -141,7 +141,7 @@ function chip(s, n, m) {
   const meaning = {
     only: 'the only one that holds',
     dual: `one of ${m.duals + 1} that hold`,
-    mistake: s.aim && sideOf(n.fen) === s.aim.hero ? letsGo : 'gives the aim back'
+    mistake: s.aim && sideOf(n.fen) === s.aim.hero ? letsGo() : 'gives the aim back'
   }[m.mark];
   const title = [`${m.san}: ${valueText(after, m.value)}`, meaning, there && 'in the tree'].filter(Boolean).join('; ');
   return h('button', {

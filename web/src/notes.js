@@ -1,9 +1,10 @@
 // @ts-check
 // What a PGN says beside its moves - comments, NAGs, its result, tags that a script has no place for - kept as remarks
 // of the script, each at the moves that lead to it; saved_games.js writes it into the saved PGN again.
-import {HOLDS_STAMP} from './core_words.js';
 import {isKnown} from './edits.js';
+import {cutAt, ownRemark} from './remarks.js';
 import {TAGS} from './script.js';
+import {wordOf} from './wording.js';
 /** @typedef {import('./types.js').Study} Study */
 
 const OWN_TAGS = new Set([...TAGS, 'FEN', 'SetUp']), MOST = 900;
@@ -185,18 +186,20 @@ const VALUE = '(draw|mate|(White|Black) mates in \\d+)',
       VERDICT = '(White|Black) to (win|draw|mate in \\d+): (wrong|sound|unsound \\d+), ' + VALUE,
       OPENING = new RegExp(`^${VERDICT}(\\. |$)`), OURS = new RegExp(`(^|(?<=[.!?:;,\\])]) )${VALUE}(; dual \\d+)?$`);
 /** What is said in a game behind `sound`, which is no verdict on a solution then. */
-export const NO_MOVE = `${HOLDS_STAMP}: no move of the solution is given`;
+export const noMove = () => `${wordOf('holds')}: no move of the solution is given`;
 /**
  * What of a comment is not the program's: its words begin the comment before the first move, and end that of a move.
  * @param {string} comment
  */
 function withoutOurs(comment) {
-  const rest = comment.replace(OPENING, '');
-  return (rest.startsWith(NO_MOVE) ? rest.slice(NO_MOVE.length).replace(/^\. /, '') : rest).replace(OURS, '');
+  const rest = comment.replace(OPENING, ''), none = noMove();
+  return (rest.startsWith(none) ? rest.slice(none.length).replace(/^\. /, '') : rest).replace(OURS, '');
 }
 /** @param {string} movetext */
 const isOwn = movetext => OPENING.test(oneLine((/\{([^}]*)\}/.exec(movetext) || [])[1] || ''));
 
+/** Remarks that stand at moves. */
+export const AT_MOVES = new Set(['note', 'note+', 'mark']);
 /**
  * The lines of a script with the notes of a study at other moves.
  * @param {string[]} lines
@@ -205,7 +208,9 @@ const isOwn = movetext => OPENING.test(oneLine((/\{([^}]*)\}/.exec(movetext) || 
  * @param {(squares: string) => string} [marked]      the squares that its arrows and circles have from now on
  */
 export const notesMoved = (lines, study, to, marked = squares => squares) => lines.map((line, at) => {
-  if (at < study.head || at >= study.from || !/^#!? (note\+?|mark) /.test(line)) return line;
-  return line.replace(/^(#!? (?:note\+?|mark) )(\w[^:]*)/, (_, note, moves) => note + to(moves))
-    .replace(/(\[%c[as]l)( [^\]]*)/g, (_, mark, squares) => mark + marked(squares));
+  const {word, rest} = ownRemark(line);
+  if (at < study.head || at >= study.from || !AT_MOVES.has(word)) return line;
+  const [moves, said] = cutAt(rest, ': '),
+                text = said.replace(/(\[%c[as]l)( [^\]]*)/g, (_, mark, squares) => mark + marked(squares));
+  return `${line.slice(0, line.length - rest.length)}${moves === '-' ? moves : to(moves)}: ${text}`;
 });

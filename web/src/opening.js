@@ -2,6 +2,7 @@
 // A file or a text becomes the document: a script as it stands, a PGN by way of the program.
 import {$, h, smallButton} from './dom.js';
 import {change, track, sayOpened, work} from './actions.js';
+import {learn} from './answer_cache.js';
 import {app, doc, services, say} from './state.js';
 import {decode, documentOf, plainBytes, importNote, looksLikePgn, notKept, withoutAim} from './imported.js';
 import {freshId} from './keep.js';
@@ -10,15 +11,15 @@ import {replace} from './history.js';
 import {foreignGames, foreignText, inUtf8} from './code_pages.js';
 import {cutOf, textRemarks} from './cut_game.js';
 import {canBeCut, leftOut, leftOutBy} from './left_out.js';
+import {remarkOf} from './remarks.js';
 import {savedGames} from './saved_games.js';
 import {isCommand, isSilent, linesOf} from './script.js';
 import {aimText, counted, endedReason, readAim} from './words.js';
 
 /**
- * What was opened as a PGN last, so that it can be read again: `id` is the document that came of it, empty as long as
- * no game was read, beside the lines that stood there then; `said` is what came in, `held` its lines; `how` it was
- * read: with which stipulation for games that state none, in which code page; `foreign` the games with names in such a
- * code.
+ * The PGN that was opened last, so that it can be read again: `id` is the document that it became, or empty if no game
+ * was read; `beside` has the lines that stood there then; `said` says what came in, `held` has its lines; `how` has the
+ * stipulation for games that state none, and the code page; `foreign` has the games with names in a code page.
  * @typedef {{aim: string, code: string}} How
  * @typedef {{bytes: Uint8Array, name: string, id: string, waiting: number, beside: string[], said: string,
  *   held: string[], how: How, foreign: import('./code_pages.js').Foreign[]}} Source
@@ -59,7 +60,9 @@ export function rawLines(bytes) {
 export async function importPgn(bytes, aim) {
   const answer = await services.core.ask(aim ? 'import ' + aim : 'import', bytes, 0);
   if (answer.ended !== 'done') throw new Error(endedReason(answer.ended));
-  return rawLines(answer.bytes).map(decode);
+  const lines = rawLines(answer.bytes).map(decode);
+  await learn(lines);
+  return lines;
 }
 /**
  * How many letters the first bytes of a line are, after a byte order mark.
@@ -70,8 +73,8 @@ const lettersIn = raw => (/** @type {number} */ count) => {
   return decode(raw.subarray(mark, mark + count)).length;
 };
 /**
- * The lines of an import, with what its games say beside their moves as remarks above each position; and whose those
- * are that were left out, with their text where they can be read up to a bad move.
+ * The lines of an import, with what its games say beside their moves as remarks above each position; behind a game that
+ * was left out its title and author, and its text if it can be read up to a bad move.
  * @param {string[]} lines
  * @param {Uint8Array} bytes
  * @param {number[]} [starts]      where each game comes to begin
@@ -80,8 +83,8 @@ export function withRemarks(lines, bytes, starts = []) {
   const raw = rawLines(bytes), games = gamesIn(raw.map(decode).join('\n'), starts);
   let game = 0;
   return lines.flatMap(line => {
-    const m = /^#! game (\d+), /.exec(line), out = leftOutBy(line);
-    if (m) game = Number(m[1]);
+    const remark = remarkOf(line), out = leftOutBy(line);
+    if (remark && remark.game) game = remark.game;
     const source = games[game - 1];
     if (!source) return [line];
     if (line.startsWith('position ')) return [...remarksOf(source), line];
@@ -91,7 +94,7 @@ export function withRemarks(lines, bytes, starts = []) {
     return [line, ...namesOf(source), ...(cut ? textRemarks(cut) : [])];
   });
 }
-/** A position for a game that is there for a tag alone. */
+/** A position for a game that only has a tag. */
 const KINGS = '4k3/8/8/8/8/8/8/4K3 w - - 0 1';
 /**
  * The text of a tag in the letters that a script can have, as the program writes them; it refuses more than 60.
@@ -130,6 +133,7 @@ export async function openPgn(bytes, where, name, how = {
         foreign = latin ? foreignGames(rawLines(bytes), starts) : [],
         letters = foreignText(foreign, how.code) || (latin && !how.code && LATIN),
         said = [came, letters, notKept(lines)].filter(Boolean).join(' ');
+  await learn(held);
   source = {bytes, name, id: '', waiting, beside: doc().lines, said, held, how, foreign};
   if (!lines.some(line => line.startsWith('position '))) {
     const offered = waiting || leftOut(lines).some(canBeCut) || foreign.length;

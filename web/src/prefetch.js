@@ -35,8 +35,8 @@ function studyAfter(now, {lines, at}) {
                                : assumeAccepted(lines).studies[at || 0];
 }
 /**
- * The view to which a change will lead is requested before its script is run: of the second worker, unless it is busy
- * with other things than views.
+ * Requests the view after a change before its script is run: from the second worker, unless it is busy with other
+ * things than views.
  * @param {Doc} now
  * @param {Change} wanted
  */
@@ -54,7 +54,7 @@ export async function prefetchView(now, wanted) {
   if (free) viewing--;
 }
 /**
- * The views to which a key leads from here are requested one after the other, as long as the user does nothing else.
+ * Requests the views that a key shows from here, one after the other, as long as the user does nothing else.
  * @param {string} text
  * @param {number} stamp
  */

@@ -3,12 +3,12 @@
 import {h, smallButton} from './dom.js';
 import {other, sideOf} from './fen.js';
 import {change} from './actions.js';
-import {HEADS, THE_START, TITLES, ZUGZWANGS} from './core_words.js';
 import {app} from './state.js';
 import {insertLines} from './edits.js';
 import {depth, nodeAt, allNodes} from './parse_answers.js';
 import {add, alsoView, nodeLink} from './verdict_view.js';
-import {answersText, counted, keepText, numberedLine, valueSign, valueText, winner} from './words.js';
+import {wordOf, wordsNamed} from './wording.js';
+import {answersText, counted, keepText, numberedLine, valueSign, valueText, winner, zugzwangWords} from './words.js';
 /** @typedef {import('./types.js').Study} Study @typedef {import('./types.js').TreeNode} TreeNode */
 /** @typedef {import('./types.js').Review} Review @typedef {import('./types.js').Missing} Missing */
 
@@ -97,8 +97,8 @@ function dualsView(s, review, root) {
 function triesView(s, review, root) {
   const rows = byNode(review.refuted, root).sort((x, y) => depth(x[0]) - depth(y[0])), wrong = s.verdict === 'wrong';
   return rows.length > 0 &&
-    section('tries', wrong ? 'What refutes the moves' : TITLES.tries, null,
-      table([...HEADS.tries, 'In the tree'], rows, ([n, list]) => tryView(n, list)));
+    section('tries', wrong ? 'What refutes the moves' : wordOf('tries'), null,
+      table([...wordsNamed('tries-heads'), 'In the tree'], rows, ([n, list]) => tryView(n, list)));
 }
 /**
  * @param {TreeNode} n
@@ -121,10 +121,10 @@ function tryView(n, list) {
 function zugzwangView(root) {
   const rows = allNodes(root).filter(n => n.zugzwang);
   return rows.length > 0 &&
-    section('zugzwangs', TITLES.zugzwangs, 'Whoever is to move there would rather not be.',
-      table(HEADS.zugzwangs, rows, n => {
-        const [points, ...results] = ZUGZWANGS[n.zugzwang];
-        return [[n.parent ? nodeLink(n) : THE_START, ' ', h('small', {}, points)], ...results];
+    section('zugzwangs', wordOf('zugzwangs'), 'Whoever is to move there would rather not be.',
+      table(wordsNamed('zugzwangs-heads'), rows, n => {
+        const [points, ...results] = zugzwangWords(n.zugzwang);
+        return [[n.parent ? nodeLink(n) : wordOf('root'), ' ', h('small', {}, points)], ...results];
       }));
 }
 /**
@@ -144,7 +144,7 @@ function defencesView(s, review, root) {
     h('span', {class: 'act'}, 'A press adds it, with its answer where only one holds.')
   ];
   const single = review.missing.filter(d => d.count === 1).length;
-  return rows.length > 0 && section('defences', TITLES.defences, note, [
+  return rows.length > 0 && section('defences', wordOf('defences'), note, [
     single > 1 &&
       h('p', {class: 'act'},
         smallButton(
@@ -239,9 +239,9 @@ function endsView(review, root) {
   const rows =
     byNode(review.ends, root).sort((x, y) => Number(x[1][0].value === null) - Number(y[1][0].value === null));
   const cells =
-    (/** @type {[TreeNode, import('./types.js').Ending[]]} */[n, [end]]) => [n.parent ? nodeLink(n) : THE_START,
+    (/** @type {[TreeNode, import('./types.js').Ending[]]} */[n, [end]]) => [n.parent ? nodeLink(n) : wordOf('root'),
       valueText(sideOf(n.fen), n.value), end.value ? playView(n, end.sans, end.value.n) : keepView(n, end)];
-  return rows.length > 0 && section('ends', TITLES.ends, null, table(HEADS.ends, rows, cells));
+  return rows.length > 0 && section('ends', wordOf('ends'), null, table(wordsNamed('ends-heads'), rows, cells));
 }
 /**
  * @param {TreeNode} n

@@ -2,7 +2,9 @@
 // The games as they are saved: those of the program with what is the author's - his names and tags, his result, his
 // comments and glyphs - in them; with the program's marks or without.
 import {hasSolution, unreadIn} from './entries.js';
-import {NO_MOVE, RESULT, TOKEN, isMoveText, looseMove, oneLine, plain} from './notes.js';
+import {AT_MOVES, RESULT, TOKEN, isMoveText, looseMove, noMove, oneLine, plain} from './notes.js';
+import {cutAt, ownRemark} from './remarks.js';
+import {isOfFile} from './imported.js';
 import {aimText} from './words.js';
 /** @typedef {import('./types.js').Study} Study @typedef {import('./types.js').Script} Script */
 /**
@@ -60,9 +62,9 @@ const loose = path => path.split(' ').map(looseMove).join(' ');
 function notesAt(remarks, items) {
   const notes = /** @type {Map<string, Note>} */ (new Map()), keys = new Set(items.map(item => item.key)),
         nearly = new Map([...keys].reverse().map(key => [loose(key), key]));
-  for (const line of remarks) {
-    const [, kind, moves, text] = /^#!? (note\+?|mark) ([^:]*): (.*)$/.exec(line) || [];
-    if (!text) continue;
+  for (const {word: kind, rest} of remarks.map(ownRemark)) {
+    const [moves, text] = cutAt(rest, ': ');
+    if (!AT_MOVES.has(kind) || !text) continue;
     const key = moves === '-' ? '' : moves, at = keys.has(key) ? key : nearly.get(loose(key));
     if (at === undefined) continue;
     const note = notes.get(at) || {comments: [], glyphs: [], marks: []}, last = note.comments.length - 1;
@@ -107,15 +109,24 @@ function wordsOfGame(items, notes, marks, said) {
   });
 }
 /**
+ * The author's own tags.
+ * @param {string[]} remarks
+ */
+const tagsIn = remarks =>
+  remarks.map(ownRemark).filter(({word}) => word === 'tag').map(({rest}) => cutAt(rest, ' ')).filter(([
+    name
+  ]) => /^\w+$/.test(name));
+/**
  * The result that the author states in the tag and behind the moves; `*` states none, so the program's stands there,
  * but in a game without its marks.
  * @param {string[]} remarks
  * @param {boolean} marks
  */
 function resultsIn(remarks, marks) {
-  const textOf = (/** @type {RegExp} */ form) => (remarks.map(line => form.exec(line)).find(Boolean) || [])[1] || '',
-        stated = (/** @type {string} */ text) => (text === '*' && marks ? '' : text);
-  const tag = stated(textOf(/^#!? tag Result (.*)$/)), behind = stated(textOf(/^#! result (.*)$/));
+  const stated = (/** @type {string} */ text) => (text === '*' && marks ? '' : text),
+        [, ofTag = ''] = tagsIn(remarks).find(([name]) => name === 'Result') || [],
+        {rest} = remarks.map(ownRemark).find(({word}) => word === 'result') || {rest: ''};
+  const tag = stated(ofTag), behind = stated(rest);
   return {tag: tag || behind, behind: behind || (RESULT.test(tag) ? tag : '')};
 }
 /**
@@ -129,10 +140,10 @@ function resultsIn(remarks, marks) {
 export function withNotes(game, remarks, marks = true, said = []) {
   const cut = game.indexOf('\n\n') + 1, {items, result} = itemsOf(game.slice(cut)), notes = notesAt(remarks, items),
         {tag, behind} = resultsIn(remarks, marks);
-  const tags = remarks.map(line => /^#!? tag (\w+) (.*)$/.exec(line) || []).filter(m => m[1] && m[1] !== 'Result');
+  const tags = tagsIn(remarks).filter(([name]) => name !== 'Result');
   if (marks && !tags.length && !notes.size && !said.length && !tag) return game;
   const head = tag ? game.slice(0, cut).replace(/^\[Result ".*"\]$/m, () => `[Result "${tag}"]`) : game.slice(0, cut),
-        more = tags.map(([, name, text]) => `[${name} "${text}"]\n`).join(''),
+        more = tags.map(([name, text]) => `[${name} "${text}"]\n`).join(''),
         words = [...wordsOfGame(items, notes, marks, said), behind || result];
   return head + more + '\n' + wrap(words.join(' ')) + '\n\n';
 }
@@ -160,8 +171,8 @@ function wrap(text) {
 function gamesOfStudy(script, study, marks) {
   const remarks = script.lines.slice(study.head, study.from), unread = unreadIn(script, study).replace(/[{}]/g, ''),
         empty = study.verdict === 'sound' && !hasSolution(script.lines, study, null),
-        stated = study.origin && study.origin.source.startsWith('its ');
-  const said = marks ? [unread || (empty ? NO_MOVE : '')] : [!stated && study.aim ? aimText(study.aim) : '', unread];
+        stated = study.origin && isOfFile(study.origin);
+  const said = marks ? [unread || (empty ? noMove() : '')] : [!stated && study.aim ? aimText(study.aim) : '', unread];
   return study.games.map(game => withNotes(inOwnLetters(study, game), remarks, marks, said.filter(Boolean)));
 }
 /**

@@ -1,8 +1,10 @@
 // @ts-check
 // The script is the document: lines of edits, run from the first to the last. Here its replies become studies.
+import {lineKind} from './wording.js';
 import {aimText, aimWords} from './words.js';
 import {headOf, withRefusedTags} from './imported.js';
 import {leftOutBy} from './left_out.js';
+import {isOfImport} from './remarks.js';
 import {readStipulation} from './parse_answers.js';
 /** @typedef {import('./types.js').Script} Script @typedef {import('./types.js').Study} Study */
 /** @typedef {import('./types.js').Aim} Aim */
@@ -18,12 +20,11 @@ export const wordsOf = line => line.trim().split(/ +/);
 /** @param {string} line */
 export const isSilent = line => /^ *(#.*)?$/.test(line);
 /** @param {string} line */
-export const isTableLine = line => /^ *(build|load|save|verify)( |$)/.test(line);
+export const isTableLine = line => lineKind(line) === 'table';
 /** @param {string} line */
-export const isQuestion = line => /^ *(mark|moves|fen|solve|pgn)( |$)/.test(line);
+export const isQuestion = line => lineKind(line) === 'question';
 /** @param {string} line */
-export const isCommand = line =>
-  isTableLine(line) || isQuestion(line) || /^ *(position|stipulate|tag|insert|delete|promote|shift)( |$)/.test(line);
+export const isCommand = line => lineKind(line) !== '';
 /** @param {string} line */
 export const isPosition = line => /^ *position( |$)/.test(line);
 /** @param {string} line */
@@ -276,8 +277,6 @@ export function savedScript(script, classes) {
  * @param {Script} script
  */
 export const gamesOf = script => script.studies.flatMap(study => study.games).join('');
-/** Remarks that an import wrote, which a report may print. */
-const PRINTED = /^#! /;
 /**
  * The lines that are reported, each at its place in the script, so that refused ones have the numbers that they have on
  * the board. The `pgn` that a study lacks comes in place of an empty line or a remark behind it, if there is one.
@@ -287,7 +286,7 @@ export function reportedLines(script) {
   const lines = [...script.lines];
   for (const {aim, last, end} of [...script.studies].reverse()) {
     if (!aim || lines.slice(last + 1, end).some(isGame)) continue;
-    const free = lines.findIndex((line, at) => at > last && at < end && isSilent(line) && !PRINTED.test(line));
+    const free = lines.findIndex((line, at) => at > last && at < end && isSilent(line) && !isOfImport(line));
     lines.splice(free < 0 ? last + 1 : free, free < 0 ? 0 : 1, 'pgn');
   }
   return lines;

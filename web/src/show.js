@@ -3,7 +3,6 @@
 import {$, button, h, put, onDocument} from './dom.js';
 import {spokenMove} from './fen.js';
 import {prefetch} from './prefetch.js';
-import {UNTITLED} from './core_words.js';
 import {app, doc, node, study} from './state.js';
 import {showBoard} from './board.js';
 import {announce} from './board_input.js';
@@ -24,6 +23,7 @@ import {menuText} from './entry_list.js';
 import {textsView} from './texts_view.js';
 import {faultsView, verdictView} from './verdict_view.js';
 import {keyView, listenToTree, markCurrent, showTree} from './tree_view.js';
+import {wordOf} from './wording.js';
 
 let pressing = false;
 const late = /** @type {Set<() => void>} */ (new Set());
@@ -135,7 +135,7 @@ export function show() {
   speak();
   hint();
   $('right').classList.toggle('behind', Boolean(app.setup && s && !anew));
-  document.title = s ? `${nameOf(s, 'Event') || UNTITLED} · Study board` : 'Study board';
+  document.title = s ? `${nameOf(s, 'Event') || wordOf('untitled')} · Study board` : 'Study board';
 }
 /**
  * Focus stays where it was, though everything is drawn again.

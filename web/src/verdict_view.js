@@ -3,7 +3,6 @@
 import {h} from './dom.js';
 import {moveNumber, other, sideOf} from './fen.js';
 import {change, go, judgeAgain} from './actions.js';
-import {AT_START, LETS_GO, LOSES_TIME} from './core_words.js';
 import {app, doc} from './state.js';
 import {insert} from './board_input.js';
 import {stipulate} from './edits.js';
@@ -25,10 +24,11 @@ import {
   verdictSentence,
   winner
 } from './words.js';
+import {atStart, wordOf} from './wording.js';
 /** @typedef {import('./types.js').Study} Study @typedef {import('./types.js').TreeNode} TreeNode */
 /** @typedef {import('./types.js').Also} Also */
 
-const CUT_SHORT = `The game was not read to its end, so there is no verdict. ${AT_START}`;
+const CUT_SHORT = 'The game was not read to its end, so there is no verdict. ';
 /** @param {Study} s */
 export function verdictView(s) {
   const view = app.view;
@@ -37,7 +37,7 @@ export function verdictView(s) {
   const {kind, text} = stampOf(doc(), {...s, verdict: view.verdict}, app.review);
   return [
     h('p', {class: 'verdict'}, h('span', {class: 'stamp ' + kind.replace(' ', '-'), id: 'stamp'}, text),
-      h('span', {id: 'sentence'}, s.origin.cut ? CUT_SHORT + view.start + '.' : verdictSentence(view, kind))),
+      h('span', {id: 'sentence'}, s.origin.cut ? `${CUT_SHORT}${atStart(view.start)}.` : verdictSentence(view, kind))),
     beforeView(s)
   ];
 }
@@ -133,7 +133,8 @@ export function alsoView(s, n, list) {
   return parent && list.map(a => {
     const there = parent.children.some(c => c.san === a.san);
     const notes = [
-      s.aim && difference(s.aim, n.value, a.value), a.time >= 0 && LOSES_TIME.replace(', ', ''), there && 'in the tree'
+      s.aim && difference(s.aim, n.value, a.value), a.time >= 0 && wordOf('loses-time').replace(', ', ''),
+      there && 'in the tree'
     ];
     const text = notes.filter(Boolean).join(', ');
     return [add(parent.path, [a.san], [h('b', {}, a.san), text && h('small', {}, ' ' + text)]), ' '];
@@ -160,7 +161,7 @@ function faultView(s, root, f) {
 function mistakeView(s, n) {
   const better = n.parent ? n.parent.children.find(holds) : undefined, late = s.aim ? lateBy(s.aim, n) : 0;
   return [
-    nodeLink(n), h('b', {}, LETS_GO), valueText(sideOf(n.fen), n.value),
+    nodeLink(n), h('b', {}, wordOf('lets-go')), valueText(sideOf(n.fen), n.value),
     late > 0 && `, ${counted(late, 'move')} too late`, ' ',
     better && [h('button', {class: 'chip act', onclick: () => promote(better, true)}, `Put ${better.san} first`), ' '],
     cut(n, 'Delete it')

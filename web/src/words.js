@@ -1,22 +1,7 @@
 // @ts-check
 // Values, verdicts and refusals in the words of the printed page.
-import {
-  AT_START,
-  DRAW,
-  HOLD,
-  KEEP_IT,
-  LATER,
-  LETS_GO,
-  LOST,
-  MATE,
-  MATES_IN,
-  REASONS,
-  STALEMATE,
-  THE_START,
-  UNREAD,
-  ZUGZWANGS
-} from './core_words.js';
 import {moveNumber, other, sideOf} from './fen.js';
+import {atStart, refusalReason, wordOf, wordsNamed} from './wording.js';
 /** @typedef {import('./types.js').Value} Value @typedef {import('./types.js').Side} Side */
 /** @typedef {import('./types.js').Aim} Aim */
 /** @typedef {import('./types.js').TreeNode} TreeNode */
@@ -37,8 +22,9 @@ const isMate = value => value.kind === 'loss' && value.n === 0;
  * @param {Value} value
  */
 export function valueText(mover, value) {
-  if (value.kind === 'draw') return DRAW;
-  return isMate(value) ? MATE : winner(mover, value) + MATES_IN + movesTo(value);
+  if (value.kind === 'draw') return wordOf('draw');
+  if (isMate(value)) return wordOf('mate');
+  return wordOf('mates').replace('White', `${winner(mover, value)}`).replace('1', `${movesTo(value)}`);
 }
 /**
  * The small number after a move.
@@ -74,7 +60,7 @@ export function readAim(words) {
 export const holds = move => move.mark === 'only' || move.mark === 'dual';
 
 /** @param {TreeNode} node */
-export const moveName = node => (node.parent ? numberedName(node.parent.fen, node.san) : THE_START);
+export const moveName = node => (node.parent ? numberedName(node.parent.fen, node.san) : wordOf('root'));
 /**
  * @param {string} before
  * @param {string} san
@@ -98,15 +84,16 @@ export function numberedLine(fen, sans) {
 }
 
 /**
- * The verdict and the value of the start: the core's sentences, with what its printed page says of faults that all lose
- * time alone, which only the review knows.
+ * The verdict and the value of the start: the sentences of the core. If all faults only lose time, as the review says,
+ * it is the sentence of the printed page.
  * @param {import('./types.js').View} view
  * @param {string} kind      of the stamp
  */
 export function verdictSentence(view, kind) {
-  const [, faults] = view.verdict.split(' ');
-  if (kind === 'not read') return `${UNREAD} ${AT_START}${view.start}.`;
-  return kind === 'time' ? view.sentence.replace('.', `${LOST[faults === '1' ? 0 : 1]}.`) : view.sentence;
+  const [, faults] = view.verdict.split(' '), start = `${atStart(view.start)}.`;
+  if (kind === 'not read') return `${wordOf('unread-sentence')} ${start}`;
+  if (kind !== 'time') return view.sentence;
+  return `${faults === '1' ? wordOf('time-sentence') : wordOf('times-sentence').replace('2', faults)} ${start}`;
 }
 /** @param {{mark: string}} move */
 export const markSign = ({mark}) => (mark === 'only' ? '!' : mark === 'mistake' ? '?' : '');
@@ -119,24 +106,26 @@ export function markMeaning(node, hero) {
   if (node.mark === 'only') return 'the only move that holds';
   if (node.mark === 'dual') return node.duals === 1 ? 'dual: one other move holds' : `dual: ${node.duals} others hold`;
   if (node.mark === 'idle') return 'nothing was to be gained';
-  if (node.mark === 'mistake') return node.parent && sideOf(node.parent.fen) === hero ? letsGo : 'gives the aim back';
+  if (node.mark === 'mistake') return node.parent && sideOf(node.parent.fen) === hero ? letsGo() : 'gives the aim back';
   return '';
 }
 /** What is said of a mistake of the hero. */
-export const letsGo = LETS_GO.replace(/[ :]*$/, '').trim();
+export const letsGo = () => wordOf('lets-go').replace(/[ :]*$/, '').trim();
 /** @param {number} answers */
-export const answersText = answers => (answers ? answers + HOLD : STALEMATE);
+export const answersText = answers => (answers ? wordOf('hold').replace('2', `${answers}`) : wordOf('stalemate'));
 /**
  * @param {number} keeping
  * @param {number} of
  */
-export const keepText = (keeping, of) => `${keeping} of ${of}${KEEP_IT} `;
+export const keepText = (keeping, of) => `${keeping} of ${of}${wordOf('keep')} `;
 /**
- * What a mutual zugzwang is about: `full`, `half white`, `half black`.
- * @param {string} kind
+ * How much of a point a mutual zugzwang is, and what comes of it with White and with Black to move.
+ * @param {string} kind      `full`, `half white`, `half black`
  */
+export const zugzwangWords = kind => wordsNamed(kind.replace(' ', '-'));
+/** @param {string} kind */
 export function zugzwangText(kind) {
-  const [points, white, black] = ZUGZWANGS[kind];
+  const [points, white, black] = zugzwangWords(kind);
   return `${points}; White to move: ${white}; Black to move: ${black}`;
 }
 /**
@@ -148,7 +137,8 @@ export function zugzwangText(kind) {
 export function difference(aim, played, value) {
   if (aim.goal === 'draw' || value.kind === 'draw' || played.kind === 'draw') return '';
   const d = (value.n - played.n) / 2;
-  return d === 0 ? LATER[0] : `${counted(Math.abs(d), 'move')} ${LATER[d > 0 ? 1 : 2]}`;
+  const words = wordOf(d === 0 ? 'as-quick' : d > 0 ? 'longer' : 'quicker').replace(', ', '');
+  return words.replace('1 move', counted(Math.abs(d), 'move'));
 }
 /**
  * By how many of the hero's moves, counted from the start, a mate comes too late.
@@ -178,7 +168,7 @@ export function otherAims(aim, verdict, mover, value, duals) {
   return duals && aim.goal === 'win' && movesTo(value) <= 127 ? [mate] : [];
 }
 
-/** Of requests of the board alone. */
+/** Of requests that only the board makes. */
 const OWN_REASONS = /** @type {Record<string, string>} */ ({
   PagedMode: 'it wants whole tables, and the board reads them by pages',
   NoFile: 'there is no file of this table',
@@ -214,8 +204,8 @@ export function reason(reply) {
   if (name === 'AlreadyHeld') return `the table ${argument} is there already`;
   if (name === 'OtherClass') return `the file holds the table ${argument}`;
   if (name === 'PageDamaged') return `a table's file is damaged (${argument})`;
-  if (name === 'ShiftBroken' || name === 'TableRead') return `${REASONS[name]} (${argument})`;
-  const why = REASONS[name] || OWN_REASONS[name] || reply.replace(/^error /, '');
+  if (name === 'ShiftBroken' || name === 'TableRead') return `${refusalReason(name)} (${argument})`;
+  const why = refusalReason(name) || OWN_REASONS[name] || reply.replace(/^error /, '');
   return ADVICE[name] ? `${why}: ${ADVICE[name]}` : why;
 }
 /**
@@ -226,5 +216,5 @@ export function endedReason(ended) {
   const [name, line] = ended.split(' ');
   if (name === 'LineTooLong') return `line ${line} has more than 1024 characters`;
   if (name === 'TooManyLines') return 'more than 100,000 lines';
-  return name === 'OutOfMemory' ? REASONS[name] : ended;
+  return name === 'OutOfMemory' ? refusalReason(name) : ended;
 }

@@ -1,4 +1,5 @@
 // A game with a bad move: its text is cut there, kept in remarks, and what stands before is a study that is not read.
+import './stand_in.mjs';
 import test from 'node:test';
 import assert from 'node:assert/strict';
 import {asGame, cutBlock, cutOf, leftOutText, textIn, textRemarks, upTo} from '../src/cut_game.js';
@@ -27,29 +28,32 @@ test('a game is cut at the place that its remark gives', () => {
     assert.ok(!canBeCut(leftOutBy(`#! game 2, line 9: ${words}`)), words);
   assert.ok(!canBeCut(leftOutBy('#! game 2, line 9, column 1: TagForm')));
 });
+/** The text before a bad move, the rest, the game up to there, the move, and those before it; `/` is a line feed. */
+const CASES = `
+1. Kg3 Kf5 2. Kf3 |Kh9 3. Ke3 1-0|1. Kg3 Kf5 2. Kf3/ 1-0/|2... Kh9|Kg3 Kf5 Kf3
+1. Kg3 Kf5 |Kz3 *|1. Kg3 Kf5/ */|2. Kz3|Kg3 Kf5
+1... Kg8 2.|Dg2+ Kf8 3.Th8 matt 1-0|1... Kg8/ 1-0/|2. Dg2+|Kg8
+1...Kg8 |Dg2+ 1-0|1...Kg8/ 1-0/|2. Dg2+|Kg8
+1. c8=R! (1. c8=Q? |stalemate) Ka6 1-0|1. c8=R! (1. c8=Q?/) 1-0/|1... stalemate|c8Q
+1. Kg3 Kf5 (1... |Kz5) *|1. Kg3 Kf5/ */|1... Kz5|Kg3
+1. Kg3 Kf5 |3. Kf3 *|1. Kg3 Kf5/ */|3. Kf3|Kg3 Kf5
+1. Kg3 Kf5 ; see 1./|Kh9 *|1. Kg3 Kf5 ; see/ */|1. Kh9|Kg3 Kf5
+1. Kg3 (1. Kg2 Kf4) |Kh9|1. Kg3 (1. Kg2 Kf4)/ */|1... Kh9|Kg3
+1. Kg3 1-0 2. |Kf3|1. Kg3 1-0/ */|2. Kf3|Kg3
+1. Kg3 {open| Kf5 1-0|1. Kg3/ 1-0/|1... Kf5|Kg3
+1. Kg3 |{open Kf5 1-0|1. Kg3/ 1-0/|1... {open|Kg3
+1. Kg3 |& Kf5 1-0|1. Kg3/ 1-0/|1... &|Kg3
+`;
 test('the moves before the bad one are a game', () => {
   assert.deepEqual(upTo(CUT), {
     pgn: HEAD + MOVES.slice(0, -4) + '\n)) 1-0\n',
     move: '7. b6',
     moves: 'Kg3 Kf5 Kf3 Kg5 Ke4 Kf6 Kd5 Ke7 Kc6 Ke6 b4 Ke7'.split(' ')
   });
-  const cases = [
-    ['1. Kg3 Kf5 2. Kf3 ', 'Kh9 3. Ke3 1-0', '1. Kg3 Kf5 2. Kf3\n 1-0\n', '2... Kh9', 'Kg3 Kf5 Kf3'],
-    ['1. Kg3 Kf5 ', 'Kz3 *', '1. Kg3 Kf5\n *\n', '2. Kz3', 'Kg3 Kf5'],
-    ['1... Kg8 2.', 'Dg2+ Kf8 3.Th8 matt 1-0', '1... Kg8\n 1-0\n', '2. Dg2+', 'Kg8'],
-    ['1...Kg8 ', 'Dg2+ 1-0', '1...Kg8\n 1-0\n', '2. Dg2+', 'Kg8'],
-    ['1. c8=R! (1. c8=Q? ', 'stalemate) Ka6 1-0', '1. c8=R! (1. c8=Q?\n) 1-0\n', '1... stalemate', 'c8Q'],
-    ['1. Kg3 Kf5 (1... ', 'Kz5) *', '1. Kg3 Kf5\n *\n', '1... Kz5', 'Kg3'],
-    ['1. Kg3 Kf5 ', '3. Kf3 *', '1. Kg3 Kf5\n *\n', '3. Kf3', 'Kg3 Kf5'],
-    ['1. Kg3 Kf5 ; see 1.\n', 'Kh9 *', '1. Kg3 Kf5 ; see\n *\n', '1. Kh9', 'Kg3 Kf5'],
-    ['1. Kg3 (1. Kg2 Kf4) ', 'Kh9', '1. Kg3 (1. Kg2 Kf4)\n *\n', '1... Kh9', 'Kg3'],
-    ['1. Kg3 1-0 2. ', 'Kf3', '1. Kg3 1-0\n *\n', '2. Kf3', 'Kg3'],
-    ['1. Kg3 {open', ' Kf5 1-0', '1. Kg3\n 1-0\n', '1... Kf5', 'Kg3'],
-    ['1. Kg3 ', '{open Kf5 1-0', '1. Kg3\n 1-0\n', '1... {open', 'Kg3'],
-    ['1. Kg3 ', '& Kf5 1-0', '1. Kg3\n 1-0\n', '1... &', 'Kg3']
-  ];
-  for (const [text, rest, pgn, move, moves] of cases)
-    assert.deepEqual(upTo({text, rest}), {pgn, move, moves: moves.split(' ')}, text + rest);
+  for (const row of CASES.trim().split('\n')) {
+    const [text, rest, pgn, move, moves] = row.split('|').map(part => part.replaceAll('/', '\n'));
+    assert.deepEqual(upTo({text, rest}), {pgn, move, moves: moves.split(' ')}, row);
+  }
 });
 test('its text is kept in remarks', () => {
   assert.deepEqual(textRemarks({text: '[FEN "x"]\n\n1. Kg3 ', rest: 'Kh9\n2. Kf3 *'}),

@@ -1,4 +1,5 @@
 // What is known of a man's other squares: answered by a made-up program, and put in order.
+import './stand_in.mjs';
 import test from 'node:test';
 import assert from 'node:assert/strict';
 import {byRow, byTree, fenWith, rowAt, thereText, treeAt} from '../src/elsewhere.js';

@@ -1,4 +1,5 @@
 // Entries, their stamps and the list as a file; whole studies copied and moved; diagrams turned with their moves.
+import './stand_in.mjs';
 import test from 'node:test';
 import assert from 'node:assert/strict';
 import {setTag} from '../src/edits.js';

@@ -1,4 +1,5 @@
 // What the program makes of a PGN, as the page reads it; the lines are those of an independent reference.
+import './stand_in.mjs';
 import test from 'node:test';
 import assert from 'node:assert/strict';
 import {
@@ -15,7 +16,7 @@ import {leftOut, whyLeftOut} from '../src/left_out.js';
 import {copyStudy, dropStudy} from '../src/study_edits.js';
 import {savedGames} from '../src/saved_games.js';
 import {readScript, assumeAccepted} from '../src/script.js';
-import {GAME_REASONS} from '../src/core_words.js';
+import {gameFaults} from '../src/wording.js';
 
 const LINES = [
   '#! game 1, line 1: stipulated by its comment',
@@ -85,7 +86,7 @@ test('each reason says what to write instead', () => {
     'no FEN, so 32 men: write the position: [FEN "8/8/8/6k1/8/8/1P5K/8 w - - 0 1"]');
   assert.equal(why('OpponentInCheck'),
     'the side that is not to move is in check: write the other side to move, or correct the men');
-  for (const name of Object.keys(GAME_REASONS)) assert.match(why(name), /: \S/, name);
+  for (const name of gameFaults()) assert.match(why(name), /: \S/, name);
 });
 test('what a script has no place for', () => {
   assert.equal(notKept(LINES), 'Not kept of this PGN: 1 repeated move, 2 moves behind null moves.');

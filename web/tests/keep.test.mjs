@@ -1,5 +1,6 @@
 // The documents that a browser keeps, over made-up storage: each at its place, with its undo, and two pages never write
 // into one.
+import './stand_in.mjs';
 import test from 'node:test';
 import assert from 'node:assert/strict';
 import {difference, makeKeeper, toSteps, summary, fromSteps} from '../src/keep.js';

@@ -1,4 +1,5 @@
 // What a PGN says beside its moves is kept, and written again.
+import './stand_in.mjs';
 import test from 'node:test';
 import assert from 'node:assert/strict';
 import {stipulate, withMoves} from '../src/edits.js';

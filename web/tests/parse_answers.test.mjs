@@ -1,4 +1,5 @@
 // The texts of the core - views, surveys, reviews - as an independent program wrote them, read and written again.
+import './stand_in.mjs';
 import test from 'node:test';
 import assert from 'node:assert/strict';
 import {readFileSync, readdirSync} from 'node:fs';

@@ -1,4 +1,5 @@
 // The script as the document: its replies read, and what the user does as a change of its lines.
+import './stand_in.mjs';
 import test from 'node:test';
 import assert from 'node:assert/strict';
 import {readFileSync} from 'node:fs';

@@ -1,4 +1,5 @@
 // Values, marks and zugzwangs in the words of the printed page.
+import './stand_in.mjs';
 import test from 'node:test';
 import assert from 'node:assert/strict';
 import {answersText, keepText, lateBy, moveName, valueText, zugzwangText} from '../src/words.js';

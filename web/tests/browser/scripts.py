@@ -1,5 +1,5 @@
 """Scripts through `studyboard.run`: those of the gallery give the expected replies, and random ones those of the native
-program.
+program. The words and the remarks that stand in for the program in node tests are its own.
 
     scripts.py TABLES N
 
@@ -15,6 +15,7 @@ import sys
 from user import TOP, User
 
 EXAMPLES = os.path.join(TOP, "examples")
+DATA = os.path.join(TOP, "web", "tests", "data")
 NATIVE = os.environ.get("STUDYBENCH", os.path.join(TOP, "crates", "studybench", "out", "studybench"))
 FENS = [
     "8/8/8/6k1/8/8/1P5K/8 w - - 0 1",
@@ -98,6 +99,19 @@ def gallery(classes):
     ]
 
 
+def own_words(user):
+    """How many of the answers differ that node tests have from a file."""
+    data = {name: text_of(os.path.join(DATA, name)) for name in ("words.txt", "remarks.script", "remarks.rows")}
+    answers = [
+        (user.promise("studyboard.words()"), data["words.txt"]),
+        (user.promise("studyboard.remarks(a[0])", data["remarks.script"]), data["remarks.rows"]),
+    ]
+    differ = [(answer, wanted) for answer, wanted in answers if answer != wanted]
+    for answer, wanted in differ:
+        print(f"words or remarks NOT EQUAL\n{answer}---\n{wanted}", flush=True)
+    return len(differ)
+
+
 def main():
     folder, count = os.path.abspath(sys.argv[1]), int(sys.argv[2])
     user, bad = User(), 0
@@ -107,6 +121,7 @@ def main():
         bad += 1
         print("no script of the gallery can be tried with these tables")
     user.open_tables(folder, classes)
+    bad += own_words(user)
     for name in names:
         script = re.sub(r"^build (\w+)$", r"load \1", text_of(name + ".script"), flags=re.M)
         expected = re.sub(

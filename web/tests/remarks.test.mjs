@@ -1,0 +1,35 @@
+// Remarks as the program reads them, and the words that it says: test_web has the same rows of both.
+import test from 'node:test';
+import assert from 'node:assert/strict';
+import {readFileSync} from 'node:fs';
+import {isOfImport, keepRemarks, known, ownRemark, remarkOf, remarksOfKind, unknownIn} from '../src/remarks.js';
+import {commandKind, gameReason, refusalReason, wordOf, wordsNamed} from '../src/wording.js';
+import {rowOf} from './stand_in.mjs';
+
+const data = name => readFileSync(new URL(`data/${name}`, import.meta.url), 'utf8'),
+      LINES = data('remarks.script').trimEnd().split('\n'), ROWS = data('remarks.rows');
+test('the stand-in for the program reads remarks as it does', () => {
+  const rows = LINES.flatMap((line, i) => (rowOf(line) ? [`${i + 1}\t${rowOf(line)}\n`] : []));
+  assert.equal(rows.join(''), ROWS);
+});
+test('the fields of a remark', () => {
+  known.clear();
+  assert.deepEqual(unknownIn([...LINES, LINES[0]]), LINES.filter(line => line.startsWith('#')));
+  keepRemarks(LINES, ROWS);
+  assert.deepEqual(unknownIn(LINES), []);
+  const none = {game: 0, line: 0, column: 0, author: '', name: '', said: '', games: 0, studies: 0};
+  assert.deepEqual(remarkOf(LINES[1]),
+    {...none, kind: 'left-out', game: 4, line: 52, column: 17, author: 'Kasparyan, G.', said: 'NoSuchMove at Kb6'});
+  assert.deepEqual(remarkOf(LINES[9]), {...none, kind: 'original', name: 'White', said: 'Troickij'});
+  assert.deepEqual(remarksOfKind(LINES, 'total'), [{...none, kind: 'total', games: 7, studies: 2}]);
+  assert.deepEqual(ownRemark(LINES[16]), {word: 'note', rest: 'Kg3: good'});
+  assert.deepEqual(ownRemark(LINES[0]), {word: '', rest: ''});
+  assert.deepEqual([0, 15, 16, 17].map(at => isOfImport(LINES[at])), [true, false, false, false]);
+});
+test('the words of the program', () => {
+  assert.equal(refusalReason('BadByte'), 'a letter outside plain ASCII');
+  assert.equal(gameReason('NullMove'), 'a null move in the main line');
+  assert.deepEqual(['shift', 'mark', 'save', 'dance'].map(commandKind), ['edit', 'question', 'table', '']);
+  assert.equal(wordOf('lets-go'), ' lets the aim go: ');
+  assert.deepEqual(wordsNamed('ends-heads'), ['After', 'Value', 'Goes on']);
+});
