@@ -1,11 +1,14 @@
 -- Small examples of the definitions, which compute.
-use Rattle.std.proofs.Common.{◌≡◌, true, false, [], ◌∷◌, ◌++◌, Some, Ok, Err, refl}
+use Rattle.std.proofs.Common.{◌≡◌, true, false, [], ◌∷◌, ◌++◌, Some, None, Ok, Err, refl}
 use Rattle.std.specs.Prelude.{codes}
 use Rattle.study_games.specs.declared.token.TokenFault.TheVariants.{OpenComment, OpenString, Byte}
-use Rattle.study_games.specs.declared.symbols.Said.TheVariants.{Number, Result, NullMove, Aside, Move}
+use Rattle.study_games.specs.declared.symbols.Said.TheVariants.{Number, Result, NullMove, Aside, Word, Move}
+use Rattle.study_games.specs.declared.spelling.Claim.TheVariants.{Check, Mate}
 use Rattle.study_games.specs.declared.symbols.Outcome.TheVariants.{WhiteWins, BlackWins, Drawn}
 use Rattle.study_games.specs.Tokens.{token_at, lexed_token, tag_at, comment_at, ends_tag, behind_value, tag, comment, symbol, sign, blank, aside}
-use Rattle.study_games.specs.Symbols.{said_of, san_in, without_passing}
+use Rattle.study_games.specs.Symbols.{is_word, said_of, san_in, without_passing, claim_in}
+use Rattle.study_games.specs.declared.language.Language.TheVariants.{German, Dutch}
+use Rattle.study_games.specs.Languages.{english_byte, in_english}
 
 -- marks inside a value, as Scid writes them
 marks_inside : token_at true (codes "[Site \"A \"slip\" \\ of\" ] 1.") ≡ Some (Ok (tag (codes "Site") (codes "A \"slip\" \\ of"), codes " 1."))
@@ -130,8 +133,42 @@ unfolding said_of
 dash_and_sign = refl
 
 glued : said_of (codes "1Kd3") ≡ Move
-unfolding said_of
+unfolding said_of is_word
 glued = refl
+
+wins : said_of (codes "wins") ≡ Word
+unfolding said_of is_word
+wins = refl
+
+-- `schlägt`
+captures : said_of (codes "schl" ++ (195 ∷ 164 ∷ codes "gt")) ≡ Word
+unfolding said_of is_word
+captures = refl
+
+unfinished : said_of (codes "Kd") ≡ Move
+unfolding said_of is_word
+unfinished = refl
+
+castled : said_of (codes "O-O") ≡ Move
+unfolding said_of is_word
+castled = refl
+
+castled_without_dashes : said_of (codes "OOO") ≡ Move
+unfolding said_of is_word
+castled_without_dashes = refl
+
+check_claimed : claim_in (codes "e8=Q+") ≡ Some Check
+unfolding claim_in
+check_claimed = refl
+
+mate_claimed : claim_in (codes "Ra8#") ≡ Some Mate
+unfolding claim_in
+mate_claimed = refl
+
+-- `Kd3+-`: White is winning
+judged : claim_in (codes "Kd3+-") ≡ None
+unfolding claim_in
+judged = refl
 
 -- `±`
 judgement : said_of (194 ∷ 177 ∷ []) ≡ Aside
@@ -164,3 +201,13 @@ castling = refl
 figurine : san_in (codes "c8=" ++ (226 ∷ 153 ∷ 149 ∷ [])) ≡ codes "c8=Q"
 unfolding san_in without_passing
 figurine = refl
+
+-- tags and comments are unchanged
+moves_in_german : in_english German (codes "[White \"S. D.\"] 1. Sf3 {Sf3} Txd8+ 2. e8=D") ≡ codes "[White \"S. D.\"] 1. Nf3 {Sf3} Rxd8+ 2. e8=Q"
+unfolding in_english english_byte said_of is_word lexed_token tag_at ends_tag behind_value comment_at
+moves_in_german = refl
+
+-- `Q` is no letter of Dutch
+moves_in_two_languages : in_english Dutch (codes "Pf3 Qd5 (O-O) 1-0") ≡ codes "Nf3 Yd5 (O-O) 1-0"
+unfolding in_english english_byte said_of is_word lexed_token
+moves_in_two_languages = refl

@@ -1,10 +1,12 @@
 -- Readings that are counted down, one step.
-use Rattle.std.proofs.Common.{◌≡◌, ℕ, zero, suc, ◌-◌, ◌<◌, Bool, true, List, ◌++◌, length, Some, refl, sym, ap, ◌∙◌, append_assoc, arith}
+use Rattle.std.proofs.Common.{◌≡◌, ℕ, zero, suc, ◌-◌, ◌<◌, Bool, true, List, ◌++◌, length, take, Some, Ok, refl, sym, ap, ◌∙◌, append_assoc, arith}
 use Rattle.std.specs.Prelude.{◌==◌, if◌then◌else◌}
 use Rattle.study_games.specs.Words.{first_word}
-use Rattle.study_games.specs.Tokens.{begins_feed}
+use Rattle.study_games.specs.Tokens.{Token, token_at, begins_feed}
 use Rattle.study_games.specs.Header.{step_at, with_tags, tags_in, with_fault, fault_in}
 use Rattle.study_games.specs.Characters.{character_at, is_utf8_behind, begins_utf8, read_at}
+use Rattle.study_games.specs.declared.language.Language.{Language}
+use Rattle.study_games.specs.Languages.{token_in_english, english_then, english_from}
 use Rattle.study_games.specs.Ascii.{behind_or, word_at, ascii_of, spelled_behind, spelled_in}
 
 pub tags_more : (n : ℕ) (fresh : Bool) (text : List ℕ) → 0 < n → tags_in n fresh text ≡ with_tags (tags_in (n - 1) (begins_feed text)) (step_at fresh text)
@@ -37,3 +39,19 @@ spelled_on n utf8 text behind c out new some read added =
     ap (λ (t : List ℕ). t ++ spelled_in (n - 1) utf8 behind) added
     ∙ append_assoc out (ascii_of c) (spelled_in (n - 1) utf8 behind)
     ∙ ap (λ (t : List ℕ). out ++ t) (ap (spelled_behind (spelled_in (n - 1) utf8)) read ∙ sym (spelled_more n utf8 text some))
+
+pub english_more : (n : ℕ) (language : Language) (fresh : Bool) (text : List ℕ) → 0 < n
+    → english_from n language fresh text ≡ english_then (english_from (n - 1) language (begins_feed text)) language text (token_at fresh text)
+english_more zero language fresh text h = absurd (omega (arith, h))
+english_more (suc m) language fresh text h = let e : suc m - 1 ≡ m = omega arith in rw e refl
+
+-- a token is written, and the rest is read
+pub english_on : (n : ℕ) (language : Language) (fresh feed : Bool) (text behind bytes : List ℕ) (t : Token) (out new : List ℕ) → 0 < n
+    → Some (Ok (t, behind)) ≡ token_at fresh text → bytes ≡ take (length text - length behind) text → new ≡ out ++ token_in_english language t bytes
+    → feed ≡ begins_feed text → new ++ english_from (n - 1) language feed behind ≡ out ++ english_from n language fresh text
+english_on n language fresh feed text behind bytes t out new some read cut added next =
+    let on = english_from (n - 1) language (begins_feed text) in
+    ap (λ (b : Bool). new ++ english_from (n - 1) language b behind) next
+    ∙ ap (λ (x : List ℕ). x ++ on behind) (added ∙ ap (λ (x : List ℕ). out ++ token_in_english language t x) cut)
+    ∙ append_assoc out (token_in_english language t (take (length text - length behind) text)) (on behind)
+    ∙ ap (λ (x : List ℕ). out ++ x) (ap (english_then on language text) read ∙ sym (english_more n language fresh text some))

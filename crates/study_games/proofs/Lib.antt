@@ -3,4 +3,6 @@ pub mod Tails
 pub mod Lexing
 pub mod Fuel
 pub mod Isolated
+pub mod Within
+pub mod Places
 mod Examples

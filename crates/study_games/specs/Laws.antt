@@ -1,8 +1,10 @@
--- A game is independent of every other.
-use Rattle.std.specs.Prelude.{◌≡◌, ℕ, Bool, true, false, List, [], ◌∷◌, ◌++◌, None}
+-- A game is independent of every other. A game in English letters has each place where it was.
+use Rattle.std.specs.Prelude.{◌≡◌, ℕ, Bool, true, false, List, [], ◌∷◌, ◌++◌, length, None}
+use Rattle.study_games.specs.declared.language.Language.{Language}
 use Rattle.study_games.specs.declared.games.LineKind.{LineKind}
 use Rattle.study_games.specs.declared.games.LineKind.TheVariants.{Silent, Tag, EventTag, Moves}
 use Rattle.study_games.specs.Games.{kind_of, lines_behind, one_more, without_mark, games_from, games_of}
+use Rattle.study_games.specs.Languages.{in_english}
 
 -- the number of the line after so many lines, the first of which has number n
 abbrev pub number_behind : ℕ → List (List ℕ) → ℕ
@@ -43,3 +45,7 @@ IsIsolated =
     (front b : List ℕ) → (a : List ℕ) → a ≡ front ++ 10 ∷ [] → EndsWithMoves 1 (lines_of a)
     → BeginsWithTag (number_behind 1 (lines_of a)) (lines_of b)
     → games_of (a ++ b) ≡ games_of a ++ games_from (number_behind 1 (lines_of a)) None (lines_of b)
+
+-- a text in English letters is as long as before, so that a place in it is the place in the text
+abbrev pub KeepsPlaces : Type 0
+KeepsPlaces = (language : Language) → (text : List ℕ) → length (in_english language text) ≡ length text

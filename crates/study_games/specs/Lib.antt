@@ -8,4 +8,5 @@ pub mod Games
 pub mod Header
 pub mod Characters
 pub mod Ascii
+pub mod Languages
 pub mod Laws

@@ -1,12 +1,14 @@
 -- The meaning of a symbol, and the SAN of a symbol for a move.
-use Rattle.std.specs.Prelude.{ℕ, ◌-◌, Bool, false, not, ◌&&◌, ◌||◌, ◌==◌, nat_le, List, [], ◌∷◌, ◌++◌, length, take, slice_index, codes, Option, Some, None}
+use Rattle.std.specs.Prelude.{ℕ, ◌-◌, Bool, false, not, ◌&&◌, ◌||◌, ◌==◌, nat_le, List, [], ◌∷◌, ◌++◌, length, take, drop, slice_index, codes, Option, Some, None}
 use Rattle.std.specs.Prelude.{if◌then◌else◌}
 use Rattle.std.specs.List.{list_all, flat_map}
 use Rattle.std.specs.Str.{bytes_eq}
-use Rattle.study_games.specs.Bytes.{is_digit, is_tail}
+use Rattle.study_games.specs.Bytes.{is_letter, is_digit, is_high, is_tail}
 use Rattle.study_games.specs.declared.symbols.Outcome.TheVariants.{WhiteWins, BlackWins, Drawn}
+use Rattle.study_games.specs.declared.spelling.Claim.{Claim}
+use Rattle.study_games.specs.declared.spelling.Claim.TheVariants.{Check, Mate}
 use Rattle.study_games.specs.declared.symbols.Said.{Said}
-use Rattle.study_games.specs.declared.symbols.Said.TheVariants.{Number, Result, NullMove, Aside, Move}
+use Rattle.study_games.specs.declared.symbols.Said.TheVariants.{Number, Result, NullMove, Passing, Aside, Word, Move}
 
 -- ---- figurines: E2 99, and 94 to 99 for White's king, queen, rook, bishop, knight and pawn, 9A to 9F for Black's
 
@@ -81,6 +83,31 @@ is_passing symbol = bytes_eq symbol (codes "e") || (bytes_eq symbol (codes "p") 
 abbrev pub is_judgement : List ℕ → Bool
 is_judgement symbol = list_all is_tail symbol && not (has_figurine symbol)
 
+-- ---- words
+
+-- a letter of a file, `x` or the `O` of castling
+abbrev pub is_move_letter : ℕ → Bool
+is_move_letter b = (nat_le 97 b && nat_le b 104) || (b == 120 || b == 79)
+
+abbrev pub is_piece_letter : ℕ → Bool
+is_piece_letter b = b == 75 || (b == 81 || (b == 82 || (b == 66 || (b == 78 || b == 80))))
+
+-- letters alone as a move begins with them: `K`, `Nb`, `dx`
+abbrev pub begins_move : List ℕ → Bool
+begins_move [] = false
+begins_move (b ∷ bs) = (is_piece_letter b || is_move_letter b) && list_all is_move_letter bs
+
+-- letters, of any language
+abbrev pub is_word_byte : ℕ → Bool
+is_word_byte b = is_letter b || is_high b
+
+abbrev pub is_word_text : List ℕ → Bool
+is_word_text text = list_all is_word_byte text && not (begins_move text)
+
+-- a word, such as `wins`: at most 32 bytes of letters alone, which no move is, and with which no move begins
+unfoldable pub is_word : List ℕ → Bool
+is_word symbol = nat_le (length symbol) 32 && is_word_text (with_letters symbol)
+
 unfoldable pub said_of : List ℕ → Said
 said_of symbol =
     if list_all is_digit symbol then Number
@@ -88,9 +115,10 @@ said_of symbol =
     else (if spells symbol (codes "0-1") then Result BlackWins
     else (if is_drawn symbol then Result Drawn
     else (if is_null_move symbol then NullMove
-    else (if is_passing symbol then Aside
+    else (if is_passing symbol then Passing
     else (if is_judgement symbol then Aside
-    else Move))))))
+    else (if is_word symbol then Word
+    else Move)))))))
 
 -- ---- the SAN
 
@@ -131,3 +159,18 @@ plain_spelling text = flat_map (plain_bytes (begins_castling text)) text
 
 unfoldable pub san_in : List ℕ → List ℕ
 san_in symbol = plain_spelling (without_pawn (without_passing (without_tail (with_letters symbol))))
+
+-- ---- what the signs behind a move claim
+
+abbrev pub claim_of : List ℕ → Option Claim
+claim_of signs =
+    if bytes_eq signs (codes "#") then Some Mate
+    else (if bytes_eq signs (codes "+") || bytes_eq signs (codes "++") then Some Check else None)
+
+-- the signs at the end of a text
+abbrev pub signs_in : List ℕ → List ℕ
+signs_in text = drop (length (without_tail text)) text
+
+-- of a symbol of at most 32 bytes
+unfoldable pub claim_in : List ℕ → Option Claim
+claim_in symbol = if nat_le (length symbol) 32 then claim_of (signs_in (with_letters symbol)) else None

@@ -1,8 +1,9 @@
 //! The text of PGN: its games, their tags and tokens, and the meaning of symbols.
 //!
 //! `Gathering` cuts a text into games, line by line; `count_tags`, `header_fault` and `tag_value` read the header of a game; `read_token` reads the
-//! tokens of its moves one by one, `say` reads a symbol, and `san_in` the SAN of a symbol for a move. `cut_run` cuts a text after its first bytes of
-//! one kind. `unescape`, `spell_out` and `short_text` turn the value of a tag into text that a script can hold.
+//! tokens of its moves one by one, `say` reads a symbol, `san_in` the SAN of a symbol for a move, and `claim_in` its signs of check and mate. `cut_run`
+//! cuts a text after its first bytes of one kind. `unescape`, `spell_out` and `short_text` turn the value of a tag into text that a script can hold.
+//! `in_english` writes the moves of a game with English letters.
 #![tactic(auto)]
 
 mod ascii;
@@ -11,6 +12,7 @@ mod characters;
 mod games;
 mod gathering;
 mod header;
+mod language;
 mod laws;
 mod letters;
 mod runs;
@@ -25,10 +27,11 @@ pub use characters::is_utf8;
 pub use games::{LineKind, Seen, begins_game, kind_of, seen_then, without_mark};
 pub use gathering::{Game, Gathering, LARGEST_GAME, LONGEST_LINE};
 pub use header::{HeaderFault, count_named, count_tags, header_fault, tag_value, unescape};
-pub use laws::games_are_isolated;
+pub use language::{Language, in_english, language_name};
+pub use laws::{english_keeps_places, games_are_isolated};
 pub use letters::is_figurine;
 pub use runs::{Run, cut_run};
-pub use spelling::{LONGEST_SYMBOL, san_in};
+pub use spelling::{Claim, LONGEST_SYMBOL, claim_in, san_in};
 pub use symbols::{Outcome, Said, say};
 pub use token::{Cut, Token, TokenFault, begins_ellipsis, begins_feed, read_token};
 pub use words::{next_word, trim_end, trim_start, truncate};

@@ -1,7 +1,7 @@
 //! The SAN of a symbol for a move.
 ghost use Rattle.std.specs.Prelude.{◌≡◌, ◌≤◌, length, take};
 ghost use Rattle.study_games.specs.Symbols.{with_letters, without_tail, without_passing, without_pawn};
-ghost use Rattle.study_games.specs.Symbols.{begins_castling, plain_byte, plain_spelling, san_in};
+ghost use Rattle.study_games.specs.Symbols.{begins_castling, plain_byte, plain_spelling, san_in, claim_of, claim_in};
 
 use crate::bytes::is_tail;
 use crate::letters::read_letter;
@@ -10,8 +10,15 @@ use arrayvec::ArrayVec;
 /// The longest symbol that is read as a move.
 pub const LONGEST_SYMBOL: usize = 32;
 
+/// What the signs behind a move claim.
+#[derive(Clone, Copy, Debug, PartialEq, Eq)]
+pub enum Claim {
+    Check,
+    Mate,
+}
+
 /// Letters in place of figurines, and `-` for dashes.
-fn with_letters(symbol: &[u8]) -> ArrayVec<u8, 32>
+pub fn with_letters(symbol: &[u8]) -> ArrayVec<u8, 32>
     requires { length symbol.now ≤ 32 }
     ensures { result.items ≡ with_letters symbol.now }
 {
@@ -111,4 +118,30 @@ pub fn san_in(symbol: &[u8]) -> ArrayVec<u8, 32>
     let text = letters.as_slice();
     let (front, _) = text.split_at(len_without_tail(text));
     plain_spelling(strip_pawn(strip_passing(front)))
+}
+
+fn claim_of(signs: &[u8]) -> Option<Claim>
+    ensures { result ≡ claim_of signs.now }
+{
+    if signs == b"#".as_slice() {
+        Some(Claim::Mate)
+    } else if signs == b"+".as_slice() || signs == b"++".as_slice() {
+        Some(Claim::Check)
+    } else {
+        None
+    }
+}
+
+/// What the signs at the end of a symbol claim.
+#[tactic(auto, unfolding(crate::specs::Symbols::claim_in))]
+pub fn claim_in(symbol: &[u8]) -> Option<Claim>
+    ensures { result ≡ claim_in symbol.now }
+{
+    if symbol.len() > LONGEST_SYMBOL {
+        return None;
+    }
+    let letters = with_letters(symbol);
+    let text = letters.as_slice();
+    let (_, signs) = text.split_at(len_without_tail(text));
+    claim_of(signs)
 }

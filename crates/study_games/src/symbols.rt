@@ -2,10 +2,12 @@
 ghost use Rattle.std.specs.Prelude.{◌≡◌};
 ghost use Rattle.std.specs.List.{list_all};
 ghost use Rattle.study_games.specs.Bytes.{is_digit, is_tail};
-ghost use Rattle.study_games.specs.Symbols.{begins_figurine, has_figurine, is_drawn, is_dash, is_null_move, is_passing, is_judgement, said_of};
+ghost use Rattle.study_games.specs.Symbols.{begins_figurine, has_figurine, is_drawn, is_dash, is_null_move, is_passing, is_judgement, is_word, said_of};
+ghost use Rattle.study_games.specs.Symbols.{is_move_letter, is_piece_letter, is_word_byte, begins_move};
 
 use crate::bytes;
 use crate::letters::{is_figurine, spells};
+use crate::spelling::{LONGEST_SYMBOL, with_letters};
 
 /// How a game ends.
 #[derive(Clone, Copy, Debug, PartialEq, Eq)]
@@ -22,8 +24,12 @@ pub enum Said {
     Number,
     Result(Outcome),
     NullMove,
-    /// `e.p.` and signs of judgement.
+    /// `e.p.`, which the move says by itself.
+    Passing,
+    /// A sign of judgement.
     Aside,
+    /// Letters alone with which no move begins.
+    Word,
     Move,
 }
 
@@ -102,6 +108,62 @@ fn is_judgement(symbol: &[u8]) -> bool
     are_tail(symbol) && !has_figurine(symbol)
 }
 
+/// A letter of a file, `x` or the `O` of castling.
+fn is_move_letter(b: u8) -> bool
+    ensures { result ≡ is_move_letter b }
+{
+    (b'a' <= b && b <= b'h') || b == b'x' || b == b'O'
+}
+
+fn is_piece_letter(b: u8) -> bool
+    ensures { result ≡ is_piece_letter b }
+{
+    b == b'K' || b == b'Q' || b == b'R' || b == b'B' || b == b'N' || b == b'P'
+}
+
+fn is_word_byte(b: u8) -> bool
+    ensures { result ≡ is_word_byte b }
+{
+    bytes::is_letter(b) || bytes::is_high(b)
+}
+
+fn are_move_letters(text: &[u8]) -> bool
+    ensures { result ≡ list_all is_move_letter text.now }
+{
+    text.iter().all(|b| is_move_letter(*b))
+}
+
+fn are_word_bytes(text: &[u8]) -> bool
+    ensures { result ≡ list_all is_word_byte text.now }
+{
+    text.iter().all(|b| is_word_byte(*b))
+}
+
+/// Letters alone as a move begins with them: `K`, `Nb`, `dx`.
+fn begins_move(text: &[u8]) -> bool
+    ensures { result ≡ begins_move text.now }
+{
+    match text {
+        [first, rest @ ..] => {
+            (is_piece_letter(*first) || is_move_letter(*first)) && are_move_letters(rest)
+        }
+        [] => false,
+    }
+}
+
+/// A word, such as `wins`.
+#[tactic(auto, unfolding(crate::specs::Symbols::is_word))]
+fn is_word(symbol: &[u8]) -> bool
+    ensures { result ≡ is_word symbol.now }
+{
+    if symbol.len() > LONGEST_SYMBOL {
+        return false;
+    }
+    let letters = with_letters(symbol);
+    let text = letters.as_slice();
+    are_word_bytes(text) && !begins_move(text)
+}
+
 /// The meaning of the symbol.
 #[tactic(auto, unfolding(crate::specs::Symbols::said_of))]
 pub fn say(symbol: &[u8]) -> Said
@@ -117,8 +179,12 @@ pub fn say(symbol: &[u8]) -> Said
         Said::Result(Outcome::Drawn)
     } else if is_null_move(symbol) {
         Said::NullMove
-    } else if is_passing(symbol) || is_judgement(symbol) {
+    } else if is_passing(symbol) {
+        Said::Passing
+    } else if is_judgement(symbol) {
         Said::Aside
+    } else if is_word(symbol) {
+        Said::Word
     } else {
         Said::Move
     }
