@@ -15,9 +15,10 @@ use Rattle.study_remark.specs.declared.remark.Original.TheVariants as original
 use Rattle.study_remark.specs.declared.remark.Source.{Source}
 use Rattle.study_remark.specs.declared.remark.Source.TheVariants as source
 use Rattle.study_remark.specs.Remarks.{Game, Told, left_out, not_read, stipulated, doubted, not_taken_over, behind_result, original_of, tail, total}
+use Rattle.study_remark.specs.Remarks.{latin_1, letters}
 use Rattle.study_remark.specs.Remarks.{column_words, author_words, subject_words, stipulated_words, remark_words}
 use Rattle.study_remark.specs.Reading.{after_word, is_digit, begins_digit, with_digit, digits_after, number_at}
-use Rattle.study_remark.specs.Reading.{column_at, colon_in, without_closing, author_in, author_at, game_at, said_of_game, original_in, told_in, remark_in}
+use Rattle.study_remark.specs.Reading.{column_at, colon_in, without_closing, author_in, author_at, game_at, said_of_game, original_in, latin_told, told_in, remark_in}
 use Rattle.study_remark.specs.Laws.{IsNumber, IsColumn, IsGame, IsReason, IsPlain, AreReadAgain, AreNoRemarks}
 
 -- ---- numbers
@@ -172,6 +173,19 @@ original_again original.Round text = refl
 original_again original.White text = refl
 original_again original.Black text = refl
 
+latin_again : (name : Original) → told_in (remark_words (latin_1 name)) ≡ Some (latin_1 name)
+unfolding told_in game_at original_in latin_told
+latin_again original.Event = refl
+latin_again original.Site = refl
+latin_again original.Date = refl
+latin_again original.Round = refl
+latin_again original.White = refl
+latin_again original.Black = refl
+
+letters_again : (language : List ℕ) → told_in (remark_words (letters language)) ≡ Some (letters language)
+unfolding told_in game_at original_in latin_told
+letters_again language = refl
+
 last_number : (n : ℕ) → IsNumber n → number_at (decimal n) ≡ Some (n, [])
 last_number n h = ap number_at (sym (append-nil (decimal n))) ∙ number_again n h [] refl
 
@@ -180,11 +194,11 @@ unfolding told_in game_at
 behind_again line column h k = rw (number_again line h (codes ", column " ++ decimal column) refl, last_number column k) refl
 
 tail_again : (moves : ℕ) → IsNumber moves → told_in (remark_words (tail moves)) ≡ Some (tail moves)
-unfolding told_in game_at original_in
+unfolding told_in game_at original_in latin_told
 tail_again moves h = rw (number_again moves h (codes "; its position is another program's word") refl) refl
 
 total_again : (games studies : ℕ) → IsNumber games → IsNumber studies → told_in (remark_words (total games studies)) ≡ Some (total games studies)
-unfolding told_in game_at original_in
+unfolding told_in game_at original_in latin_told
 total_again games studies h k = rw (number_again games h (codes ", studies " ++ decimal studies) refl, last_number studies k) refl
 
 told_again : (t : Told) → IsPlain t → told_in (remark_words t) ≡ Some t
@@ -195,6 +209,8 @@ told_again (doubted why) h = doubt_again why
 told_again (not_taken_over counts) h = counts_again counts
 told_again (behind_result line column) h = behind_again line column h.0 h.1
 told_again (original_of name text) h = original_again name text
+told_again (latin_1 name) h = latin_again name
+told_again (letters language) h = letters_again language
 told_again (tail moves) h = tail_again moves h
 told_again (total games studies) h = total_again games studies h.0 h.1
 

@@ -11,7 +11,7 @@ use Rattle.study_remark.specs.declared.remark.Original.TheVariants as original
 use Rattle.study_remark.specs.declared.remark.Source.{Source}
 use Rattle.study_remark.specs.declared.remark.Source.TheVariants as source
 use Rattle.study_remark.specs.Remarks.{Game, Told, left_out, not_read, stipulated, doubted, not_taken_over, behind_result, original_of, tail, total}
-use Rattle.study_remark.specs.Remarks.{source_words, doubt_words}
+use Rattle.study_remark.specs.Remarks.{latin_1, letters, source_words, doubt_words, original_name}
 
 -- ---- words and numbers
 
@@ -146,6 +146,22 @@ original_in text =
     (original_by original.Site (codes "Site was: ") text
     (original_by original.Event (codes "Event was: ") text None)))))
 
+-- the tag with this name
+abbrev pub original_with : List ℕ → Option Original
+original_with words =
+    if bytes_eq words (original_name original.Event) then Some original.Event
+    else (if bytes_eq words (original_name original.Site) then Some original.Site
+    else (if bytes_eq words (original_name original.Date) then Some original.Date
+    else (if bytes_eq words (original_name original.Round) then Some original.Round
+    else (if bytes_eq words (original_name original.White) then Some original.White
+    else (if bytes_eq words (original_name original.Black) then Some original.Black else None)))))
+
+unfoldable pub latin_told : List ℕ → Option Told
+latin_told text = option_and_then (λ name. option_map latin_1 (original_with name)) (after_word (codes "read as Latin 1: ") text)
+
+abbrev pub letters_told : List ℕ → Option Told
+letters_told text = option_map letters (after_word (codes "letters: ") text)
+
 abbrev pub tail_by : ℕ × List ℕ → Option Told
 tail_by cut = if bytes_eq cut.1 (codes "; its position is another program's word") then Some (tail cut.0) else None
 
@@ -160,7 +176,12 @@ or_told (Some told) other = Some told
 or_told None other = other
 
 abbrev pub other_told : List ℕ → Option Told
-other_told text = or_told (behind_told text) (or_told (original_in text) (or_told (tail_told text) (total_told text)))
+other_told text =
+    or_told (behind_told text)
+    (or_told (original_in text)
+    (or_told (latin_told text)
+    (or_told (letters_told text)
+    (or_told (tail_told text) (total_told text)))))
 
 -- the remark with these words
 unfoldable pub told_in : List ℕ → Option Told

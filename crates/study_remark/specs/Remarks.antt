@@ -25,6 +25,8 @@ pub data Told : Type 0 where
   not_taken_over : (counts : List ℕ) → Told
   behind_result : (line column : ℕ) → Told
   original_of : Original → (text : List ℕ) → Told
+  latin_1 : Original → Told
+  letters : (language : List ℕ) → Told
   tail : (moves : ℕ) → Told
   total : (games studies : ℕ) → Told
 
@@ -84,6 +86,8 @@ remark_words (doubted why) = codes "the stipulation " ++ doubt_words why
 remark_words (not_taken_over counts) = codes "not taken over: " ++ counts
 remark_words (behind_result line column) = behind_words line column
 remark_words (original_of name text) = original_name name ++ (codes " was: " ++ text)
+remark_words (latin_1 name) = codes "read as Latin 1: " ++ original_name name
+remark_words (letters language) = codes "letters: " ++ language
 remark_words (tail moves) = tail_words moves
 remark_words (total games studies) = total_words games studies
 
@@ -107,5 +111,7 @@ remark_seen (remark.Doubted why) = doubted why
 remark_seen (remark.NotTakenOver counts) = not_taken_over counts.now
 remark_seen (remark.BehindResult line column) = behind_result line column
 remark_seen (remark.Original name text) = original_of name text.now
+remark_seen (remark.Latin1 name) = latin_1 name
+remark_seen (remark.Letters language) = letters language.now
 remark_seen (remark.Tail moves) = tail moves
 remark_seen (remark.Total games studies) = total games studies

@@ -1,10 +1,10 @@
 //! Remarks read from a script.
-ghost use Rattle.std.specs.Prelude.{◌≡◌, ◌≤◌, length, take, drop};
+ghost use Rattle.std.specs.Prelude.{◌≡◌, ◌≤◌, length};
 ghost use Rattle.std.specs.Option.{option_map};
 ghost use Rattle.study_remark.specs.Remarks.{game_seen, remark_seen};
 ghost use Rattle.study_remark.specs.Reading.{column_at, colon_in, without_closing, author_in, author_at, game_at, source_in, doubt_in};
 ghost use Rattle.study_remark.specs.Reading.{said_of_game, game_told, doubt_told, counts_told, behind_told, original_in, tail_told, total_told, other_told};
-ghost use Rattle.study_remark.specs.Reading.{told_in, remark_in, old_remark_in};
+ghost use Rattle.study_remark.specs.Reading.{original_with, latin_told, letters_told, told_in, remark_in, old_remark_in};
 
 use crate::numbers::{after_word, number_after, number_at, read_pair};
 use crate::{Doubt, Original, Remark, Source, Subject};
@@ -166,6 +166,42 @@ fn read_original(text: &[u8]) -> Option<Remark<'_>>
     Some(Remark::Original(Original::Black, value))
 }
 
+/// The tag with this name.
+fn original_with(name: &[u8]) -> Option<Original>
+    ensures { result ≡ original_with name.now }
+{
+    if name == b"Event".as_slice() {
+        Some(Original::Event)
+    } else if name == b"Site".as_slice() {
+        Some(Original::Site)
+    } else if name == b"Date".as_slice() {
+        Some(Original::Date)
+    } else if name == b"Round".as_slice() {
+        Some(Original::Round)
+    } else if name == b"White".as_slice() {
+        Some(Original::White)
+    } else if name == b"Black".as_slice() {
+        Some(Original::Black)
+    } else {
+        None
+    }
+}
+
+#[tactic(auto, unfolding(crate::specs::Reading::latin_told))]
+fn read_latin(text: &[u8]) -> Option<Remark<'_>>
+    ensures { option_map remark_seen result ≡ latin_told text.now }
+{
+    let name = original_with(after_word(text, b"read as Latin 1: ")?)?;
+    Some(Remark::Latin1(name))
+}
+
+fn read_letters(text: &[u8]) -> Option<Remark<'_>>
+    ensures { option_map remark_seen result ≡ letters_told text.now }
+{
+    let language = after_word(text, b"letters: ")?;
+    Some(Remark::Letters(language))
+}
+
 fn read_tail(text: &[u8]) -> Option<Remark<'_>>
     ensures { option_map remark_seen result ≡ tail_told text.now }
 {
@@ -206,6 +242,12 @@ fn read_other(text: &[u8]) -> Option<Remark<'_>>
         return Some(remark);
     }
     if let Some(remark) = read_original(text) {
+        return Some(remark);
+    }
+    if let Some(remark) = read_latin(text) {
+        return Some(remark);
+    }
+    if let Some(remark) = read_letters(text) {
         return Some(remark);
     }
     if let Some(remark) = read_tail(text) {

@@ -68,6 +68,10 @@ pub enum Remark<'t> {
     BehindResult(u32, u32),
     /// The text of a tag before it was turned into letters of the script.
     Original(Original, &'t [u8]),
+    /// The tag with this name has bytes that fit no UTF-8, and is read as Latin 1.
+    Latin1(Original),
+    /// The language of the letters in which a game's moves are given, if it is not English.
+    Letters(&'t [u8]),
     /// The number of moves before a tail.
     Tail(u32),
     /// The last line: the numbers of games and of studies.

@@ -160,6 +160,8 @@ fn add_words<A: Allocator>(out: &mut Text<'_, A>, remark: &Remark<'_>) -> Result
             out.add(original_name(*name))?;
             add_both(out, b" was: ", text)
         }
+        Remark::Latin1(name) => add_both(out, b"read as Latin 1: ", original_name(*name)),
+        Remark::Letters(language) => add_both(out, b"letters: ", language),
         Remark::Tail(moves) => add_between(
             out,
             b"a tail: moves before ",
