@@ -271,7 +271,9 @@ opening_said : (n : Notes) (cut waits : Bool) (said : Said) → IsNoted n → Is
 opening_said n cut waits say.Number h = h
 opening_said n cut waits (say.Result outcome) h = h
 opening_said n cut waits say.NullMove h = h
+opening_said n cut waits say.Passing h = h
 opening_said n cut waits say.Aside h = h
+opening_said n cut waits say.Word h = h
 opening_said n cut waits say.Move h = h
 
 opening_sign : (n : Notes) (cut is_null : Bool) → IsNoted n → IsNoted (with_sign n cut is_null)

@@ -6,13 +6,14 @@ use Rattle.study_notation.specs.declared.fault.FenFault.{FenFault}
 use Rattle.study_notation.specs.Fen.{start_of}
 use Rattle.study_marks.specs.declared.stipulation.Stipulation.{Stipulation}
 use Rattle.study_games.specs.Header.{tags_of, header_fault, value_of}
+use Rattle.study_games.specs.declared.language.Language.{Language}
 use Rattle.study_games.specs.declared.header.HeaderFault.{HeaderFault}
 use Rattle.study_import.specs.declared.game.aims.Aim.{Aim}
 use Rattle.study_import.specs.declared.game.aims.Sources.{Sources}
 use Rattle.study_import.specs.Aims.{aim_by_sources}
 use Rattle.study_import.specs.declared.game.movetext.MovesFault.{MovesFault}
 use Rattle.study_import.specs.Movetext.{Ended}
-use Rattle.study_import.specs.Blocks.{Block, Reported, reported_of, block_lines, no_study, left_out, sources_of, aimed_block, read_block, game_read}
+use Rattle.study_import.specs.Blocks.{Block, Reported, reported_of, block_lines, no_study, left_out, sources_of, aimed_block, read_block, game_read, language_of, text_in}
 use Rattle.study_import.specs.Blocks.{fen_in, start_block, fen_block, repeated_name, single_block, header_block, block_of, tail_of, tail_line, under_remark, block_or_tail}
 use Rattle.study_import.specs.Tails.{Tail, position_text}
 use Rattle.study_import.specs.Laws.{entry_of, remark_above, text_read, AreAlike}
@@ -27,17 +28,18 @@ module _ (given : Option Stipulation) (text : List ℕ) where
   aimed_alike start t s None m k e = absurd cc
   aimed_alike start t s (Some aim) m k e = (start, aim, t, λ number line. refl)
 
-  read_alike : (start : Start) (x : Result Ended MovesFault) (m k : ℕ) → (read_block given (entry_of m k text) start x).is_study ≡ true
-      → Alike (λ number line. read_block given (entry_of number line text) start x)
-  read_alike start (Err fault) m k e = absurd cc
-  read_alike start (Ok x) m k e =
+  read_alike : (start : Start) (l : Option Language) (x : Result Ended MovesFault) (m k : ℕ)
+      → (read_block given (entry_of m k text) start l x).is_study ≡ true → Alike (λ number line. read_block given (entry_of number line text) start l x)
+  read_alike start l (Err fault) m k e = absurd cc
+  read_alike start l (Ok x) m k e =
       let s = sources_of given (tags_of text) start.position.to_move x.game.notes in
-      aimed_alike start (reported_of x) s (aim_by_sources s) m k e
+      aimed_alike start (reported_of l x) s (aim_by_sources s) m k e
 
   start_alike : (fen : List ℕ) (x : Result Start FenFault) (m k : ℕ) → (start_block given (entry_of m k text) fen x).is_study ≡ true
       → Alike (λ number line. start_block given (entry_of number line text) fen x)
   start_alike fen (Err fault) m k e = absurd cc
-  start_alike fen (Ok start) m k e = read_alike start (game_read text start) m k e
+  start_alike fen (Ok start) m k e =
+      let l = language_of text start in read_alike start l (game_read (text_in l text) start) m k e
 
   fen_alike : (value : Option (List ℕ)) (m k : ℕ) → (fen_block given (entry_of m k text) value).is_study ≡ true
       → Alike (λ number line. fen_block given (entry_of number line text) value)

@@ -1,3 +1,5 @@
+pub mod Spelt
+pub mod Claims
 pub mod Moved
 pub mod Played
 pub mod TokenByToken

@@ -36,7 +36,7 @@ use Rattle.study_import.specs.Moves.{After, child_or_added, moved_by, after_san,
 use Rattle.study_import.specs.Reading.{Reading, insert_line, gone_on, read_on, after_move, symbol_played}
 use Rattle.study_import.specs.Taken.{Taken, going_on, on_line, at_result, cut_line, at_null_move, on_move, taken_symbol, taken_sign, after_token}
 use Rattle.study_import.specs.declared.game.notes.Notes.{Notes}
-use Rattle.study_import.specs.Notes.{GameRead, GameTaken, is_header_tag, noted_on, game_taken}
+use Rattle.study_import.specs.Notes.{GameRead, GameTaken, is_header_tag, noted_on, placed_or, with_signs, signs_noted, game_taken}
 use Rattle.study_import.specs.declared.game.numbering.Numbering.{Numbering}
 use Rattle.study_import.specs.Movetext.{Ended, at_end, goes_on, game_numbered, with_numbering, on_numbered, on_token, fault_at, read_moves}
 use Rattle.study_import.specs.Insertions.{Insertion, made_by, AllAccepted, lines_for, Leads}
@@ -198,7 +198,9 @@ module _ (A : Type 0) where
   said_leads r t text say.Number e = going r t e
   said_leads r t text (say.Result outcome) e = result_leads r t e
   said_leads r t text say.NullMove e = null_leads r t e
+  said_leads r t text say.Passing e = going r t e
   said_leads r t text say.Aside e = going r t e
+  said_leads r t text say.Word e = going r t e
   said_leads r t text say.Move e = move_leads r t (symbol_played r text) (λ now is. symbol_leads r now text is) e
 
   token_leads : (r : Reading) (t : Taken) (token : Token) → after_token r token ≡ Ok t → Leads A r t.reading
@@ -220,14 +222,29 @@ module _ (A : Type 0) where
       let is : record { game = record { reading = u.reading; notes = n }; ended = u.ended } ≡ t = cc in
       subst (λ (z : GameTaken). Leads A r z.game.reading) is (f u refl)
 
-  header_or : (g : GameRead) (t : GameTaken) (n : Notes) (token : Token) (in_header : Bool)
-      → (if in_header then Ok (record { game = g; ended = false }) else noted_on n (after_token g.reading token)) ≡ Ok t → Leads A g.reading t.game.reading
-  header_or g t n token true e =
+  placed_leads : (r : Reading) (u : Taken) (why : Option Reason) (x : Result Taken Reason) → (x ≡ Ok u → Leads A r u.reading)
+      → placed_or why x ≡ Ok u → Leads A r u.reading
+  placed_leads r u (Some why) x f e = absurd cc
+  placed_leads r u None x f e = f e
+
+  signed_leads : (r : Reading) (t : GameTaken) (token : Token) (x : Result GameTaken Reason) → ((u : GameTaken) → x ≡ Ok u → Leads A r u.game.reading)
+      → signs_noted token x ≡ Ok t → Leads A r t.game.reading
+  signed_leads r t token (Err why) f e = absurd cc
+  signed_leads r t token (Ok u) f e = let is : with_signs token u ≡ t = cc in subst (λ (z : GameTaken). Leads A r z.game.reading) is (f u refl)
+
+  header_or : (g : GameRead) (t : GameTaken) (n : Notes) (why : Option Reason) (token : Token) (in_header : Bool)
+      → (if in_header then Ok (record { game = g; ended = false }) else signs_noted token (noted_on n (placed_or why (after_token g.reading token)))) ≡ Ok t
+      → Leads A g.reading t.game.reading
+  header_or g t n why token true e =
       let is : record { game = g; ended = false } ≡ t = cc in same g.reading t.game.reading (sym (ap (λ (x : GameTaken). x.game.reading) is))
-  header_or g t n token false e = noted_leads g.reading n t (after_token g.reading token) (λ u is. token_leads g.reading u token is) e
+  header_or g t n why token false e =
+      let placed = placed_or why (after_token g.reading token) in
+      signed_leads g.reading t token (noted_on n placed)
+      (λ v at. noted_leads g.reading n v placed
+      (λ u is. placed_leads g.reading u why (after_token g.reading token) (λ k. token_leads g.reading u token k) is) at) e
 
   game_leads : (g : GameRead) (t : GameTaken) (token : Token) → game_taken g token ≡ Ok t → Leads A g.reading t.game.reading
-  game_leads g t token e = header_or g t _ token (is_header_tag g.notes token) e
+  game_leads g t token e = header_or g t _ _ token (is_header_tag g.notes token) e
 
   -- ---- a game
 

@@ -170,6 +170,10 @@ module _ {L : Type 0} where
   gone_at s ks true e = absurd cc
   gone_at s ks false e = refl
 
+  -- a node that has no start does not exist
+  pub no_spot : (s : Study L) (ks : List ℕ) → None ≡ start_at s ks → has_spot (plain_study s).tree ks ≡ false
+  no_spot s ks e = has_spot-plain s ks ∙ gone_at s ks (has_spot s.tree ks) e
+
   pub nowhere : (s : Study L) (ks san : List ℕ) → None ≡ start_at s ks → after_move_text (plain_study s) ks san ≡ Err NoSuchNode
   unfolding after_move_text
   nowhere s ks san e = rw (has_spot-plain s ks ∙ gone_at s ks (has_spot s.tree ks) e) refl

@@ -13,7 +13,7 @@ use Rattle.study_import.specs.declared.game.movetext.Stop.TheVariants as stop
 use Rattle.study_import.specs.Movetext.{Ended}
 use Rattle.study_import.specs.MovesRead.{IsReported}
 use Rattle.study_import.specs.Behind.{is_of_moves, behind_fault, moves_or, moves_left, moves_in, ended_unless, to_the_end}
-use Rattle.study_import.proofs.Whole.{Within, behind_le, within_lexed}
+use Rattle.study_games.proofs.Within.{Within, behind_le, within_lexed}
 
 -- ---- a token
 
@@ -79,6 +79,7 @@ none_behind (Ok y) x e = let is = unless_is y x (moves_in y.behind) e in sym (ap
 -- a fault before the end
 pub still_reported : (why : Stop) (expected : Result Ended MovesFault) (left : ℕ) → IsReported why expected left → IsReported why (to_the_end expected) left
 still_reported (stop.Taking (reason.Move move_fault.NoSuchNode)) expected left h = ap to_the_end h
+still_reported (stop.Taking reason.BehindWord) expected left h = ap to_the_end h
 still_reported (stop.Taking (reason.Move (move_fault.San fault))) expected left h = ap to_the_end h
 still_reported (stop.Taking (reason.Move move_fault.TooDeep)) expected left h = ap to_the_end h
 still_reported (stop.Taking (reason.Move move_fault.TreeFull)) expected left h = ap to_the_end h

@@ -18,7 +18,7 @@ use Rattle.study_games.specs.Bytes.{is_blank}
 use Rattle.study_games.specs.Words.{is_inked, begun_word, first_word}
 use Rattle.study_games.specs.Tokens.{behind}
 use Rattle.study_games.proofs.Lexing.{run_cut}
-use Rattle.study_import.specs.Aims.{ends_clause, ends_phrase, last_of_phrase, hero_of, goal_named, goal_or_mate, goal_in, aim_in}
+use Rattle.study_import.specs.Aims.{ends_clause, ends_phrase, last_of_phrase, hero_of, goal_named, goal_or_mate, goal_in, aim_in, begins_clause}
 use Rattle.study_import.specs.Laws.{IsCounted}
 use Rattle.study_import.proofs.Ink.{Ink, ink_of, ink_append, decimal_ink}
 use Rattle.study_import.proofs.PathAgain.{number_parsed}
@@ -82,9 +82,10 @@ named_plain : (word : List ℕ) (g : Goal) (behind : List ℕ) → goal_named (S
     → goal_or_mate (goal_named (last_of_phrase (word ++ 58 ∷ []) behind)) (word ++ 58 ∷ []) behind ≡ Some g
 named_plain word g behind h = rw (colon_off word behind, h) refl
 
-mate_later : (behind : List ℕ) (x : List ℕ × List ℕ) → first_word behind ≡ Some x → last_of_phrase (codes "mate") behind ≡ None
+mate_later : (behind : List ℕ) (x : List ℕ × List ℕ) → first_word behind ≡ Some x → begins_clause x.0 ≡ false
+    → last_of_phrase (codes "mate") behind ≡ None
 unfolding last_of_phrase
-mate_later behind x e = rw e refl
+mate_later behind x e h = rw (e, h) refl
 
 -- ---- a goal after `to`
 
@@ -131,7 +132,7 @@ mate_read k rest t counted h =
     let first : first_word t ≡ Some (codes "mate", t2) = ap first_word text
     ∙ word_next a.byte (codes "mate") c.byte (codes "in" ++ t3) a.gap (ink_of (codes "mate") refl) (omega arith) c.gap in
     let known : place_parsed (decimal k) ≡ Some k = number_parsed k (omega arith) in
-    rw (first, mate_later t2 (codes "in", t3) second, second, third, colon_off (decimal k) (g.byte ∷ g.back), known, le-leb 1 k counted.0, le-leb k 127 high)
+    rw (first, mate_later t2 (codes "in", t3) second refl, second, third, colon_off (decimal k) (g.byte ∷ g.back), known, le-leb 1 k counted.0, le-leb k 127 high)
     refl
 
 goal_read : (g : Goal) (rest t : List ℕ) → IsCounted g → Same (goal_text g ++ (58 ∷ 32 ∷ rest)) t

@@ -1,7 +1,7 @@
 -- The current place is a node of the tree, and so is each waiting one.
 use Rattle.std.proofs.Common.{◌≡◌, ℕ, zero, suc, ◌+◌, ◌-◌, ◌<◌, ◌≤◌, Bool, true, false, List, [], ◌∷◌, ◌++◌, length, take, Option, Some, None, Result}
 use Rattle.std.proofs.Common.{Ok, Err, refl, sym, ap, subst, ◌∙◌, arith, length-append, length-take}
-use Rattle.std.specs.Prelude.{◌==◌, not, nat_le, nat_lt, slice_index, codes, if◌then◌else◌}
+use Rattle.std.specs.Prelude.{◌==◌, not, nat_le, nat_lt, slice_index, codes, if◌then◌else◌, ◌&&◌}
 use Rattle.std.specs.List.{list_all}
 use Rattle.std.specs.Str.{bytes_eq}
 use Rattle.std.proofs.lemmas.Bool.{false≢true, leb-false}
@@ -34,6 +34,7 @@ use Rattle.study_import.specs.Moves.{After, child_or_added, moved_by, after_san,
 use Rattle.study_import.specs.Reading.{Reading, gone_on, read_on, after_move, symbol_played}
 use Rattle.study_import.specs.Taken.{Taken, going_on, on_line, cut_line, on_move, taken_symbol, taken_sign, after_token}
 use Rattle.study_import.specs.Notes.{GameRead, GameTaken, is_header_tag, with_token, noted_on, game_taken}
+use Rattle.study_import.specs.Notes.{said_misplaced, misplaced, placed_or, signs_noted}
 use Rattle.study_import.specs.Blocks.{no_moves, game_read}
 use Rattle.study_import.specs.Laws.{IsListed, AreListed}
 use Rattle.study_import.specs.Movetext.{read_moves}
@@ -277,7 +278,9 @@ unfolding TakenOk IsPlaced
 symbol_taken r text say.Number h = h
 symbol_taken r text (say.Result outcome) h = h
 symbol_taken r text say.NullMove h = null_taken r (length r.lines.waiting == 0) h
+symbol_taken r text say.Passing h = h
 symbol_taken r text say.Aside h = h
+symbol_taken r text say.Word h = h
 symbol_taken r text say.Move h = move_taken (symbol_played r text) (symbol_ok r text h)
 
 sign_taken : (r : Reading) (is_null : Bool) → IsPlaced r → TakenOk (taken_sign r is_null)
@@ -298,6 +301,10 @@ token_taken r (tag name value) h = tt
 token_taken r (sign text) h = sign_taken r (bytes_eq text (codes "--")) h
 token_taken r (symbol text) h = symbol_taken r text (said_of text) h
 
+IsListedOr : Option Reason → Type 0
+IsListedOr None = Unit {0}
+IsListedOr (Some why) = IsListed (stop.Taking why)
+
 GameOk : Result GameTaken Reason → Type 0
 GameOk (Ok t) = IsPlaced t.game.reading
 GameOk (Err why) = IsListed (stop.Taking why)
@@ -313,12 +320,55 @@ unfolding GameOk
 game_by g x true h k = h
 game_by g x false h k = k
 
+word_misplaced : (n : Notes) (cut : Bool) (said : Said) → IsListedOr (said_misplaced n cut said)
+unfolding IsListedOr
+word_misplaced n cut say.Word = first n.before_moves
+  where
+    first : (b : Bool) → IsListedOr (if b then Some (reason.Move (move_fault.San NotSan)) else None)
+    first true = tt
+    first false = tt
+word_misplaced n cut say.Move = behind (n.behind_word && not cut)
+  where
+    behind : (b : Bool) → IsListedOr (if b then Some reason.BehindWord else None)
+    behind true = tt
+    behind false = tt
+word_misplaced n cut say.Number = tt
+word_misplaced n cut (say.Result outcome) = tt
+word_misplaced n cut say.NullMove = tt
+word_misplaced n cut say.Passing = tt
+word_misplaced n cut say.Aside = tt
+
+token_misplaced : (n : Notes) (cut : Bool) (token : Token) → IsListedOr (misplaced n cut token)
+unfolding IsListedOr
+token_misplaced n cut (symbol text) = word_misplaced n cut (said_of text)
+token_misplaced n cut blank = tt
+token_misplaced n cut aside = tt
+token_misplaced n cut (comment text) = tt
+token_misplaced n cut (rest text) = tt
+token_misplaced n cut opening = tt
+token_misplaced n cut closing = tt
+token_misplaced n cut star = tt
+token_misplaced n cut (tag name value) = tt
+token_misplaced n cut (sign text) = tt
+
+placed_ok : (why : Option Reason) (t : Result Taken Reason) → IsListedOr why → TakenOk t → TakenOk (placed_or why t)
+unfolding IsListedOr TakenOk
+placed_ok None t h k = k
+placed_ok (Some why) t h k = h
+
+signs_ok : (token : Token) (x : Result GameTaken Reason) → GameOk x → GameOk (signs_noted token x)
+unfolding GameOk
+signs_ok token (Ok t) h = h
+signs_ok token (Err why) h = h
+
 game_ok : (g : GameRead) (token : Token) → IsPlaced g.reading → GameOk (game_taken g token)
 game_ok g token h =
-    game_by g (noted_on (with_token g.notes (nat_le 1 g.reading.lines.cut) (not (length g.reading.lines.waiting == 0)) token) (after_token g.reading token))
-    (is_header_tag g.notes token) h
-    (noted_ok (with_token g.notes (nat_le 1 g.reading.lines.cut) (not (length g.reading.lines.waiting == 0)) token) (after_token g.reading token)
-    (token_taken g.reading token h))
+    let cut = nat_le 1 g.reading.lines.cut in
+    let noted = with_token g.notes cut (not (length g.reading.lines.waiting == 0)) token in
+    let placed = placed_or (misplaced g.notes cut token) (after_token g.reading token) in
+    game_by g (signs_noted token (noted_on noted placed)) (is_header_tag g.notes token) h
+    (signs_ok token (noted_on noted placed) (noted_ok noted placed
+    (placed_ok (misplaced g.notes cut token) (after_token g.reading token) (token_misplaced g.notes cut token) (token_taken g.reading token h))))
 
 -- ---- a game
 

@@ -1,5 +1,5 @@
 -- Token by token through the movetext of a study.
-use Rattle.std.proofs.Common.{◌≡◌, ℕ, zero, suc, ◌+◌, ◌-◌, ◌/◌, ◌%◌, ◌<◌, ◌≤◌, Bool, true, false, List, [], ◌∷◌, ◌++◌, length, take, Option, Some}
+use Rattle.std.proofs.Common.{◌≡◌, ℕ, zero, suc, ◌+◌, ◌-◌, ◌/◌, ◌%◌, ◌<◌, ◌≤◌, Bool, true, false, List, [], ◌∷◌, ◌++◌, length, take, Option, Some, Err}
 use Rattle.std.proofs.Common.{None, Result, Ok, refl, sym, ap, subst, ◌∙◌, inl, inr, arith, length-append}
 use Rattle.std.specs.Prelude.{◌==◌, ◌&&◌, not, nat_le, slice_index, decimal, if◌then◌else◌}
 use Rattle.std.specs.List.{list_all}
@@ -30,11 +30,14 @@ use Rattle.study_import.specs.Lines.{Lines, begin_line, end_line}
 use Rattle.study_import.specs.Moves.{after_move_text, moved_by}
 use Rattle.study_import.specs.Reading.{Reading, after_move, symbol_played}
 use Rattle.study_import.specs.Taken.{on_line, on_move, taken_symbol}
-use Rattle.study_import.specs.Notes.{GameRead, GameTaken, after_header, with_aside, with_comment, with_move, with_said, noted_on, game_taken}
+use Rattle.study_import.specs.Notes.{GameRead, GameTaken, after_header, with_aside, with_comment, with_move, with_said, noted_on, token_taken, game_taken}
+use Rattle.study_import.specs.Notes.{said_misplaced, placed_or, is_wrong_said, more_if, with_signs, signs_noted}
+use Rattle.study_import.specs.declared.game.token_effects.Reason.TheVariants as reason
 use Rattle.study_import.specs.declared.game.numbering.Numbering.{Numbering}
 use Rattle.study_import.specs.Numbering.{digits_numbered, said_numbered, token_numbered}
 use Rattle.study_import.specs.Movetext.{Ended, goes_on, game_numbered, with_numbering, on_numbered, on_token, read_moves}
-use Rattle.study_import.proofs.Whole.{same_token, within_lexed, moves_same}
+use Rattle.study_games.proofs.Within.{within_lexed}
+use Rattle.study_import.proofs.Whole.{same_token, moves_same}
 use Rattle.study_import.proofs.Blanks.{IsGap}
 use Rattle.study_import.proofs.Numbers.{IsFirst}
 
@@ -78,6 +81,30 @@ pub on_step : (fresh : Bool) (b : ℕ) (bs : List ℕ) (g : GameRead) (t : Token
     → IsQuiet t rest → game_taken g t ≡ Ok (record { game = h; ended = false }) → reads fresh (b ∷ bs) g ≡ reads (b == 10) rest h
 on_step fresh b bs g t rest h l q k = on_number fresh b bs g t rest g.notes.numbering h l (quiet_numbered g t rest q) k
 
+-- ---- a symbol, by what it says
+
+abbrev signed_as : List ℕ → Said → Result GameTaken Reason → Result GameTaken Reason
+signed_as text said (Err why) = Err why
+signed_as text said (Ok t) = Ok (record {
+  game = record {
+    reading = t.game.reading;
+    notes = record t.game.notes { wrong_signs = more_if (is_wrong_said t.game.reading text said) t.game.notes.wrong_signs };
+  };
+  ended = t.ended;
+})
+
+signs_as : (text : List ℕ) (x : Result GameTaken Reason) → signs_noted (symbol text) x ≡ signed_as text (said_of text) x
+signs_as text (Err why) = refl
+signs_as text (Ok t) = refl
+
+abbrev pub taken_as : GameRead → List ℕ → Said → Result GameTaken Reason
+taken_as g text said =
+    signed_as text said (noted_on (with_said g.notes (nat_le 1 g.reading.lines.cut) (not (length g.reading.lines.waiting == 0)) said)
+    (placed_or (said_misplaced g.notes (nat_le 1 g.reading.lines.cut) said) (taken_symbol g.reading text said)))
+
+pub symbol_as : (g : GameRead) (text : List ℕ) (said : Said) → said_of text ≡ said → game_taken g (symbol text) ≡ taken_as g text said
+symbol_as g text said e = signs_as text (token_taken g (symbol text)) ∙ ap (taken_as g text) e
+
 -- reading leads from this text and this state to that text and that state
 abbrev pub Goes : List ℕ → GameRead → List ℕ → GameRead → Type 0
 Goes text g rest h = (fresh : Bool) → (f : Bool) × (reads fresh text g ≡ reads f rest h)
@@ -91,6 +118,7 @@ pub record At (s : PlainStudy) (path : List ℕ) (begun : ℕ) (ws : List Waitin
   pub opening : g.notes.opening ≡ o
   pub had : g.notes.has_comment ≡ true
   pub numbers : IsFirst s.start g.notes.numbering
+  pub apart : g.notes.behind_word ≡ false
 
 pub record Reached (text rest : List ℕ) (s : PlainStudy) (path : List ℕ) (begun : ℕ) (ws : List Waiting) (o : Option Stipulation) (g : GameRead) : Type 0 where
   pub next : GameRead
@@ -118,8 +146,8 @@ module _ (s : PlainStudy) (path : List ℕ) (from : ℕ) (ws : List Waiting) (o 
   -- a token that changes only the notes
   noted_step : (b : ℕ) (bs rest : List ℕ) (t : Token) (n : Notes) → ((fresh : Bool) → lexed_token fresh b bs ≡ Ok (t, rest))
       → IsQuiet t rest → game_taken g t ≡ Ok (record { game = record { reading = g.reading; notes = n }; ended = false }) → n.opening ≡ g.notes.opening
-      → n.has_comment ≡ true → n.numbering ≡ g.notes.numbering → Reached (b ∷ bs) rest s path from ws o g
-  noted_step b bs rest t n l q k e h i = record {
+      → n.has_comment ≡ true → n.numbering ≡ g.notes.numbering → n.behind_word ≡ g.notes.behind_word → Reached (b ∷ bs) rest s path from ws o g
+  noted_step b bs rest t n l q k e h i w = record {
     next = record { reading = g.reading; notes = n };
     goes = λ fresh. (b == 10, on_step fresh b bs g t rest (record { reading = g.reading; notes = n }) (l fresh) q k);
     at = record {
@@ -129,6 +157,7 @@ module _ (s : PlainStudy) (path : List ℕ) (from : ℕ) (ws : List Waiting) (o 
       had = h;
       numbers = subst (λ (x : Numbering). IsFirst s.start x) (sym i)
           at.numbers;
+      apart = w ∙ at.apart;
     };
   }
 
@@ -152,10 +181,10 @@ module _ (s : PlainStudy) (path : List ℕ) (from : ℕ) (ws : List Waiting) (o 
   gap_lexed b bs (inr e) fresh = subst (λ (x : ℕ). lexed_token fresh x bs ≡ Ok (blank, bs)) (sym e) (lexed_feed bs fresh)
 
   pub gap_step : (b : ℕ) (bs : List ℕ) → IsGap b → Reached (b ∷ bs) bs s path from ws o g
-  gap_step b bs gap = noted_step b bs bs blank g.notes (gap_lexed b bs gap) (λ _ _ _. refl) refl refl at.had refl
+  gap_step b bs gap = noted_step b bs bs blank g.notes (gap_lexed b bs gap) (λ _ _ _. refl) refl refl at.had refl refl
 
   pub dot_step : (bs : List ℕ) → Reached (46 ∷ bs) bs s path from ws o g
-  dot_step bs = noted_step 46 bs bs blank g.notes (lexed_dot bs) (λ _ _ _. refl) refl refl at.had refl
+  dot_step bs = noted_step 46 bs bs blank g.notes (lexed_dot bs) (λ _ _ _. refl) refl refl at.had refl refl
 
   -- ---- numbers
 
@@ -183,12 +212,11 @@ module _ (s : PlainStudy) (path : List ℕ) (from : ℕ) (ws : List Waiting) (o 
       g.notes.numbering t rest) same_reading
       ∙ ap (said_numbered s.start.position.to_move (length path) g.notes.numbering (b ∷ bs) rest) said ∙ is in
       let takes : game_taken (with_numbering g next) t ≡ Ok (record { game = h; ended = false }) =
-      ap (λ (x : Said). noted_on (with_said notes (nat_le 1 g.reading.lines.cut) (not (length g.reading.lines.waiting == 0)) x)
-      (taken_symbol g.reading (b ∷ bs) x)) said in
+      symbol_as (with_numbering g next) (b ∷ bs) say.Number said in
       record {
         next = h;
         goes = λ fresh. (b == 10, on_number fresh b (bs ++ rest) g t rest next h (symbol_lexed [] b bs rest begins all stops fresh) fits takes);
-        at = record { study = at.study; lines = at.lines; opening = at.opening; had = at.had; numbers = first };
+        at = record { study = at.study; lines = at.lines; opening = at.opening; had = at.had; numbers = first; apart = refl };
       }
 
   -- ---- NAGs
@@ -202,21 +230,22 @@ module _ (s : PlainStudy) (path : List ℕ) (from : ℕ) (ws : List Waiting) (o 
   glyph_step d rest digit stops =
       let cut = run_cut is_digit (d ∷ []) rest (and_from (is_digit d) true digit refl) stops in
       noted_step 36 (d ∷ rest) rest aside (with_aside g.notes)
-      (λ fresh. lexed_dollar (d ∷ rest) fresh ∙ ap (λ (x : List ℕ). Ok (aside, x)) cut.1) (λ _ _ _. refl) refl refl at.had refl
+      (λ fresh. lexed_dollar (d ∷ rest) fresh ∙ ap (λ (x : List ℕ). Ok (aside, x)) cut.1) (λ _ _ _. refl) refl refl at.had refl refl
 
   -- ---- comments
 
   later_comment : (n : Notes) (text : List ℕ) → n.has_comment ≡ true
       → ((with_comment n text).opening ≡ n.opening) × ((with_comment n text).has_comment ≡ true) × ((with_comment n text).numbering ≡ n.numbering)
+      × ((with_comment n text).behind_word ≡ n.behind_word)
   later_comment n text h =
       let second : (n.before_moves && not n.has_comment) ≡ false = and_right n.before_moves (not n.has_comment) (rw h refl) in
-      rw second (refl, h, refl)
+      rw second (refl, h, refl, refl)
 
   pub comment_step : (text rest : List ℕ) → list_all is_inside text ≡ true → Reached (123 ∷ (text ++ (125 ∷ rest))) rest s path from ws o g
   comment_step text rest all =
       let l = later_comment g.notes text at.had in
       noted_step 123 (text ++ (125 ∷ rest)) rest (comment text) (with_comment g.notes text)
-      (λ fresh. lexed_brace (text ++ (125 ∷ rest)) fresh ∙ comment_is text rest all) (λ _ _ _. refl) refl l.0 l.1 l.2
+      (λ fresh. lexed_brace (text ++ (125 ∷ rest)) fresh ∙ comment_is text rest all) (λ _ _ _. refl) refl l.0 l.1 l.2 l.3
 
   -- ---- moves
 
@@ -251,11 +280,14 @@ module _ (s : PlainStudy) (path : List ℕ) (from : ℕ) (ws : List Waiting) (o 
       let p = plays g.reading.inserts (b ∷ bs) m h in
       let played : symbol_played g.reading (b ∷ bs) ≡ Ok p.reading = ap (λ (r : Reading). symbol_played r (b ∷ bs)) same_reading ∙ p.is in
       let notes = with_move g.notes (nat_le 1 g.reading.lines.cut) in
-      let next : GameRead = record { reading = p.reading; notes = notes } in
+      let signs = more_if (is_wrong_said p.reading (b ∷ bs) say.Move) notes.wrong_signs in
+      let next : GameRead = record { reading = p.reading; notes = record notes { wrong_signs = signs } } in
+      let cut = nat_le 1 g.reading.lines.cut in
       let takes : game_taken g (symbol (b ∷ bs)) ≡ Ok (record { game = next; ended = false }) =
-      ap (λ (x : Said). noted_on (with_said g.notes (nat_le 1 g.reading.lines.cut) (not (length g.reading.lines.waiting == 0)) x)
-      (taken_symbol g.reading (b ∷ bs) x)) h.said
-      ∙ ap (λ (x : Result Reading MoveFault). noted_on notes (on_move x)) played in
+      symbol_as g (b ∷ bs) say.Move h.said
+      ∙ ap (λ (x : Bool). signed_as (b ∷ bs) say.Move (noted_on notes (placed_or (if x && not cut then Some reason.BehindWord else None)
+      (on_move (symbol_played g.reading (b ∷ bs)))))) at.apart
+      ∙ ap (λ (x : Result Reading MoveFault). signed_as (b ∷ bs) say.Move (noted_on notes (on_move x))) played in
       record {
         next = next;
         goes = λ fresh. (
@@ -263,7 +295,7 @@ module _ (s : PlainStudy) (path : List ℕ) (from : ℕ) (ws : List Waiting) (o 
           on_step fresh b (bs ++ rest) g (symbol (b ∷ bs)) rest next (symbol_lexed [] b bs rest begins all stops fresh)
               (λ side d n. ap (said_numbered side d n (b ∷ bs) rest) h.said) takes,
         );
-        at = record { study = p.study; lines = p.lines; opening = at.opening; had = at.had; numbers = at.numbers };
+        at = record { study = p.study; lines = p.lines; opening = at.opening; had = at.had; numbers = at.numbers; apart = refl };
       }
 
   -- ---- variations
@@ -279,11 +311,12 @@ module _ (s : PlainStudy) (path : List ℕ) (from : ℕ) (ws : List Waiting) (o 
   lexed_close bs false = refl
 
   line_step : (b : ℕ) (bs : List ℕ) (t : Token) (x : Result Lines LineFault) (l : Lines) → ((fresh : Bool) → lexed_token fresh b bs ≡ Ok (t, bs)) → IsQuiet t bs
-      → game_taken g t ≡ noted_on (after_header g.notes) (on_line g.reading x) → x ≡ Ok l → l.cut ≡ 0 → Reached (b ∷ bs) bs s l.path l.begun l.waiting o g
+      → game_taken g t ≡ signs_noted t (noted_on (after_header g.notes) (on_line g.reading x)) → x ≡ Ok l → l.cut ≡ 0 → Reached (b ∷ bs) bs s l.path l.begun l.waiting o g
   line_step b bs t x l lex q k e cut =
-      let next : GameRead = record { reading = record { study = g.reading.study; lines = l; inserts = g.reading.inserts }; notes = after_header g.notes } in
+      let lined : GameRead = record { reading = record { study = g.reading.study; lines = l; inserts = g.reading.inserts }; notes = after_header g.notes } in
+      let next : GameRead = (with_signs t (record { game = lined; ended = false })).game in
       let takes : game_taken g t ≡ Ok (record { game = next; ended = false }) = k
-      ∙ ap (λ (y : Result Lines LineFault). noted_on (after_header g.notes) (on_line g.reading y)) e in
+      ∙ ap (λ (y : Result Lines LineFault). signs_noted t (noted_on (after_header g.notes) (on_line g.reading y))) e in
       record {
         next = next;
         goes = λ fresh. (b == 10, on_step fresh b bs g t bs next (lex fresh) q takes);
@@ -293,6 +326,7 @@ module _ (s : PlainStudy) (path : List ℕ) (from : ℕ) (ws : List Waiting) (o 
           opening = at.opening;
           had = at.had;
           numbers = at.numbers;
+          apart = refl;
         };
       }
 

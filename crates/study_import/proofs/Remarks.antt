@@ -1,6 +1,6 @@
 -- Lines of remarks have no command.
 use Rattle.std.proofs.Common.{◌≡◌, ℕ, zero, suc, ◌+◌, ◌≤◌, Bool, true, false, List, [], ◌∷◌, ◌++◌, length, take, map, Option, Some, None, Ok, refl}
-use Rattle.std.proofs.Common.{sym, ap, subst, ◌∙◌, inl, inr, arith, length-append, append_assoc}
+use Rattle.std.proofs.Common.{sym, ap, subst, ◌∙◌, inl, inr, arith, length-append}
 use Rattle.std.specs.Prelude.{◌==◌, ◌&&◌, ◌||◌, ◌*◌, nat_le, codes, decimal, if◌then◌else◌}
 use Rattle.std.specs.List.{list_all, flat_map, prefix_len, AllByRecursion}
 use Rattle.std.specs.Str.{bytes_eq}
@@ -48,7 +48,12 @@ use Rattle.study_import.specs.declared.game.aims.Sources.{Sources}
 use Rattle.study_import.specs.Aims.{unaimed_words}
 use Rattle.study_import.specs.Blocks.{Entry, Reported, place_in, text_at, token_name, move_name, line_name, reason_name, stop_name, run_words}
 use Rattle.study_import.specs.Blocks.{symbol_words, author_of, author_words, no_colon, told_words, left_out, fault_words, counts_words, counts_line, doubt_line, doubt_lines, source_line, original_named}
-use Rattle.study_import.specs.Blocks.{move_counts, counted_words, behind_words, behind_line, six_names, remark_byte, tag_text, was_of, was_line, head_line, remark_lines}
+use Rattle.study_import.specs.Blocks.{move_counts, counted_words, behind_line, six_names, remark_byte, tag_text, was_text, latin_line, was_of, was_line, head_line, letters_line}
+use Rattle.study_import.specs.Blocks.{remark_lines}
+use Rattle.study_games.specs.Characters.{is_utf8}
+use Rattle.study_games.specs.declared.language.Language.{Language}
+use Rattle.study_games.specs.declared.language.Language.TheVariants.{German, French, Spanish, Dutch}
+use Rattle.study_games.specs.Languages.{language_name}
 use Rattle.study_import.specs.Blocks.{other_tags, repeated_name, repeated_words, stopped_block, men_in, fen_words, at_most, last_line, tail_line}
 use Rattle.study_import.proofs.Ink.{Ink, decimal_ink, decimal_few}
 use Rattle.study_import.proofs.TagTexts.{short_prints, short_few}
@@ -218,25 +223,34 @@ all_counts first (c ∷ cs) h =
 name_part : (name : List ℕ) → list_all shows name ≡ true → nat_le (length name) 13 ≡ true → IsPart 13 name
 name_part name h k = record { shown = h; few = leb-true (length name) 13 k }
 
-counted_part : (n : Notes) (tags repeated : ℕ) → IsPart 480 (counted_words n tags repeated)
+counted_part : (n : Notes) (tags repeated : ℕ) → IsPart 640 (counted_words n tags repeated)
 unfolding counted_words
 counted_part n tags repeated =
-    all_counts true ((codes "comments", n.comments) ∷ (codes "NAGs", n.asides) ∷ (codes "tags", tags) ∷ move_counts n repeated) (
+    all_counts true ((codes "comments", n.comments) ∷ (codes "words", n.words) ∷ (codes "NAGs", n.asides) ∷ (codes "tags", tags) ∷ move_counts n repeated) (
       name_part (codes "comments") refl refl,
       (
-        name_part (codes "NAGs") refl refl,
+        name_part (codes "words") refl refl,
         (
-          name_part (codes "tags") refl refl,
-          (name_part (codes "repeated") refl refl, (name_part (codes "null moves") refl refl, (name_part (codes "moves behind") refl refl, tt))),
+          name_part (codes "NAGs") refl refl,
+          (
+            name_part (codes "tags") refl refl,
+            (
+              name_part (codes "repeated") refl refl,
+              (
+                name_part (codes "null moves") refl refl,
+                (name_part (codes "moves behind") refl refl, (name_part (codes "wrong signs") refl refl, tt)),
+              ),
+            ),
+          ),
         ),
       ),
     )
 
-counts_remark : (words : List ℕ) (none : Bool) → IsPart 480 words → AreLines IsRemark (if none then [] else told.remark_text (told.not_taken_over words))
+counts_remark : (words : List ℕ) (none : Bool) → IsPart 640 words → AreLines IsRemark (if none then [] else told.remark_text (told.not_taken_over words))
 counts_remark words true h = no_lines IsRemark
 counts_remark words false h =
-    remark_is (told.not_taken_over words) (wider (16 + 480) 998 _ (omega arith)
-    (joined 16 480 (codes "not taken over: ") words (record { shown = refl; few = omega arith }) h))
+    remark_is (told.not_taken_over words) (wider (16 + 640) 998 _ (omega arith)
+    (joined 16 640 (codes "not taken over: ") words (record { shown = refl; few = omega arith }) h))
 
 -- ---- places
 
@@ -301,9 +315,32 @@ was_by name value false =
     (joined 5 (6 + 255) (told.original_name name) _ (original_name_part name)
     (joined 6 255 (codes " was: ") (map remark_byte (take 255 value)) (record { shown = refl; few = omega arith }) (original_part value))))
 
+latin_by : (name : Original) (same : Bool) → AreLines IsRemark (if same then [] else told.remark_text (told.latin_1 name))
+latin_by name true = no_lines IsRemark
+latin_by name false =
+    remark_is (told.latin_1 name) (wider (17 + 5) 998 _ (omega arith)
+    (joined 17 5 (codes "read as Latin 1: ") (told.original_name name) (record { shown = refl; few = omega arith }) (original_name_part name)))
+
+-- ---- letters of another language
+
+language_part : (l : Language) → IsPart 7 (language_name l)
+language_part German = record { shown = refl; few = omega arith }
+language_part French = record { shown = refl; few = omega arith }
+language_part Spanish = record { shown = refl; few = omega arith }
+language_part Dutch = record { shown = refl; few = omega arith }
+
+letters_remark : (l : Option Language) → AreLines IsRemark (letters_line l)
+letters_remark None = no_lines IsRemark
+letters_remark (Some l) =
+    remark_is (told.letters (language_name l)) (wider (9 + 7) 998 _ (omega arith)
+    (joined 9 7 (codes "letters: ") (language_name l) (record { shown = refl; few = omega arith }) (language_part l)))
+
 was_remark : (name : TagName) (value : Option (List ℕ)) → AreLines IsRemark (was_of name value)
 was_remark name None = no_lines IsRemark
-was_remark name (Some value) = was_by (original_named name) (unescape value) (bytes_eq (tag_text (unescape value)) (trim (unescape value)))
+was_remark name (Some value) =
+    more_lines IsRemark (was_text name (unescape value)) (latin_line name (unescape value))
+    (was_by (original_named name) (unescape value) (bytes_eq (tag_text (unescape value)) (trim (unescape value))))
+    (latin_by (original_named name) (is_utf8 (unescape value)))
 
 was_lines : (tags : List Pair) (names : List TagName) → AreLines IsRemark (flat_map (was_line tags) names)
 unfolding was_line
@@ -315,13 +352,15 @@ was_lines tags (name ∷ names) =
 pub remarks_are : (e : Entry) (t : Reported) → AreLines IsRemark (remark_lines e t)
 unfolding remark_lines
 remarks_are e t =
-    more_lines IsRemark (counts_line (counted_words t.notes (other_tags (tags_of e.text)) t.repeated)) (behind_line e t.behind
-    ++ flat_map (was_line (tags_of e.text)) six_names)
+    let counts = counts_line (counted_words t.notes (other_tags (tags_of e.text)) t.repeated) in
+    let rest = behind_line e t.behind ++ flat_map (was_line (tags_of e.text)) six_names in
+    more_lines IsRemark (letters_line t.language) (counts ++ rest) (letters_remark t.language)
+    (more_lines IsRemark counts rest
     (counts_remark (counted_words t.notes (other_tags (tags_of e.text)) t.repeated) (length (counted_words t.notes (other_tags (tags_of e.text)) t.repeated)
     == 0)
     (counted_part t.notes (other_tags (tags_of e.text)) t.repeated))
     (more_lines IsRemark (behind_line e t.behind) (flat_map (was_line (tags_of e.text)) six_names) (behind_remark e t.behind)
-    (was_lines (tags_of e.text) six_names))
+    (was_lines (tags_of e.text) six_names)))
 
 -- ---- games without a study
 
@@ -400,6 +439,7 @@ reason_part (reason.Move fault) = move_part fault
 reason_part (reason.Line fault) = line_fault_part fault
 reason_part reason.TagInMoves = record { shown = refl; few = omega arith }
 reason_part reason.NullMove = record { shown = refl; few = omega arith }
+reason_part reason.BehindWord = record { shown = refl; few = omega arith }
 
 stop_part : (why : Stop) → IsPart 20 (stop_name why)
 stop_part (stop.Token fault) = token_part fault
@@ -462,6 +502,7 @@ symbol_part (stop.Taking (reason.Move move_fault.OutOfMemory)) text = none_part
 symbol_part (stop.Taking (reason.Line fault)) text = none_part
 symbol_part (stop.Taking reason.TagInMoves) text = none_part
 symbol_part (stop.Taking reason.NullMove) text = none_part
+symbol_part (stop.Taking reason.BehindWord) text = at_run is_symbol_byte symbol_shows text
 symbol_part (stop.Token fault) text = none_part
 symbol_part stop.OpenVariation text = none_part
 symbol_part stop.Numbering text = at_run is_digit digit_shows text

@@ -43,7 +43,6 @@ use Rattle.study_games.specs.Tokens.{Lexed, lexed_token, is_inside, blank, comme
 use Rattle.study_games.specs.Header.{Pair, on, ended as header_ended, tags_of, header_fault, unescape}
 use Rattle.study_games.specs.declared.symbols.Outcome.{Outcome}
 use Rattle.study_games.specs.declared.symbols.Outcome.TheVariants.{WhiteWins, BlackWins, Drawn}
-use Rattle.study_games.specs.declared.symbols.Said.{Said}
 use Rattle.study_games.specs.declared.symbols.Said.TheVariants as say
 use Rattle.study_games.proofs.Lexing.{Stops, is_plain_symbol, symbol_read}
 use Rattle.study_import.specs.declared.game.token_effects.Reason.{Reason}
@@ -52,14 +51,14 @@ use Rattle.study_remark.specs.declared.remark.Source.TheVariants.{Comment}
 use Rattle.study_import.specs.Aims.{aim_in, outcome_wanted, doubts_of, aim_by_sources}
 use Rattle.study_import.specs.Lines.{Lines}
 use Rattle.study_import.specs.declared.game.notes.Notes.{Notes}
-use Rattle.study_import.specs.Taken.{taken_symbol}
-use Rattle.study_import.specs.Notes.{GameRead, GameTaken, none_yet, with_comment, with_said, with_result, noted_on, game_taken}
+use Rattle.study_import.specs.Notes.{GameRead, GameTaken, none_yet, with_comment, with_result, game_taken}
 use Rattle.study_import.specs.declared.game.numbering.Numbering.{Numbering}
 use Rattle.study_import.specs.Numbering.{said_numbered}
+use Rattle.study_games.specs.declared.language.Language.{Language}
 use Rattle.study_import.specs.Movetext.{Ended, goes_on, on_numbered, on_token}
 use Rattle.study_import.specs.Behind.{moves_or, moves_left, moves_in, ended_unless, to_the_end}
 use Rattle.study_import.specs.Blocks.{no_moves, game_read, fen_in, printable_byte, tag_text, tag_value_text, text_or_unknown as import_text, sources_of, aim_of_game}
-use Rattle.study_import.specs.Blocks.{repeated_name}
+use Rattle.study_import.specs.Blocks.{repeated_name, language_by, language_of, text_in}
 use Rattle.study_import.specs.Meant.{tag_texts, study_aimed, study_read, study_begun, study_unless_repeated, study_behind_header, study_in}
 use Rattle.study_import.specs.Laws.{IsCounted}
 use Rattle.study_import.specs.Written.{without_marks, IsTagged, CanBeMade, unmarked_study, AreReadBack}
@@ -69,7 +68,7 @@ use Rattle.study_import.proofs.TagsTrimmed.{same_end}
 use Rattle.study_import.proofs.Blanks.{SameByte, Same, same_cut, word_cut, IsGap, space_cut, same_all, same_refl, same_append, lines_same}
 use Rattle.study_import.proofs.TreeHoles.{put, root_put}
 use Rattle.study_import.proofs.Numbers.{counted_start}
-use Rattle.study_import.proofs.ReadSteps.{reads, on_reads, quiet_numbered, on_step, At, Reached, gap_step, lexed_brace, comment_is, decimal_digits}
+use Rattle.study_import.proofs.ReadSteps.{reads, on_reads, quiet_numbered, on_step, At, Reached, gap_step, lexed_brace, comment_is, decimal_digits, symbol_as}
 use Rattle.study_import.proofs.ReadSteps.{decimal_some}
 use Rattle.study_import.proofs.TreeRead.{on_tree, restated, inside_append, side_inside, number_inside, value_inside, begins_digit, digits_symbol}
 use Rattle.study_import.proofs.TreeRead.{Node, Limits, follow_read}
@@ -370,7 +369,7 @@ result_ends s path o g at w r b rest gap quiet fresh =
     let n = with_result g.notes waits r.outcome in
     let none : (length g.reading.lines.waiting == 0) ≡ true = ap (λ (l : Lines). length l.waiting == 0) at.lines in
     let takes : game_taken g (symbol (r.first ∷ r.more)) ≡ Ok (record { game = record { reading = g.reading; notes = n }; ended = true }) =
-    ap (λ (x : Said). noted_on (with_said g.notes (nat_le 1 g.reading.lines.cut) waits x) (taken_symbol g.reading (r.first ∷ r.more) x)) r.said
+    symbol_as g (r.first ∷ r.more) (say.Result r.outcome) r.said
     ∙ ap (λ (e : Bool). Ok (record { game = record { reading = g.reading; notes = n }; ended = e })) none in
     let bs = r.more ++ (b ∷ rest) in
     let lex = symbol_lexed fresh r.first r.more (b ∷ rest) r.begins r.all (gap_stop b rest gap) in
@@ -500,7 +499,7 @@ moves_end s c fresh =
     let o = opened s c in
     let next : GameRead = record { reading = g.reading; notes = with_comment none_yet o.words } in
     let bs = o.words ++ (125 ∷ o.back) in
-    let at : At (start_study s.start) [] 0 [] (Some s.stipulation) next = record { study = refl; lines = refl; opening = o.aim; had = refl; numbers = (tt, refl) } in
+    let at : At (start_study s.start) [] 0 [] (Some s.stipulation) next = record { study = refl; lines = refl; opening = o.aim; had = refl; numbers = (tt, refl); apart = refl } in
     let tree = tree_ends s c (Some s.stipulation) o.back o.rest next at false in
     record {
       ended_by = tree.ended_by;
@@ -627,7 +626,7 @@ fen_again s c = ap (map printable_byte) (value_again (fen_text s.start))
     ∙ printed_same (fen_text s.start) (all_print (fen_text s.start) (fen_is s.start (start_read s c)).prints)
 
 pub read_back : AreReadBack
-unfolding study_in tags_of header_fault game_read
+unfolding study_in tags_of header_fault game_read language_of
 read_back s c =
     let lines = lines_read (header_of s) (text_behind s) true (no_moves s.start) (header_named s c) in
     let text = header_is s in
@@ -639,12 +638,14 @@ read_back s c =
     let read : game_read (pgn_text s) s.start ≡ Ok moves.ended_by =
     ap (λ (t : List ℕ). to_the_end (reads true t (no_moves s.start))) text ∙ ap to_the_end (lines.moves refl ∙ moves.is)
     ∙ ap (ended_unless moves.ended_by) moves.quiet in
+    let english : language_of (pgn_text s) s.start ≡ None = ap (language_by (pgn_text s) s.start) read in
     let start : start_of (fen_in (flat_map with_backslash (fen_text s.start))) ≡ Ok s.start = ap start_of (fen_again s c)
     ∙ start_again s.start c.valid c.clock c.positive c.number in
     ap (study_behind_header None (pgn_text s)) fault
     ∙ ap (λ (ps : List Pair). study_unless_repeated None (pgn_text s) ps (repeated_name ps)) tags
     ∙ ap (study_unless_repeated None (pgn_text s) all) (repeated_none s)
     ∙ ap (study_begun None (pgn_text s)) start
+    ∙ ap (λ (o : Option Language). study_read None (tags_of (pgn_text s)) s.start (game_read (text_in o (pgn_text s)) s.start)) english
     ∙ ap (λ (ps : List Pair). study_read None ps s.start (game_read (pgn_text s) s.start)) tags
     ∙ ap (study_read None all s.start) read
     ∙ ap (study_aimed s.start all moves.ended_by) (by_comment s all s.start.position.to_move moves.ended_by.game.notes moves.opening)

@@ -29,9 +29,9 @@ use Rattle.study_notation.proofs.SanAgain.{san_again}
 use Rattle.study_notation.proofs.OneMoveAgrees.{alone_matches}
 use Rattle.study_games.specs.Bytes.{is_digit, is_tail, begins_symbol}
 use Rattle.study_games.proofs.Lexing.{is_plain_symbol}
-use Rattle.study_games.specs.declared.symbols.Said.TheVariants.{Move as MoveSaid}
+use Rattle.study_games.specs.declared.symbols.Said.TheVariants.{Word as WordSaid, Move as MoveSaid}
 use Rattle.study_games.specs.Symbols.{has_figurine, with_letters, half, said_of, without_end, without_tail, without_passing, without_pawn, plain_bytes}
-use Rattle.study_games.specs.Symbols.{plain_spelling, san_in}
+use Rattle.study_games.specs.Symbols.{plain_spelling, san_in, is_word_byte, is_word}
 use Rattle.study_marks.specs.Edits.{is_printable}
 
 -- ---- the bytes of a SAN text
@@ -524,6 +524,23 @@ not_all q none s check =
     regrouped : (a b c d e f g : List ℕ) → (a ++ (b ++ (c ++ (d ++ (e ++ f))))) ++ g ≡ (a ++ (b ++ (c ++ d))) ++ (e ++ (f ++ g))
     regrouped a b c d e f g = simp append_assoc
 
+-- a square has a rank, which no word has
+no_word : (s : San) (check : List ℕ) → s.target < 64 → list_all is_word_byte (san_text s true ++ check) ≡ false
+no_word s check lt =
+    let rank : is_word_byte (49 + s.target / 8) ≡ false = rank_no_word (s.target / 8) (omega arith) in
+    let front = kind_text s.kind ++ (file_text s.file ++ (rank_text s.rank ++ takes_text s.is_capture)) in
+    let cut : san_text s true ++ check ≡ (front ++ (97 + s.target % 8) ∷ []) ++ (49 + s.target / 8) ∷ (promotion_text true s.promoted ++ check) =
+    regrouped (kind_text s.kind) (file_text s.file) (rank_text s.rank) (takes_text s.is_capture) ((97 + s.target % 8) ∷ []) ((49 + s.target / 8) ∷ [])
+    (promotion_text true s.promoted) check in
+    ap (list_all is_word_byte) cut
+    ∙ has_other is_word_byte (front ++ (97 + s.target % 8) ∷ []) (promotion_text true s.promoted ++ check) (49 + s.target / 8) rank
+  where
+    rank_no_word : (r : ℕ) → r < 8 → is_word_byte (49 + r) ≡ false
+    rank_no_word r lt = rw (lt-leb 65 (49 + r) (omega arith), lt-leb 97 (49 + r) (omega arith), lt-leb 128 (49 + r) (omega arith)) refl
+
+    regrouped : (a b c d e f g h : List ℕ) → (a ++ (b ++ (c ++ (d ++ ((e ++ f) ++ g))))) ++ h ≡ ((a ++ (b ++ (c ++ d))) ++ e) ++ (f ++ (g ++ h))
+    regrouped a b c d e f g h = simp append_assoc
+
 two_bytes : (s : San) (check : List ℕ) → 1 < length (san_text s true ++ check)
 two_bytes s check =
     omega (
@@ -544,9 +561,10 @@ words_none : (list_all is_text_byte (codes "1-0") ≡ false) × (list_all is_tex
 unfolding is_text_byte is_san_byte is_start
 words_none = (refl, refl, refl, refl, refl, refl, refl, refl, refl, refl, refl, refl, refl)
 
-said_by : (t : List ℕ) → list_all is_text_byte t ≡ true → 1 < length t → list_all is_digit t ≡ false → list_all is_tail t ≡ false → said_of t ≡ MoveSaid
-unfolding said_of
-said_by t h long digits tails =
+said_by : (t : List ℕ) → list_all is_text_byte t ≡ true → 1 < length t → list_all is_digit t ≡ false → list_all is_tail t ≡ false
+    → list_all is_word_byte t ≡ false → said_of t ≡ MoveSaid
+unfolding said_of is_word
+said_by t h long digits tails word =
     let w = words_none in
     rw (
       digits,
@@ -566,7 +584,12 @@ said_by t h long digits tails =
       unequal t (codes "p") h w.7,
       unequal t (codes "ep") h w.8,
       tails,
-    ) refl
+      word,
+    ) (if_none (nat_le (length t) 32))
+  where
+    if_none : (b : Bool) → (if b && false then WordSaid else MoveSaid) ≡ MoveSaid
+    if_none true = refl
+    if_none false = refl
 
 pub symbol_said : (p : Position) (m : Move) → IsValid p → is_legal p m ≡ true → said_of (move_text p m) ≡ MoveSaid
 symbol_said p m valid e =
@@ -576,6 +599,7 @@ symbol_said p m valid e =
     let text = text_of p m h.man h.here in
     said_by (move_text p m) (whole_bytes p m valid e) (subst (λ (t : List ℕ). 1 < length t) (sym text) (two_bytes s check))
     (ap (list_all is_digit) text ∙ not_all is_digit (λ f _. file_no_digit f) s check) (ap (list_all is_tail) text ∙ not_all is_tail file_no_tail s check)
+    (ap (list_all is_word_byte) text ∙ no_word s check h.fits.target)
 
 -- ---- its bytes as a symbol
 

@@ -37,12 +37,13 @@ use Rattle.study_games.specs.Header.{Pair, tags_of, header_fault, value_of}
 use Rattle.study_games.specs.declared.header.HeaderFault.{HeaderFault}
 use Rattle.study_import.specs.declared.game.aims.Aim.{Aim}
 use Rattle.study_import.specs.declared.game.movetext.MovesFault.{MovesFault}
+use Rattle.study_games.specs.declared.language.Language.{Language}
 use Rattle.study_import.specs.Movetext.{Ended, read_moves}
 use Rattle.study_import.specs.Reading.{insert_line}
 use Rattle.study_import.specs.Insertions.{Insertion, made_by, AllAccepted, AllReadAgain, lines_for}
 use Rattle.study_import.specs.Blocks.{Entry, Block, no_study, left_out, token_name, Reported, reported_of, head_line, remark_lines, position_line}
 use Rattle.study_import.specs.Blocks.{stipulation_line, tag_line, tag_value_text, six_names, study_lines, block_lines, sources_of, aim_of_game, aimed_block}
-use Rattle.study_import.specs.Blocks.{stopped_block, read_block, no_moves, game_read, fen_in, start_block, fen_block, repeated_name, single_block, header_block, sized_block}
+use Rattle.study_import.specs.Blocks.{stopped_block, read_block, no_moves, game_read, language_of, text_in, fen_in, start_block, fen_block, repeated_name, single_block, header_block, sized_block}
 use Rattle.study_import.specs.Blocks.{block_of, tail_of, tail_line, under_remark, block_or_tail, block_by, place_in, last_line, is_chosen, Tally}
 use Rattle.study_import.specs.Blocks.{tally_with_game, reported_text, blocks}
 use Rattle.study_import.specs.Tails.{Tail, position_text}
@@ -491,28 +492,29 @@ block_reads e start aim t is tree r counted h k made inserts =
 -- ---- a game
 
 module _ (given : Option Stipulation) (g : IsGiven given) (e : Entry) where
-  aimed_reads : (start : Start) (x : Ended) (aim : Option Aim) → IsStart start → game_read e.text start ≡ Ok x
+  aimed_reads : (text : List ℕ) (start : Start) (l : Option Language) (x : Ended) (aim : Option Aim) → IsStart start → game_read text start ≡ Ok x
       → aim_of_game given (tags_of e.text) start.position.to_move x.game.notes ≡ aim
-      → Reads (aimed_block e start (reported_of x) (sources_of given (tags_of e.text) start.position.to_move x.game.notes) aim)
+      → Reads (aimed_block e start (reported_of l x) (sources_of given (tags_of e.text) start.position.to_move x.game.notes) aim)
       (study_aimed start (tags_of e.text) x aim)
   unfolding game_read
-  aimed_reads start x None r is a = remarks_read _ (unaimed_is e (sources_of given (tags_of e.text) start.position.to_move x.game.notes))
-  aimed_reads start x (Some aim) r is a =
-      let read = end_is (read_moves (length e.text) true e.text (no_moves start)) x is in
-      let l = moves_lead (Unit {0}) (length e.text) true e.text (no_moves start) x read in
+  aimed_reads text start l x None r is a = remarks_read _ (unaimed_is e (sources_of given (tags_of e.text) start.position.to_move x.game.notes))
+  aimed_reads text start l x (Some aim) r is a =
+      let read = end_is (read_moves (length text) true text (no_moves start)) x is in
+      let made = moves_lead (Unit {0}) (length text) true text (no_moves start) x read in
       let counted = aim_counted given (tags_of e.text) start.position.to_move x.game.notes aim g
-      (opening_given (length e.text) true e.text (no_moves start) x (tt, tt) read) a in
-      block_reads e start aim (reported_of x) l.insertions x.game.reading.study r counted l.accepted
-      (read_again (Unit {0}) (no_moves start).reading.study l.insertions r.valid tt l.accepted) l.study l.lines
+      (opening_given (length text) true text (no_moves start) x (tt, tt) read) a in
+      block_reads e start aim (reported_of l x) made.insertions x.game.reading.study r counted made.accepted
+      (read_again (Unit {0}) (no_moves start).reading.study made.insertions r.valid tt made.accepted) made.study made.lines
 
-  read_reads : (start : Start) (x : Result Ended MovesFault) → IsStart start → game_read e.text start ≡ x
-      → Reads (read_block given e start x) (study_read given (tags_of e.text) start x)
-  read_reads start (Err fault) r is = remarks_read (stopped_block e fault).text (stopped_lines e fault)
-  read_reads start (Ok x) r is = aimed_reads start x (aim_of_game given (tags_of e.text) start.position.to_move x.game.notes) r is refl
+  read_reads : (text : List ℕ) (start : Start) (l : Option Language) (x : Result Ended MovesFault) → IsStart start → game_read text start ≡ x
+      → Reads (read_block given e start l x) (study_read given (tags_of e.text) start x)
+  read_reads text start l (Err fault) r is = remarks_read (stopped_block e fault).text (stopped_lines e fault)
+  read_reads text start l (Ok x) r is = aimed_reads text start l x (aim_of_game given (tags_of e.text) start.position.to_move x.game.notes) r is refl
 
   start_reads : (fen : List ℕ) (x : Result Start FenFault) → start_of fen ≡ x → Reads (start_block given e fen x) (study_begun given e.text x)
   start_reads fen (Err fault) is = remarks_read _ (left_out_is e _ (fen_words_part fen fault))
-  start_reads fen (Ok start) is = read_reads start (game_read e.text start) (read_is fen start is) refl
+  start_reads fen (Ok start) is =
+      let l = language_of e.text start in let text = text_in l e.text in read_reads text start l (game_read text start) (read_is fen start is) refl
 
   fen_reads : (value : Option (List ℕ)) → Reads (fen_block given e value) (study_with_fen given e.text value)
   fen_reads None = remarks_read _ (left_out_is e (codes "left out: no FEN, so 32 men") (record { shown = refl; few = omega arith }))

@@ -11,7 +11,7 @@ use Rattle.study_games.specs.Tokens.{Token, Lexed, lexed_token, token_at, begins
 use Rattle.study_import.specs.declared.tails.Act.{Act}
 use Rattle.study_import.specs.declared.tails.Act.TheVariants as act
 use Rattle.study_import.specs.Tails.{byte_or_space, part_of, act_of, Sought, sought_then, Tail, on_act, on_part, tail_from, not_begun, tail_in}
-use Rattle.study_import.proofs.Whole.{Within, within_lexed}
+use Rattle.study_games.proofs.Within.{Within, within_lexed}
 
 spaced_prints : (b : ℕ) → is_printable (byte_or_space b) ≡ true
 spaced_prints b = elim (cases_Bool (is_printable b)) [ inl prints ↦ rw prints prints | inr hidden ↦ rw hidden refl ]

@@ -61,6 +61,7 @@ reported_by (reason.Line line_fault.NotOpened) x new expected left h f = f h
 reported_by (reason.Line line_fault.OutOfMemory) x new expected left h f = tt
 reported_by reason.TagInMoves x new expected left h f = f h
 reported_by reason.NullMove x new expected left h f = f h
+reported_by reason.BehindWord x new expected left h f = f h
 
 -- a token that was taken, with its note
 pub noted_takes : (answer : Result Bool Reason) (x : Result Taken Reason) (new : Reading) (n : Notes) → Takes answer x new
@@ -77,3 +78,4 @@ noted_takes (Err (reason.Line line_fault.NotOpened)) x new n h = ap (noted_on n)
 noted_takes (Err (reason.Line line_fault.OutOfMemory)) x new n h = tt
 noted_takes (Err reason.TagInMoves) x new n h = ap (noted_on n) h
 noted_takes (Err reason.NullMove) x new n h = ap (noted_on n) h
+noted_takes (Err reason.BehindWord) x new n h = ap (noted_on n) h

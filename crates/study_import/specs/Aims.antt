@@ -1,14 +1,16 @@
 -- The stipulation that a game states.
-use Rattle.std.specs.Prelude.{ℕ, ◌-◌, Bool, true, false, not, ◌&&◌, ◌||◌, ◌==◌, nat_le, List, [], ◌∷◌, length, take, slice_index, codes, Option, Some}
+use Rattle.std.specs.Prelude.{ℕ, ◌-◌, Bool, true, false, not, ◌&&◌, ◌||◌, ◌==◌, nat_le, List, [], ◌∷◌, length, take, drop, slice_index, codes, Option, Some}
 use Rattle.std.specs.Prelude.{None, is_some}
 use Rattle.std.specs.Prelude.{if◌then◌else◌}
 use Rattle.std.specs.Str.{bytes_eq}
+use Rattle.std.specs.List.{prefix_len}
 use Rattle.study_board.specs.declared.men.Side.{Side}
 use Rattle.study_board.specs.declared.men.Side.TheVariants.{White, Black}
 use Rattle.study_marks.specs.declared.stipulation.Goal.{Goal}
 use Rattle.study_marks.specs.declared.stipulation.Goal.TheVariants.{Win, Draw, MateIn}
 use Rattle.study_marks.specs.declared.stipulation.Stipulation.{Stipulation}
 use Rattle.study_command.specs.Parser.{mate_moves_of}
+use Rattle.study_games.specs.Bytes.{is_letter}
 use Rattle.study_games.specs.Words.{first_word, trim}
 use Rattle.study_games.specs.Symbols.{said_of}
 use Rattle.study_games.specs.declared.symbols.Said.{Said}
@@ -26,22 +28,39 @@ abbrev pub Found : Type 0
 Found = Option (List ℕ × List ℕ)
 
 -- ---- words: `White to win`, `Black to play and draw`, `White to mate in 3 moves`, or as said of the solution `White wins`, `White mates in 3`, alone or up
--- to a colon, a full stop, a comma, a semicolon or an exclamation mark
+-- to a colon, a full stop, a comma, a semicolon, an exclamation mark or a closing parenthesis
 
 abbrev pub ends_clause : ℕ → Bool
-ends_clause b = b == 58 || (b == 46 || (b == 44 || (b == 59 || b == 33)))
+ends_clause b = b == 58 || (b == 46 || (b == 44 || (b == 59 || (b == 33 || b == 41))))
 
 abbrev pub ends_phrase : List ℕ → Bool
 ends_phrase word = nat_le 1 (length word) && ends_clause (slice_index word (length word - 1))
 
--- the last word of a phrase: it ends with such a mark, which is not part of it, or it ends the text
+abbrev pub begins_clause : List ℕ → Bool
+begins_clause [] = false
+begins_clause (b ∷ bs) = ends_clause b
+
+-- a word follows that does not begin with such a mark
+abbrev pub goes_on : Found → Bool
+goes_on None = false
+goes_on (Some x) = not (begins_clause x.0)
+
+-- the last word of a phrase: it ends with such a mark, which is not part of it, or one follows, or it ends the text
 unfoldable pub last_of_phrase : List ℕ → List ℕ → Option (List ℕ)
 last_of_phrase word behind =
     if ends_phrase word then Some (take (length word - 1) word)
-    else (if is_some (first_word behind) then None else Some word)
+    else (if goes_on (first_word behind) then None else Some word)
+
+abbrev pub says_white : List ℕ → Bool
+says_white word =
+    bytes_eq word (codes "White") || (bytes_eq word (codes "white") || (bytes_eq word (codes "WHITE") || bytes_eq word (codes "(White")))
+
+abbrev pub says_black : List ℕ → Bool
+says_black word =
+    bytes_eq word (codes "Black") || (bytes_eq word (codes "black") || (bytes_eq word (codes "BLACK") || bytes_eq word (codes "(Black")))
 
 abbrev pub hero_of : List ℕ → Option Side
-hero_of word = if bytes_eq word (codes "White") then Some White else (if bytes_eq word (codes "Black") then Some Black else None)
+hero_of word = if says_white word then Some White else (if says_black word then Some Black else None)
 
 abbrev pub goal_named : Option (List ℕ) → Option Goal
 goal_named None = None
@@ -187,11 +206,25 @@ aim_stated text to_move = or_stipulation (aim_in text) (signed_by to_move (goal_
 
 -- ---- texts that state something else: `h#2`, `s#3`, `White to selfmate in 2`
 
--- `#..`, `h#..`
+-- a letter or a hyphen, as in `ser-h#3`
+abbrev pub is_kind_byte : ℕ → Bool
+is_kind_byte b = is_letter b || b == 45
+
+abbrev pub begins_goal : List ℕ → Bool
+begins_goal [] = false
+begins_goal (b ∷ bs) = b == 35 || b == 61
+
+-- `#..`, `h#..`, `s=..`: letters, and `#` or `=`
 abbrev pub is_problem : List ℕ → Bool
-is_problem [] = false
-is_problem (a ∷ []) = a == 35
-is_problem (a ∷ b ∷ bs) = a == 35 || b == 35
+is_problem word = begins_goal (drop (prefix_len is_kind_byte word) word)
+
+-- `Mate in three`, `Win in 4`
+abbrev pub says_goal : List ℕ → Bool
+says_goal word = says_win word || (says_draw word || (bytes_eq word (codes "Mate") || bytes_eq word (codes "mate")))
+
+abbrev pub says_in : Found → Bool
+says_in None = false
+says_in (Some x) = bytes_eq x.0 (codes "in")
 
 -- after `to`: only `move` or `play` says who moves, and no more
 abbrev pub says_mover : Option (List ℕ) → Bool
@@ -209,7 +242,8 @@ asks_goal (Some x) = if bytes_eq x.0 (codes "to") then not (names_mover (first_w
 
 abbrev pub looks_stated : Found → Bool
 looks_stated None = false
-looks_stated (Some x) = is_problem x.0 || (is_some (hero_of x.0) && asks_goal (first_word x.1))
+looks_stated (Some x) =
+    is_problem x.0 || ((says_goal x.0 && says_in (first_word x.1)) || (is_some (hero_of x.0) && asks_goal (first_word x.1)))
 
 -- a comment has the form of a stipulation, and is none that is read
 unfoldable pub is_unread_comment : List ℕ → Bool

@@ -27,6 +27,10 @@ use Rattle.study_games.specs.Words.{first_word, trim}
 use Rattle.study_games.specs.Games.{Game, one_more}
 use Rattle.study_games.specs.Header.{Pair, tags_of, header_fault, value_of, named_count, unescape}
 use Rattle.study_games.specs.Ascii.{spelled_out, short_text}
+use Rattle.study_games.specs.Characters.{is_utf8}
+use Rattle.study_games.specs.declared.language.Language.{Language}
+use Rattle.study_games.specs.declared.language.Language.TheVariants.{German, French, Spanish, Dutch}
+use Rattle.study_games.specs.Languages.{language_name, in_english}
 use Rattle.study_games.specs.declared.header.HeaderFault.{HeaderFault}
 use Rattle.study_games.specs.declared.symbols.Outcome.{Outcome}
 use Rattle.study_games.specs.declared.token.TokenFault.{TokenFault}
@@ -114,6 +118,7 @@ reason_name (reason.Move fault) = move_name fault
 reason_name (reason.Line fault) = line_name fault
 reason_name reason.TagInMoves = codes "TagInMoves"
 reason_name reason.NullMove = codes "NullMove"
+reason_name reason.BehindWord = codes "BehindWord"
 
 abbrev pub stop_name : Stop → List ℕ
 stop_name (stop.Token fault) = token_name fault
@@ -125,9 +130,10 @@ stop_name stop.BehindResult = codes "BehindResult"
 abbrev pub run_words : (ℕ → Bool) → List ℕ → List ℕ
 run_words p text = codes " at " ++ take 40 (front p text)
 
--- a move that cannot be read is reported with its symbol, and a number that does not fit with its digits, 40 bytes at most
+-- a move that cannot be read, or stands behind a word, is reported with its symbol, and a number that does not fit with its digits, 40 bytes at most
 abbrev pub symbol_words : Stop → List ℕ → List ℕ
 symbol_words (stop.Taking (reason.Move (move_fault.San fault))) text = run_words is_symbol_byte text
+symbol_words (stop.Taking reason.BehindWord) text = run_words is_symbol_byte text
 symbol_words stop.Numbering text = run_words is_digit text
 symbol_words other text = []
 
@@ -219,11 +225,13 @@ abbrev pub repeated_moves : Notes → PlainStudy → ℕ
 repeated_moves n s = n.moves - (size_of s.tree - 1)
 
 abbrev pub move_counts : Notes → ℕ → List (List ℕ × ℕ)
-move_counts n repeated = (codes "repeated", repeated) ∷ (codes "null moves", n.null_moves) ∷ (codes "moves behind", n.moves_behind) ∷ []
+move_counts n repeated =
+    (codes "repeated", repeated) ∷ (codes "null moves", n.null_moves) ∷ (codes "moves behind", n.moves_behind)
+    ∷ (codes "wrong signs", n.wrong_signs) ∷ []
 
 unfoldable pub counted_words : Notes → ℕ → ℕ → List ℕ
 counted_words n tags repeated =
-    counts_words true ((codes "comments", n.comments) ∷ (codes "NAGs", n.asides) ∷ (codes "tags", tags) ∷ move_counts n repeated)
+    counts_words true ((codes "comments", n.comments) ∷ (codes "words", n.words) ∷ (codes "NAGs", n.asides) ∷ (codes "tags", tags) ∷ move_counts n repeated)
 
 abbrev pub behind_words : Place → List ℕ
 behind_words p = told.remark_text (told.behind_result p.line p.column)
@@ -258,9 +266,13 @@ was_words name value text =
 abbrev pub was_text : TagName → List ℕ → List ℕ
 was_text name value = was_words name value (tag_text value)
 
+-- a tag whose bytes fit no UTF-8 is read as Latin 1, which may be wrong
+abbrev pub latin_line : TagName → List ℕ → List ℕ
+latin_line name value = if is_utf8 value then [] else told.remark_text (told.latin_1 (original_named name))
+
 abbrev pub was_of : TagName → Option (List ℕ) → List ℕ
 was_of name None = []
-was_of name (Some value) = was_text name (unescape value)
+was_of name (Some value) = was_text name (unescape value) ++ latin_line name (unescape value)
 
 unfoldable pub was_line : List Pair → TagName → List ℕ
 was_line tags name = was_of name (value_of (tag_name name) tags)
@@ -315,16 +327,18 @@ head_line e aim = source_line e aim ++ doubt_lines aim.doubts
 unfoldable pub position_line : Start → List ℕ
 position_line start = codes "position " ++ (fen_text start ++ codes "\n")
 
--- what was read of a game, but for its start: the notes, the number of played moves that are not new nodes, the text after the result, and the lines that
--- make the tree
+-- what was read of a game, but for its start: the language of its letters, if it is not English, the notes, the number of played moves that are not new
+-- nodes, the text after the result, and the lines that make the tree
 pub record Reported : Type 0 where
+  pub language : Option Language
   pub notes : Notes
   pub repeated : ℕ
   pub behind : List ℕ
   pub inserts : List ℕ
 
-abbrev pub reported_of : Ended → Reported
-reported_of x = record {
+abbrev pub reported_of : Option Language → Ended → Reported
+reported_of language x = record {
+  language = language;
   notes = x.game.notes;
   repeated = repeated_moves x.game.notes x.game.reading.study;
   behind = x.behind;
@@ -332,12 +346,17 @@ reported_of x = record {
 }
 
 abbrev pub reported_seen : ReportedRead → Reported
-reported_seen t = record { notes = t.notes; repeated = t.repeated; behind = t.behind.now; inserts = t.inserts.now }
+reported_seen t = record { language = t.language; notes = t.notes; repeated = t.repeated; behind = t.behind.now; inserts = t.inserts.now }
+
+abbrev pub letters_line : Option Language → List ℕ
+letters_line None = []
+letters_line (Some language) = told.remark_text (told.letters (language_name language))
 
 unfoldable pub remark_lines : Entry → Reported → List ℕ
 remark_lines e t =
-    counts_line (counted_words t.notes (other_tags (tags_of e.text)) t.repeated)
-    ++ (behind_line e t.behind ++ flat_map (was_line (tags_of e.text)) six_names)
+    letters_line t.language
+    ++ (counts_line (counted_words t.notes (other_tags (tags_of e.text)) t.repeated)
+    ++ (behind_line e t.behind ++ flat_map (was_line (tags_of e.text)) six_names))
 
 unfoldable pub study_lines : Entry → Start → Stipulation → List ℕ → List ℕ
 study_lines e start stipulation inserts =
@@ -386,9 +405,10 @@ sourced_block e start t s = aimed_block e start t s (aim_by_sources s)
 abbrev pub stopped_block : Entry → MovesFault → Block
 stopped_block e fault = no_study (fault_words e (place_in e fault.left) (stop_name fault.why ++ symbol_words fault.why (text_at e fault.left)))
 
-abbrev pub read_block : Option Stipulation → Entry → Start → Result Ended MovesFault → Block
-read_block given e start (Err fault) = stopped_block e fault
-read_block given e start (Ok x) = sourced_block e start (reported_of x) (sources_of given (tags_of e.text) start.position.to_move x.game.notes)
+abbrev pub read_block : Option Stipulation → Entry → Start → Option Language → Result Ended MovesFault → Block
+read_block given e start language (Err fault) = stopped_block e fault
+read_block given e start language (Ok x) =
+    sourced_block e start (reported_of language x) (sources_of given (tags_of e.text) start.position.to_move x.game.notes)
 
 -- before the first move. The stipulation has no effect here
 abbrev pub no_moves : Start → GameRead
@@ -406,6 +426,41 @@ no_moves start = record {
 unfoldable pub game_read : List ℕ → Start → Result Ended MovesFault
 game_read text start = to_the_end (read_moves (length text) true text (no_moves start))
 
+-- ---- letters of another language
+
+abbrev pub languages : List Language
+languages = German ∷ French ∷ Spanish ∷ Dutch ∷ []
+
+-- a symbol that is no legal move in English letters
+abbrev pub is_unknown_move : Stop → Bool
+is_unknown_move (stop.Taking (reason.Move (move_fault.San fault))) = true
+is_unknown_move other = false
+
+abbrev pub is_read : Result Ended MovesFault → Bool
+is_read (Ok x) = true
+is_read (Err fault) = false
+
+-- the first of these languages in whose letters the moves of a game are read to the end
+abbrev pub first_readable : List Language → List ℕ → Start → Option Language
+first_readable [] text start = None
+first_readable (l ∷ ls) text start = if is_read (game_read (in_english l text) start) then Some l else first_readable ls text start
+
+abbrev pub language_by : List ℕ → Start → Result Ended MovesFault → Option Language
+language_by text start (Ok x) = None
+language_by text start (Err fault) = if is_unknown_move fault.why then first_readable languages text start else None
+
+-- the language of a game's letters, if it is read in them and not in English
+unfoldable pub language_of : List ℕ → Start → Option Language
+language_of text start = language_by text start (game_read text start)
+
+-- the text in English letters
+abbrev pub text_in : Option Language → List ℕ → List ℕ
+text_in None text = text
+text_in (Some language) text = in_english language text
+
+abbrev pub moves_block : Option Stipulation → Entry → Start → Option Language → Block
+moves_block given e start language = read_block given e start language (game_read (text_in language e.text) start)
+
 -- the number of men that a FEN places
 abbrev pub men_in : Option (List ℕ × List ℕ) → ℕ
 men_in None = 0
@@ -417,7 +472,7 @@ fen_words text fault = fen_name fault
 
 abbrev pub start_block : Option Stipulation → Entry → List ℕ → Result Start FenFault → Block
 start_block given e text (Err fault) = no_study (left_out e (fen_words text fault))
-start_block given e text (Ok start) = read_block given e start (game_read e.text start)
+start_block given e text (Ok start) = moves_block given e start (language_of e.text start)
 
 -- an unprintable byte is read as `?`, which no field of a FEN has
 abbrev pub printable_byte : ℕ → ℕ

@@ -13,7 +13,7 @@ use Rattle.study_import.specs.declared.game.movetext.MovesFault.{MovesFault}
 use Rattle.study_import.specs.Movetext.{Ended}
 use Rattle.study_import.specs.declared.importer.Choice.{Choice}
 use Rattle.study_import.specs.Tails.{Tail, position_text}
-use Rattle.study_import.specs.Blocks.{six_names, tag_value_text, aim_of_game, repeated_name, game_read, fen_in, tail_of}
+use Rattle.study_import.specs.Blocks.{six_names, tag_value_text, aim_of_game, repeated_name, game_read, language_of, text_in, fen_in, tail_of}
 
 -- the texts of the six tags; each is known, if only as `?`
 abbrev pub tag_texts : List Pair → List (Option (List ℕ))
@@ -30,7 +30,7 @@ study_read given tags start (Ok x) = study_aimed start tags x (aim_of_game given
 
 abbrev pub study_begun : Option Stipulation → List ℕ → Result Start FenFault → Option PlainStudy
 study_begun given text (Err fault) = None
-study_begun given text (Ok start) = study_read given (tags_of text) start (game_read text start)
+study_begun given text (Ok start) = study_read given (tags_of text) start (game_read (text_in (language_of text start) text) start)
 
 abbrev pub study_with_fen : Option Stipulation → List ℕ → Option (List ℕ) → Option PlainStudy
 study_with_fen given text None = None

@@ -1,15 +1,24 @@
 -- Counts and notes beside the moves.
-use Rattle.std.specs.Prelude.{ℕ, Bool, true, false, not, ◌&&◌, ◌==◌, nat_le, List, length, codes, Some, None, Result, Ok, Err, if◌then◌else◌}
+use Rattle.std.specs.Prelude.{ℕ, Bool, true, false, not, ◌&&◌, ◌==◌, nat_le, List, length, codes, Option, Some, None, Result, Ok, Err, if◌then◌else◌}
 use Rattle.std.specs.Str.{bytes_eq}
+use Rattle.study_board.specs.Position.{Position, in_check}
+use Rattle.study_moves.specs.LegalList.{is_mate}
+use Rattle.study_notation.specs.declared.fault.SanFault.TheVariants.{NotSan}
+use Rattle.study_tree.specs.Tree.{has_spot}
+use Rattle.study_marks.specs.Study.{position_at}
 use Rattle.study_marks.specs.Edits.{PlainStudy}
 use Rattle.study_games.specs.Games.{one_more}
-use Rattle.study_games.specs.Symbols.{said_of}
+use Rattle.study_games.specs.Symbols.{said_of, claim_in}
+use Rattle.study_games.specs.declared.spelling.Claim.{Claim}
+use Rattle.study_games.specs.declared.spelling.Claim.TheVariants.{Check, Mate}
 use Rattle.study_games.specs.declared.symbols.Outcome.{Outcome}
 use Rattle.study_games.specs.declared.symbols.Said.{Said}
 use Rattle.study_games.specs.declared.symbols.Said.TheVariants as say
 use Rattle.study_games.specs.Tokens.{Token, blank, aside, opening, closing, star, tag, comment, rest, sign, symbol}
 use Rattle.study_import.specs.declared.game.notes.Notes.{Notes}
+use Rattle.study_import.specs.declared.game.moves.MoveFault.TheVariants as move_fault
 use Rattle.study_import.specs.declared.game.token_effects.Reason.{Reason}
+use Rattle.study_import.specs.declared.game.token_effects.Reason.TheVariants as reason
 use Rattle.study_import.specs.Aims.{aim_in, goal_signed, is_unread_comment}
 use Rattle.study_import.specs.Reading.{Reading}
 use Rattle.study_import.specs.declared.game.lines.Waiting.{Waiting}
@@ -18,12 +27,15 @@ use Rattle.study_import.specs.Taken.{Taken, reading_of, after_token}
 abbrev pub none_yet : Notes
 none_yet = record {
   comments = 0;
+  words = 0;
   asides = 0;
   moves = 0;
   null_moves = 0;
   moves_behind = 0;
+  wrong_signs = 0;
   in_header = true;
   before_moves = true;
+  behind_word = false;
   has_comment = false;
   opening = None;
   opening_goal = None;
@@ -34,7 +46,11 @@ none_yet = record {
 
 -- a token other than a tag, a blank and a comment ends the header
 abbrev pub after_header : Notes → Notes
-after_header n = record n { in_header = false }
+after_header n = record n { in_header = false; behind_word = false }
+
+-- blanks, comments and NAGs do not end what a word begins
+abbrev pub with_word : Notes → Notes
+with_word n = record n { in_header = false; words = one_more n.words; behind_word = true }
 
 abbrev pub with_aside : Notes → Notes
 with_aside n = record n { in_header = false; asides = one_more n.asides }
@@ -54,25 +70,33 @@ with_comment n text =
 
 -- cut: a null move of this line precedes it
 abbrev pub with_null_move : Notes → Bool → Notes
-with_null_move n cut = record n { in_header = false; before_moves = false; null_moves = if cut then n.null_moves else one_more n.null_moves }
+with_null_move n cut = record n {
+  in_header = false;
+  before_moves = false;
+  behind_word = false;
+  null_moves = if cut then n.null_moves else one_more n.null_moves;
+}
 
 abbrev pub with_move : Notes → Bool → Notes
 with_move n cut = record n {
   in_header = false;
   before_moves = false;
+  behind_word = false;
   moves = if cut then n.moves else one_more n.moves;
   moves_behind = if cut then one_more n.moves_behind else n.moves_behind;
 }
 
 -- waits: a line waits, so that a result is ignored
 abbrev pub with_result : Notes → Bool → Outcome → Notes
-with_result n waits outcome = record n { in_header = false; outcome = if waits then n.outcome else Some outcome }
+with_result n waits outcome = record n { in_header = false; behind_word = false; outcome = if waits then n.outcome else Some outcome }
 
 abbrev pub with_said : Notes → Bool → Bool → Said → Notes
 with_said n cut waits say.Number = after_header n
 with_said n cut waits (say.Result outcome) = with_result n waits outcome
 with_said n cut waits say.NullMove = with_null_move n cut
+with_said n cut waits say.Passing = record n { in_header = false }
 with_said n cut waits say.Aside = with_aside n
+with_said n cut waits say.Word = with_word n
 with_said n cut waits say.Move = with_move n cut
 
 abbrev pub with_sign : Notes → Bool → Bool → Notes
@@ -113,7 +137,68 @@ abbrev pub noted_on : Notes → Result Taken Reason → Result GameTaken Reason
 noted_on n (Err why) = Err why
 noted_on n (Ok t) = Ok (record { game = record { reading = t.reading; notes = n }; ended = t.ended })
 
+-- ---- words among the moves
+
+-- a word is a comment only behind a move; and a move right behind a word may be a part of it, as in `King d3`, if no null move precedes it in its line
+abbrev pub said_misplaced : Notes → Bool → Said → Option Reason
+said_misplaced n cut say.Word = if n.before_moves then Some (reason.Move (move_fault.San NotSan)) else None
+said_misplaced n cut say.Move = if n.behind_word && not cut then Some reason.BehindWord else None
+said_misplaced n cut other = None
+
+abbrev pub misplaced : Notes → Bool → Token → Option Reason
+misplaced n cut (symbol text) = said_misplaced n cut (said_of text)
+misplaced n cut other = None
+
+abbrev pub placed_or : Option Reason → Result Taken Reason → Result Taken Reason
+placed_or (Some why) t = Err why
+placed_or None t = t
+
+-- a token that is not a tag of the header
+abbrev pub token_taken : GameRead → Token → Result GameTaken Reason
+token_taken g token =
+    noted_on (with_token g.notes (nat_le 1 g.reading.lines.cut) (not (length g.reading.lines.waiting == 0)) token)
+    (placed_or (misplaced g.notes (nat_le 1 g.reading.lines.cut) token) (after_token g.reading token))
+
+-- ---- signs of check and mate
+
+-- whether what the signs behind a move claim is false of the position after it
+abbrev pub is_false : Claim → Position → Bool
+is_false Check p = not (in_check p.men p.to_move)
+is_false Mate p = not (is_mate p)
+
+-- of the move that was just played, unless a null move precedes it in its line
+abbrev pub is_wrong_claim : Reading → Option Claim → Bool
+is_wrong_claim r None = false
+is_wrong_claim r (Some claim) =
+    not (nat_le 1 r.lines.cut) && (has_spot r.study.tree r.lines.path && is_false claim (position_at r.study r.lines.path))
+
+abbrev pub is_wrong_said : Reading → List ℕ → Said → Bool
+is_wrong_said r text say.Move = is_wrong_claim r (claim_in text)
+is_wrong_said r text other = false
+
+abbrev pub is_wrong : Reading → Token → Bool
+is_wrong r (symbol text) = is_wrong_said r text (said_of text)
+is_wrong r other = false
+
+abbrev pub more_if : Bool → ℕ → ℕ
+more_if true n = one_more n
+more_if false n = n
+
+abbrev pub with_signs : Token → GameTaken → GameTaken
+with_signs token t = record {
+  game = record {
+    reading = t.game.reading;
+    notes = record t.game.notes { wrong_signs = more_if (is_wrong t.game.reading token) t.game.notes.wrong_signs };
+  };
+  ended = t.ended;
+}
+
+abbrev pub signs_noted : Token → Result GameTaken Reason → Result GameTaken Reason
+signs_noted token (Err why) = Err why
+signs_noted token (Ok t) = Ok (with_signs token t)
+
+-- ---- a token
+
 abbrev pub game_taken : GameRead → Token → Result GameTaken Reason
 game_taken g token =
-    if is_header_tag g.notes token then Ok (record { game = g; ended = false })
-    else noted_on (with_token g.notes (nat_le 1 g.reading.lines.cut) (not (length g.reading.lines.waiting == 0)) token) (after_token g.reading token)
+    if is_header_tag g.notes token then Ok (record { game = g; ended = false }) else signs_noted token (token_taken g token)

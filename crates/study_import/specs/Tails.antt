@@ -51,7 +51,9 @@ is_mate_tag name value = bytes_eq name (codes "Stipulation") && says_mate (aim_s
 
 abbrev pub part_said : Said → Part
 part_said say.Number = part.Number
+part_said say.Passing = part.Quiet
 part_said say.Aside = part.Quiet
+part_said say.Word = part.Quiet
 part_said (say.Result outcome) = part.End
 part_said say.NullMove = part.Move
 part_said say.Move = part.Move

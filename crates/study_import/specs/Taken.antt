@@ -53,7 +53,9 @@ abbrev pub taken_symbol : Reading → List ℕ → Said → Result Taken Reason
 taken_symbol r text say.Number = going_on r
 taken_symbol r text (say.Result outcome) = at_result r
 taken_symbol r text say.NullMove = at_null_move r
+taken_symbol r text say.Passing = going_on r
 taken_symbol r text say.Aside = going_on r
+taken_symbol r text say.Word = going_on r
 taken_symbol r text say.Move = on_move (symbol_played r text)
 
 abbrev pub taken_sign : Reading → Bool → Result Taken Reason

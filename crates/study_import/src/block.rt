@@ -1,5 +1,5 @@
 //! The text written for a game.
-ghost use Rattle.std.specs.Prelude.{◌≡◌, ◌≤◌, ◌++◌, ◌-◌, true, codes, count_by, OnOk, IfOk, IsErr};
+ghost use Rattle.std.specs.Prelude.{◌≡◌, ◌≤◌, ◌++◌, ◌-◌, true, codes, count_by, Some, Err, OnOk, IfOk, IsErr};
 ghost use Rattle.std.specs.List.{list_all};
 ghost use Rattle.std.specs.Option.{option_map};
 ghost use Rattle.study_notation.specs.Fen.{start_of};
@@ -15,21 +15,21 @@ ghost use Rattle.study_import.specs.Aims.{or_stipulation, signed_by};
 ghost use Rattle.study_import.specs.Blocks.{entry_seen, repeated_moves, behind_line, side_text, goal_text, stipulation_line, source_line};
 ghost use Rattle.study_import.specs.Blocks.{doubt_line, doubt_lines, head_line, tag_unread, sources_of, sourced_block, repeated_name, repeated_words, single_block};
 ghost use Rattle.study_import.specs.Blocks.{position_line, counts_line, counted_words, other_tags, remark_lines, study_lines, block_lines};
-ghost use Rattle.study_import.specs.Blocks.{tag_aim, result_of, reported_seen, stopped_block, read_block, no_moves, game_read};
+ghost use Rattle.study_import.specs.Blocks.{tag_aim, result_of, reported_seen, reported_of, stopped_block, no_moves, game_read};
+ghost use Rattle.study_import.specs.Blocks.{letters_line, is_unknown_move, is_read, first_readable, language_by, language_of, moves_block};
+ghost use Rattle.study_games.specs.Languages.{in_english};
 ghost use Rattle.study_import.specs.Blocks.{at_most, men_in, no_study, left_out, fen_words, start_block, fen_in, fen_block, header_block, block_of};
 ghost use Rattle.study_import.specs.BlocksRead.{is_of_memory, Adds};
 
 use crate::counts::{add_counted, add_counts_line, other_tags};
-use crate::faults::{add_fault, add_left_out, add_stop, is_of_memory, token_name};
+use crate::faults::{add_fault, add_left_out, token_name};
 use crate::game::aims::{
     Aim, Doubts, Sources, aim_by_sources, aim_stated, is_unread_tag, outcome_of_tag, signed_by,
     unaimed_words,
 };
-use crate::game::lines::Lines;
-use crate::game::movetext::{GameReading, MovesFault};
+use crate::game::movetext::GameReading;
 use crate::game::notes::Notes;
-use crate::game::reading::Reading;
-use crate::game::values::NoValues;
+use crate::letters::add_read;
 use crate::masks::{Mask, add_masked};
 use crate::pieces::{Piece, add_pieces};
 use crate::places::{Entry, Place, at_most, place_in};
@@ -39,8 +39,8 @@ use study_board::Side;
 use study_command::as_text;
 use study_games::bytes::is_letter;
 use study_games::{
-    Game, Outcome, Run, count_named, count_tags, cut_run, header_fault, next_word, tag_value,
-    unescape,
+    Game, Language, Outcome, Run, count_named, count_tags, cut_run, header_fault, in_english,
+    language_name, next_word, tag_value, unescape,
 };
 use study_marks::{Bench, Goal, Stipulation};
 use study_notation::{FenFault, Start, read_fen, write_fen};
@@ -175,6 +175,8 @@ fn add_behind<A: Allocator>(
 /// What was read of a game, except its start.
 #[derive(Clone, Copy)]
 pub struct Reported<'t> {
+    /// The language of its letters, if it is not English.
+    pub language: Option<Language>,
     pub notes: Notes,
     /// The number of played moves that are not new nodes.
     pub repeated: u32,
@@ -182,6 +184,27 @@ pub struct Reported<'t> {
     pub behind: &'t [u8],
     /// The lines that make the tree.
     pub inserts: &'t [u8],
+}
+
+/// What was read of a game, in letters of this language if they are not English.
+pub fn reported_of<'t, 'a, A: Allocator>(
+    game: &'t GameReading<'a, A>,
+    language: Option<Language>,
+    behind: &'t [u8],
+) -> Reported<'t>
+    ensures { let read = game_of (plain_study (marked_study game.now.reading.bench))
+        game.now.reading.lines.path.items game.now.reading.lines.begun
+        game.now.reading.lines.waiting.items game.now.reading.lines.cut
+        game.now.reading.inserts game.now.notes in
+        reported_seen result ≡ reported_of language (record { game = read; behind = behind.now }) }
+{
+    Reported {
+        language,
+        notes: game.notes,
+        repeated: repeated_moves(&game.notes, &game.reading.bench),
+        behind,
+        inserts: game.reading.inserts.as_slice(),
+    }
 }
 
 /// The number of played moves that are not new nodes.
@@ -220,6 +243,19 @@ fn add_counts<'a, A: Allocator>(
     add_counts_line(out, words.as_slice())
 }
 
+/// Adds the language of the letters, if it is not English.
+fn add_letters<A: Allocator>(
+    out: &mut Text<'_, A>,
+    language: Option<Language>,
+) -> Result<(), AllocError>
+    ensures { OnOk result (out.new ≡ out.old ++ letters_line language) }
+{
+    match language {
+        None => Ok(()),
+        Some(language) => add_remark(out, &Remark::Letters(language_name(language))),
+    }
+}
+
 #[tactic(auto, unfolding(crate::specs::Blocks::remark_lines))]
 fn add_remarks<'a, A: Allocator>(
     alloc: &'a A,
@@ -230,6 +266,7 @@ fn add_remarks<'a, A: Allocator>(
     ensures { OnOk result (out.new ≡ out.old
         ++ remark_lines (entry_seen entry.now) (reported_seen reported.now)) }
 {
+    add_letters(out, reported.language)?;
     add_counts(alloc, out, entry.text, reported)?;
     add_behind(out, entry, reported.behind)?;
     add_was_lines(alloc, out, entry.text)
@@ -354,7 +391,7 @@ pub struct Setting<'t> {
 }
 
 /// Adds the block of a game whose moves are read, or the line that it has no stipulation.
-fn add_aimed<'a, A: Allocator>(
+pub fn add_aimed<'a, A: Allocator>(
     alloc: &'a A,
     out: &mut Text<'_, A>,
     setting: &Setting<'_>,
@@ -376,79 +413,6 @@ fn add_aimed<'a, A: Allocator>(
         }
         None => add_left_out(alloc, out, entry, unaimed_words(&sources)),
     }
-}
-
-/// A game before its first move.
-fn begin_game<'a, A: Allocator>(
-    alloc: &'a A,
-    start: Start,
-) -> Result<GameReading<'a, A>, AllocError>
-    ensures { IfOk result (λ g.
-        game_of (plain_study (marked_study g.reading.bench))
-        g.reading.lines.path.items g.reading.lines.begun
-        g.reading.lines.waiting.items g.reading.lines.cut g.reading.inserts
-        g.notes ≡ no_moves start) }
-{
-    let any = Stipulation {
-        hero: Side::White,
-        goal: Goal::Win,
-    };
-    match Bench::new(alloc, start, any, &mut NoValues { asked: 0 }) {
-        Ok(bench) => Ok(GameReading {
-            reading: Reading {
-                alloc,
-                bench,
-                lines: Lines::new(alloc),
-                inserts: Text::new(alloc),
-            },
-            notes: Notes::new(),
-        }),
-        Err(_) => Err(AllocError),
-    }
-}
-
-/// Adds the block of a game with this start, or its first fault.
-#[tactic(auto, unfolding(crate::specs::Blocks::game_read))]
-fn add_read<'a, A: Allocator>(
-    alloc: &'a A,
-    out: &mut Text<'_, A>,
-    setting: &Setting<'_>,
-    start: &Start,
-) -> Result<bool, AllocError>
-    ensures { Adds result out.old out.new
-        (read_block setting.now.given (entry_seen setting.now.entry) start.now
-        (game_read setting.now.entry.text.now start.now)) }
-{
-    let mut game = begin_game(alloc, start.copied())?;
-    match game.read_whole(setting.entry.text) {
-        Ok(behind) => {
-            let reported = Reported {
-                notes: game.notes,
-                repeated: repeated_moves(&game.notes, &game.reading.bench),
-                behind,
-                inserts: game.reading.inserts.as_slice(),
-            };
-            add_aimed(alloc, out, setting, start, &reported)
-        }
-        Err(fault) => add_stopped(alloc, out, setting, &fault),
-    }
-}
-
-/// Adds the first fault of a game's moves, unless it is want of memory.
-fn add_stopped<'a, A: Allocator>(
-    alloc: &'a A,
-    out: &mut Text<'_, A>,
-    setting: &Setting<'_>,
-    fault: &MovesFault,
-) -> Result<bool, AllocError>
-    ensures reported { Adds result out.old out.new
-        (stopped_block (entry_seen setting.now.entry) fault.now) }
-    ensures memory { is_of_memory fault.now.why ≡ true → IsErr result }
-{
-    if is_of_memory(fault.why) {
-        return Err(AllocError);
-    }
-    add_stop(alloc, out, &setting.entry, fault)
 }
 
 /// The number of men that the first field of a FEN places.

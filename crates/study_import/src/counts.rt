@@ -113,6 +113,10 @@ pub fn add_counted<A: Allocator>(
                 number: notes.comments,
             },
             Count {
+                name: b"words",
+                number: notes.words,
+            },
+            Count {
                 name: b"NAGs",
                 number: notes.asides,
             },
@@ -131,6 +135,10 @@ pub fn add_counted<A: Allocator>(
             Count {
                 name: b"moves behind",
                 number: notes.moves_behind,
+            },
+            Count {
+                name: b"wrong signs",
+                number: notes.wrong_signs,
             },
         ],
     )

@@ -64,6 +64,7 @@ fn stop_name(why: Stop) -> &'static [u8]
         Stop::Taking(Reason::Line(fault)) => line_name(fault),
         Stop::Taking(Reason::TagInMoves) => b"TagInMoves",
         Stop::Taking(Reason::NullMove) => b"NullMove",
+        Stop::Taking(Reason::BehindWord) => b"BehindWord",
         Stop::OpenVariation => b"OpenVariation",
         Stop::Numbering => b"Numbering",
         Stop::BehindResult => b"BehindResult",
@@ -90,12 +91,14 @@ fn add_run<A: Allocator>(out: &mut Text<'_, A>, run: Run, text: &[u8]) -> Result
     add_pieces(out, &[Piece::Bytes(b" at "), Piece::Bytes(reported)])
 }
 
-/// Adds ` at SYMBOL`, if the fault is a move that cannot be read or a number that does not fit.
+/// Adds ` at SYMBOL`, if the fault is a move that cannot be read or stands behind a word, or a number that does not fit.
 fn add_symbol<A: Allocator>(out: &mut Text<'_, A>, why: Stop, text: &[u8]) -> Result<(), AllocError>
     ensures { OnOk result (out.new ≡ out.old ++ symbol_words why text.now) }
 {
     match why {
-        Stop::Taking(Reason::Move(MoveFault::San(_))) => add_run(out, Run::Symbol, text),
+        Stop::Taking(Reason::Move(MoveFault::San(_)) | Reason::BehindWord) => {
+            add_run(out, Run::Symbol, text)
+        }
         Stop::Numbering => add_run(out, Run::Digits, text),
         _ => Ok(()),
     }

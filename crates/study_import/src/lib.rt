@@ -13,6 +13,7 @@ mod faults;
 mod game;
 mod importer;
 mod laws;
+mod letters;
 mod masks;
 mod pieces;
 mod places;

@@ -3,12 +3,14 @@ ghost use Rattle.std.specs.Prelude.{◌≡◌, ◌++◌, OnOk, IfOk};
 ghost use Rattle.std.specs.List.{flat_map};
 ghost use Rattle.std.specs.Option.{option_map};
 ghost use Rattle.study_games.specs.Header.{tags_of};
-ghost use Rattle.study_import.specs.Blocks.{name_words, author_words, original_named, was_words, was_line, six_names, unknown_text, text_or_unknown, tag_value_text, tag_line};
+ghost use Rattle.study_import.specs.Blocks.{name_words, author_words, original_named, was_words, latin_line, was_line, six_names, unknown_text, text_or_unknown, tag_value_text, tag_line};
 
 use crate::masks::{Mask, add_masked};
 use crate::pieces::{Piece, add_pieces};
 use std::alloc::{AllocError, Allocator};
-use study_games::{short_text, spell_out, tag_value, trim_end, trim_start, truncate, unescape};
+use study_games::{
+    is_utf8, short_text, spell_out, tag_value, trim_end, trim_start, truncate, unescape,
+};
 use study_marks::{TagName, tag_name};
 use study_remark::{Original, Remark, add_remark};
 use study_text::Text;
@@ -78,6 +80,20 @@ fn add_was<'a, A: Allocator>(
     )
 }
 
+/// Adds that the tag is read as Latin 1, if its bytes fit no UTF-8.
+fn add_latin<A: Allocator>(
+    out: &mut Text<'_, A>,
+    name: TagName,
+    value: &[u8],
+) -> Result<(), AllocError>
+    ensures { OnOk result (out.new ≡ out.old ++ latin_line name value.now) }
+{
+    if is_utf8(value) {
+        return Ok(());
+    }
+    add_remark(out, &Remark::Latin1(original_named(name)))
+}
+
 #[tactic(auto, unfolding(crate::specs::Blocks::was_line))]
 fn add_was_line<'a, A: Allocator>(
     alloc: &'a A,
@@ -98,7 +114,8 @@ fn add_was_line<'a, A: Allocator>(
                 name,
                 value.as_slice(),
                 short_text(text.as_slice()),
-            )
+            )?;
+            add_latin(out, name, value.as_slice())
         }
     }
 }

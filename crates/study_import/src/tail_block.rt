@@ -1,5 +1,5 @@
 //! The text written for a game by choice: its block, or that of its tail.
-ghost use Rattle.std.specs.Prelude.{◌≡◌, ◌++◌, [], OnOk, IfOk};
+ghost use Rattle.std.specs.Prelude.{◌≡◌, ◌++◌, [], IfOk};
 ghost use Rattle.std.specs.Option.{option_map};
 ghost use Rattle.study_games.specs.Games.{game_seen};
 ghost use Rattle.study_import.specs.Tails.{position_text, tail_in, named_seen};

@@ -126,7 +126,7 @@ fn part_said(said: Said) -> Part
 {
     match said {
         Said::Number => Part::Number,
-        Said::Aside => Part::Quiet,
+        Said::Passing | Said::Aside | Said::Word => Part::Quiet,
         Said::Result(_) => Part::End,
         Said::NullMove | Said::Move => Part::Move,
     }

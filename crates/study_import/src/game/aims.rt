@@ -1,5 +1,6 @@
 //! The stipulation that a game states.
-ghost use Rattle.std.specs.Prelude.{◌≡◌};
+ghost use Rattle.std.specs.Prelude.{◌≡◌, ◌≤◌, length};
+ghost use Rattle.std.specs.List.{prefix_len};
 ghost use Rattle.std.specs.Option.{option_map};
 ghost use Rattle.study_games.specs.Words.{first_word};
 ghost use Rattle.study_command.specs.Parser.{mate_moves_of};
@@ -9,10 +10,11 @@ ghost use Rattle.study_import.specs.Aims.{goal_by_verb, goal_behind_hero, aim_in
 ghost use Rattle.study_import.specs.Aims.{signed_by, aim_stated, is_problem, says_mover, names_mover, asks_goal, looks_stated, is_unread_comment};
 ghost use Rattle.study_import.specs.Aims.{is_no_text, is_unread_tag, aim_of_outcome, outcome_said, outcome_of_tag, outcome_wanted, no_doubts, from_source};
 ghost use Rattle.study_import.specs.Aims.{or_aim, aim_of_result, unless_unread, first_aim, other_outcome, result_differs, tag_differs, doubts_of};
-ghost use Rattle.study_import.specs.Aims.{aim_by_sources, unaimed_words};
+ghost use Rattle.study_import.specs.Aims.{aim_by_sources, unaimed_words, begins_clause, goes_on, says_white, says_black, is_kind_byte, says_goal, says_in};
 
 use study_board::Side;
 use study_command::read_place;
+use study_games::bytes::is_letter;
 use study_games::{Outcome, Said, next_word, say, trim_end, trim_start};
 use study_marks::{Goal, MateMoves, Stipulation};
 use study_remark::Source;
@@ -56,7 +58,7 @@ pub struct Sources {
 fn ends_clause(byte: u8) -> bool
     ensures { result ≡ ends_clause byte }
 {
-    byte == b':' || byte == b'.' || byte == b',' || byte == b';' || byte == b'!'
+    byte == b':' || byte == b'.' || byte == b',' || byte == b';' || byte == b'!' || byte == b')'
 }
 
 fn ends_phrase(word: &[u8]) -> bool
@@ -66,7 +68,26 @@ fn ends_phrase(word: &[u8]) -> bool
     n >= 1 && ends_clause(word[n - 1])
 }
 
-/// The last word of a phrase: it ends with a mark, which is not part of it, or it ends the text.
+fn begins_clause(word: &[u8]) -> bool
+    ensures { result ≡ begins_clause word.now }
+{
+    match word {
+        [first, ..] => ends_clause(*first),
+        [] => false,
+    }
+}
+
+/// Whether a word follows that does not begin with such a mark.
+fn goes_on(behind: &[u8]) -> bool
+    ensures { result ≡ goes_on (first_word behind.now) }
+{
+    match next_word(behind) {
+        None => false,
+        Some((word, _)) => !begins_clause(word),
+    }
+}
+
+/// The last word of a phrase: it ends with a mark, which is not part of it, or one follows, or it ends the text.
 #[tactic(auto, unfolding(crate::specs::Aims::last_of_phrase))]
 fn last_of_phrase<'t>(word: &'t [u8], behind: &[u8]) -> Option<&'t [u8]>
     ensures { option_map (λ w. w.now) result ≡ last_of_phrase word.now behind.now }
@@ -75,19 +96,33 @@ fn last_of_phrase<'t>(word: &'t [u8], behind: &[u8]) -> Option<&'t [u8]>
         let (front, _) = word.split_at(word.len() - 1);
         return Some(front);
     }
-    if next_word(behind).is_some() {
-        None
-    } else {
-        Some(word)
-    }
+    if goes_on(behind) { None } else { Some(word) }
+}
+
+fn says_white(word: &[u8]) -> bool
+    ensures { result ≡ says_white word.now }
+{
+    word == b"White".as_slice()
+        || word == b"white".as_slice()
+        || word == b"WHITE".as_slice()
+        || word == b"(White".as_slice()
+}
+
+fn says_black(word: &[u8]) -> bool
+    ensures { result ≡ says_black word.now }
+{
+    word == b"Black".as_slice()
+        || word == b"black".as_slice()
+        || word == b"BLACK".as_slice()
+        || word == b"(Black".as_slice()
 }
 
 fn hero_of(word: &[u8]) -> Option<Side>
     ensures { result ≡ hero_of word.now }
 {
-    if word == b"White".as_slice() {
+    if says_white(word) {
         Some(Side::White)
-    } else if word == b"Black".as_slice() {
+    } else if says_black(word) {
         Some(Side::Black)
     } else {
         None
@@ -365,14 +400,45 @@ pub fn aim_stated(text: &[u8], to_move: Side) -> Option<Stipulation>
     }
 }
 
-/// `#..`, `h#..`.
+/// A letter or a hyphen, as in `ser-h#3`.
+fn is_kind_byte(b: u8) -> bool
+    ensures { result ≡ is_kind_byte b }
+{
+    is_letter(b) || b == b'-'
+}
+
+/// The number of such bytes at the front of a word.
+fn kind_len(word: &[u8]) -> usize
+    ensures value { result ≡ prefix_len is_kind_byte word.now }
+    ensures within { result ≤ length word.now }
+{
+    word.iter().take_while(|b| is_kind_byte(**b)).count()
+}
+
+/// `#..`, `h#..`, `s=..`.
 fn is_problem(word: &[u8]) -> bool
     ensures { result ≡ is_problem word.now }
 {
-    match word {
+    let (_, rest) = word.split_at(kind_len(word));
+    match rest {
+        [first, ..] => *first == b'#' || *first == b'=',
         [] => false,
-        [a] => *a == b'#',
-        [a, b, ..] => *a == b'#' || *b == b'#',
+    }
+}
+
+/// `Mate in three`, `Win in 4`.
+fn says_goal(word: &[u8]) -> bool
+    ensures { result ≡ says_goal word.now }
+{
+    says_win(word) || says_draw(word) || word == b"Mate".as_slice() || word == b"mate".as_slice()
+}
+
+fn says_in(behind: &[u8]) -> bool
+    ensures { result ≡ says_in (first_word behind.now) }
+{
+    match next_word(behind) {
+        Some((word, _)) => word == b"in".as_slice(),
+        None => false,
     }
 }
 
@@ -415,7 +481,11 @@ fn looks_stated(text: &[u8]) -> bool
     ensures { result ≡ looks_stated (first_word text.now) }
 {
     match next_word(text) {
-        Some((word, behind)) => is_problem(word) || (hero_of(word).is_some() && asks_goal(behind)),
+        Some((word, behind)) => {
+            is_problem(word)
+                || (says_goal(word) && says_in(behind))
+                || (hero_of(word).is_some() && asks_goal(behind))
+        }
         None => false,
     }
 }

@@ -1,20 +1,27 @@
 //! The moves of a game.
-ghost use Rattle.std.specs.Prelude.{◌≡◌, true, length};
+ghost use Rattle.std.specs.Prelude.{◌≡◌, true, length, IfOk, Some};
+ghost use Rattle.study_games.specs.Symbols.{said_of};
 ghost use Rattle.study_marks.specs.Study.{plain_study};
 ghost use Rattle.study_marks.specs.BenchState.{marked_study};
 ghost use Rattle.study_games.specs.Tokens.{token_seen};
-ghost use Rattle.study_import.specs.Notes.{game_of, is_header_tag, game_taken};
+ghost use Rattle.study_import.specs.Notes.{game_of, is_header_tag, said_misplaced, misplaced, token_taken, is_false, is_wrong_claim};
+ghost use Rattle.study_import.specs.Notes.{is_wrong_said, is_wrong, game_taken};
+ghost use Rattle.study_moves.specs.LegalList.{is_mate};
 ghost use Rattle.study_import.specs.Movetext.{at_end, game_numbered, read_moves};
 ghost use Rattle.study_import.specs.MovesRead.{Ends, TakesIn};
 ghost use Rattle.study_import.specs.Behind.{to_the_end};
 
 use crate::game::behind_result::moves_in;
+use crate::game::moves::MoveFault;
 use crate::game::notes::Notes;
 use crate::game::numbering::Numbering;
-use crate::game::reading::Reading;
+use crate::game::reading::{Reading, path_of};
 use crate::game::token_effects::Reason;
-use std::alloc::Allocator;
-use study_games::{Token, TokenFault, begins_feed, read_token};
+use std::alloc::{AllocError, Allocator};
+use study_board::Position;
+use study_games::{Claim, Said, Token, TokenFault, begins_feed, claim_in, read_token, say};
+use study_moves::{in_check, legal_moves};
+use study_notation::SanFault;
 
 /// Why the moves of a game cannot be read to the end.
 #[derive(Clone, Copy)]
@@ -51,6 +58,43 @@ fn is_header_tag(notes: &Notes, token: Token<'_>) -> bool
     }
 }
 
+fn said_misplaced(notes: &Notes, cut: bool, said: Said) -> Option<Reason>
+    ensures { result ≡ said_misplaced notes.now cut said }
+{
+    match said {
+        Said::Word if notes.before_moves => Some(Reason::Move(MoveFault::San(SanFault::NotSan))),
+        Said::Move if notes.behind_word && !cut => Some(Reason::BehindWord),
+        _ => None,
+    }
+}
+
+/// Why a word or a move may not stand here.
+fn misplaced(notes: &Notes, cut: bool, token: Token<'_>) -> Option<Reason>
+    ensures { result ≡ misplaced notes.now cut (token_seen token.entry) }
+{
+    match token {
+        Token::Symbol(text) => said_misplaced(notes, cut, say(text)),
+        _ => None,
+    }
+}
+
+#[tactic(auto, unfolding(study_moves::specs::LegalList::is_mate))]
+fn is_mate(p: &Position) -> bool
+    ensures { result ≡ is_mate p.now }
+{
+    in_check(p) && legal_moves(p).is_empty()
+}
+
+/// Whether what the signs behind a move claim is false of the position after it.
+fn is_false(claim: Claim, p: &Position) -> bool
+    ensures { result ≡ is_false claim p.now }
+{
+    match claim {
+        Claim::Check => !in_check(p),
+        Claim::Mate => !is_mate(p),
+    }
+}
+
 impl<'a, A: Allocator> GameReading<'a, A> {
     /// The numbering after a token and before the text behind it, `None` if the token is a number that does not fit.
     fn numbering_after(&self, token: Token<'_>, behind: &[u8]) -> Option<Numbering>
@@ -70,8 +114,79 @@ impl<'a, A: Allocator> GameReading<'a, A> {
             .with_token(side, lines.path.len(), token, behind)
     }
 
-    /// Takes a token. Returns whether the game ends there.
+    /// Takes a token that is not a tag of the header. Returns whether the game ends there.
     #[tactic(auto, using(crate::proofs::TokenByToken::noted_takes))]
+    fn take_noted(&mut self, token: Token<'_>) -> Result<bool, Reason>
+        ensures { let before = game_of
+            (plain_study (marked_study self.old.reading.bench)) self.old.reading.lines.path.items
+            self.old.reading.lines.begun
+            self.old.reading.lines.waiting.items self.old.reading.lines.cut
+            self.old.reading.inserts self.old.notes in
+            let after = game_of (plain_study (marked_study self.new.reading.bench))
+            self.new.reading.lines.path.items self.new.reading.lines.begun
+            self.new.reading.lines.waiting.items self.new.reading.lines.cut
+            self.new.reading.inserts self.new.notes in
+            TakesIn result (token_taken before (token_seen token.entry)) after }
+    {
+        let cut = self.reading.lines.cut >= 1;
+        if let Some(reason) = misplaced(&self.notes, cut, token) {
+            return Err(reason);
+        }
+        let waits = !self.reading.lines.waiting.is_empty();
+        self.notes = self.notes.with_token(cut, waits, token);
+        self.reading.take(token)
+    }
+
+    /// Whether this claim is false after the move that was just played.
+    fn is_wrong_claim(&self, claim: Claim) -> Result<bool, AllocError>
+        ensures { let game = game_of (plain_study (marked_study self.now.reading.bench))
+            self.now.reading.lines.path.items self.now.reading.lines.begun
+            self.now.reading.lines.waiting.items self.now.reading.lines.cut
+            self.now.reading.inserts self.now.notes in
+            IfOk result (λ is. is ≡ is_wrong_claim game.reading (Some claim)) }
+    {
+        if self.reading.lines.cut >= 1 {
+            return Ok(false);
+        }
+        let path = path_of(self.reading.alloc, self.reading.lines.path.as_slice())?;
+        match self.reading.bench.start_at(&path) {
+            None => Ok(false),
+            Some(start) => Ok(is_false(claim, &start.position)),
+        }
+    }
+
+    /// Whether the signs behind a symbol claim what is false.
+    fn is_wrong_symbol(&self, symbol: &[u8]) -> Result<bool, AllocError>
+        ensures { let game = game_of (plain_study (marked_study self.now.reading.bench))
+            self.now.reading.lines.path.items self.now.reading.lines.begun
+            self.now.reading.lines.waiting.items self.now.reading.lines.cut
+            self.now.reading.inserts self.now.notes in
+            IfOk result (λ is. is ≡ is_wrong_said game.reading symbol.now (said_of symbol.now)) }
+    {
+        match say(symbol) {
+            Said::Move => match claim_in(symbol) {
+                None => Ok(false),
+                Some(claim) => self.is_wrong_claim(claim),
+            },
+            _ => Ok(false),
+        }
+    }
+
+    /// Whether the token is a move with signs that are wrong.
+    fn is_wrong(&self, token: Token<'_>) -> Result<bool, AllocError>
+        ensures { let game = game_of (plain_study (marked_study self.now.reading.bench))
+            self.now.reading.lines.path.items self.now.reading.lines.begun
+            self.now.reading.lines.waiting.items self.now.reading.lines.cut
+            self.now.reading.inserts self.now.notes in
+            IfOk result (λ is. is ≡ is_wrong game.reading (token_seen token.entry)) }
+    {
+        match token {
+            Token::Symbol(text) => self.is_wrong_symbol(text),
+            _ => Ok(false),
+        }
+    }
+
+    /// Takes a token. Returns whether the game ends there.
     fn take(&mut self, token: Token<'_>) -> Result<bool, Reason>
         ensures { let before = game_of
             (plain_study (marked_study self.old.reading.bench)) self.old.reading.lines.path.items
@@ -87,10 +202,18 @@ impl<'a, A: Allocator> GameReading<'a, A> {
         if is_header_tag(&self.notes, token) {
             return Ok(false);
         }
-        let cut = self.reading.lines.cut >= 1;
-        let waits = !self.reading.lines.waiting.is_empty();
-        self.notes = self.notes.with_token(cut, waits, token);
-        self.reading.take(token)
+        let ended = match self.take_noted(token) {
+            Ok(ended) => ended,
+            Err(reason) => return Err(reason),
+        };
+        match self.is_wrong(token) {
+            Ok(true) => {
+                self.notes.wrong_signs = self.notes.wrong_signs.saturating_add(1);
+                Ok(ended)
+            }
+            Ok(false) => Ok(ended),
+            Err(_) => Err(Reason::Move(MoveFault::OutOfMemory)),
+        }
     }
 
     /// The end of the text, where no variation may be open.

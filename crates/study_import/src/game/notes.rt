@@ -5,6 +5,7 @@ ghost use Rattle.study_games.specs.Games.{one_more};
 ghost use Rattle.study_games.specs.Symbols.{said_of};
 ghost use Rattle.study_games.specs.Tokens.{token_seen};
 ghost use Rattle.study_import.specs.Notes.{none_yet, after_header, with_aside, with_comment, with_null_move, with_move, with_result, with_said, with_sign, with_token};
+ghost use Rattle.study_import.specs.Notes.{with_word};
 
 use crate::game::aims::{aim_in, goal_signed, is_unread_comment};
 use crate::game::numbering::Numbering;
@@ -15,6 +16,8 @@ use study_marks::{Goal, Stipulation};
 #[derive(Clone, Copy)]
 pub struct Notes {
     pub comments: u32,
+    /// Words among the moves.
+    pub words: u32,
     /// NAGs and glyphs.
     pub asides: u32,
     /// Moves played, including those that repeat a move of the tree.
@@ -22,9 +25,13 @@ pub struct Notes {
     pub null_moves: u32,
     /// Moves after a null move.
     pub moves_behind: u32,
+    /// Signs of check and mate behind moves that do not give it.
+    pub wrong_signs: u32,
     /// Only tags, comments and blanks were read.
     pub in_header: bool,
     pub before_moves: bool,
+    /// Behind a word, with at most blanks, comments and NAGs between.
+    pub behind_word: bool,
     pub has_comment: bool,
     /// The stipulation in the first comment before the moves, if it names the hero.
     pub opening: Option<Stipulation>,
@@ -44,12 +51,15 @@ impl Notes {
     {
         Notes {
             comments: 0,
+            words: 0,
             asides: 0,
             moves: 0,
             null_moves: 0,
             moves_behind: 0,
+            wrong_signs: 0,
             in_header: true,
             before_moves: true,
+            behind_word: false,
             has_comment: false,
             opening: None,
             opening_goal: None,
@@ -67,6 +77,18 @@ impl Notes {
     {
         Notes {
             in_header: false,
+            behind_word: false,
+            ..self
+        }
+    }
+
+    fn with_word(self) -> Notes
+        ensures { result ≡ with_word self }
+    {
+        Notes {
+            in_header: false,
+            words: self.words.saturating_add(1),
+            behind_word: true,
             ..self
         }
     }
@@ -119,6 +141,7 @@ impl Notes {
         Notes {
             in_header: false,
             before_moves: false,
+            behind_word: false,
             null_moves,
             ..self
         }
@@ -131,6 +154,7 @@ impl Notes {
             return Notes {
                 in_header: false,
                 before_moves: false,
+                behind_word: false,
                 moves_behind: self.moves_behind.saturating_add(1),
                 ..self
             };
@@ -138,6 +162,7 @@ impl Notes {
         Notes {
             in_header: false,
             before_moves: false,
+            behind_word: false,
             moves: self.moves.saturating_add(1),
             ..self
         }
@@ -151,6 +176,7 @@ impl Notes {
         }
         Notes {
             in_header: false,
+            behind_word: false,
             outcome: Some(outcome),
             ..self
         }
@@ -163,7 +189,12 @@ impl Notes {
             Said::Number => self.after_header(),
             Said::Result(outcome) => self.with_result(waits, outcome),
             Said::NullMove => self.with_null_move(cut),
+            Said::Passing => Notes {
+                in_header: false,
+                ..self
+            },
             Said::Aside => self.with_aside(),
+            Said::Word => self.with_word(),
             Said::Move => self.with_move(cut),
         }
     }

@@ -26,7 +26,7 @@ pub struct Reading<'a, A: Allocator> {
 }
 
 /// The path with these places.
-fn path_of<'a, A: Allocator>(alloc: &'a A, steps: &[u16]) -> Result<Path<'a, A>, AllocError>
+pub fn path_of<'a, A: Allocator>(alloc: &'a A, steps: &[u16]) -> Result<Path<'a, A>, AllocError>
     ensures { IfOk result (λ path. path ≡ steps.now) }
 {
     let mut path = Path::root(alloc);

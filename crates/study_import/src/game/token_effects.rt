@@ -24,6 +24,8 @@ pub enum Reason {
     TagInMoves,
     /// There is a null move in the main line.
     NullMove,
+    /// A move stands right behind a word, which may be a part of it.
+    BehindWord,
 }
 
 impl<'a, A: Allocator> Reading<'a, A> {
@@ -115,7 +117,7 @@ impl<'a, A: Allocator> Reading<'a, A> {
             Said::Number => Ok(false),
             Said::Result(_) => self.take_result(),
             Said::NullMove => self.take_null_move(),
-            Said::Aside => Ok(false),
+            Said::Passing | Said::Aside | Said::Word => Ok(false),
             Said::Move => self.take_move(symbol),
         }
     }
