@@ -12,6 +12,7 @@ moves_reason why =
     if begins why (codes "TagInMoves") then codes "a tag among the moves"
     else (if begins why (codes "Numbering") then codes "a move number that does not fit"
     else (if begins why (codes "NullMove") then codes "a null move in the main line"
+    else (if begins why (codes "BehindWord") then codes "a move right behind a word, which may be a part of it"
     else (if begins why (codes "BehindResult") then codes "moves behind the result"
     else (if begins why (codes "Byte") then codes "a letter that begins no move"
     else (if begins why (codes "OpenComment") then codes "a comment that is not closed"
@@ -19,7 +20,7 @@ moves_reason why =
     else (if begins why (codes "NotOpened") then codes "a ) without its ("
     else (if begins why (codes "OpenVariation") then codes "a ( without its )"
     else (if begins why (codes "TooNested") then codes "more than 256 variations within one another"
-    else reason_of why)))))))))
+    else reason_of why))))))))))
 
 -- of a fault of the header, or of the whole game
 unfoldable pub game_reason : List ℕ → List ℕ

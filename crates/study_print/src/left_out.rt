@@ -18,6 +18,8 @@ fn moves_reason(why: &[u8]) -> &'static [u8]
         b"a move number that does not fit"
     } else if begins(why, b"NullMove") {
         b"a null move in the main line"
+    } else if begins(why, b"BehindWord") {
+        b"a move right behind a word, which may be a part of it"
     } else if begins(why, b"BehindResult") {
         b"moves behind the result"
     } else if begins(why, b"Byte") {

@@ -29,7 +29,7 @@ use Rattle.study_script.specs.Replies.{Reply, accepted_reply, refused_reply, cla
 use Rattle.study_script.specs.Replies.{names_position, begins_position, without_document}
 use Rattle.study_report.specs.declared.line_kind.LineKind.{LineKind}
 use Rattle.study_report.specs.declared.line_kind.LineKind.TheVariants.{Remark, PassedOver, Study, Checked}
-use Rattle.study_remark.specs.Remarks.{Told, left_out, not_read, stipulated, doubted, not_taken_over, behind_result, original_of, tail, total}
+use Rattle.study_remark.specs.Remarks.{Told, left_out, not_read, stipulated, doubted, not_taken_over, behind_result, original_of, latin_1, letters, tail, total}
 use Rattle.study_remark.specs.Reading.{remark_in}
 use Rattle.study_report.specs.Remarks.{is_remark, is_told, says_left_out}
 use Rattle.study_report.specs.Reported.{kind_in, line_kind, class_kind, lacks_study, game_entry, games_in}
@@ -56,6 +56,8 @@ no-game (Some (doubted why)) line k kind other e = refl
 no-game (Some (not_taken_over counts)) line k kind other e = refl
 no-game (Some (behind_result at column)) line k kind other e = refl
 no-game (Some (original_of name text)) line k kind other e = refl
+no-game (Some (latin_1 name)) line k kind other e = refl
+no-game (Some (letters language)) line k kind other e = refl
 no-game (Some (tail moves)) line k kind other e = refl
 no-game (Some (total games studies)) line k kind other e = refl
 

@@ -102,9 +102,9 @@ module _ (form : PlainStudy → ℕ → List ℕ → Type 0) (refusal : ℕ → 
   AreWritten first lines old new count =
       (parts : List Part) × (last : Document) × AreParts 0 0 first lines parts last × Appends old new (parts_text parts) × (count ≡ part_refusals parts)
 
-  -- What a report wrote, given the document at the beginning, the bytes of its script, what the reader has left of them, what the writer had and has, and the result: a part for each
-  -- line that it read, with as many refusals as it counts. So the result counts no refusal exactly if none was written. If it stopped for the writer or for
-  -- memory, what it wrote is left open here.
+  -- What a report wrote, given the document at the beginning, the bytes of its script, what the reader has left of them, what the writer had and has, and
+  -- the result: a part for each line that it read, with as many refusals as it counts. So the result counts no refusal exactly if none was written. If it
+  -- stopped for the writer or for memory, what it wrote is left open here.
   abbrev pub Fits : Document → List ℕ → Option (List ℕ) → Option (List ℕ) → Option (List ℕ) → Result Summary RunFault → Type 0
   Fits first script left old new (Ok summary) = AreWritten first (script_lines script) old new summary.refused
   Fits first script left old new (Err ReadDevice) =

@@ -39,7 +39,7 @@ refusal_names =
 -- the names of faults for which only a game is left out
 unfoldable pub game_names : List ℕ
 game_names =
-    codes "GameTooLarge TagForm OpenString NoStipulation StipulationUnread TagTwice TagInMoves Numbering NullMove BehindResult Byte OpenComment "
+    codes "GameTooLarge TagForm OpenString NoStipulation StipulationUnread TagTwice TagInMoves Numbering NullMove BehindWord BehindResult Byte OpenComment "
     ++ codes "NoMoveBefore NotOpened OpenVariation TooNested"
 
 -- the first words of commands

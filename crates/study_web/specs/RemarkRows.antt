@@ -5,8 +5,8 @@ use Rattle.study_remark.specs.declared.remark.Doubt.TheVariants as doubt
 use Rattle.study_remark.specs.declared.remark.Source.{Source}
 use Rattle.study_remark.specs.declared.remark.Source.TheVariants as source
 use Rattle.study_remark.specs.Remarks.{Game, Told, left_out, not_read, stipulated, doubted, not_taken_over, behind_result, original_of, tail, total}
-use Rattle.study_remark.specs.Remarks.{original_name}
-use Rattle.study_remark.specs.Reading.{after_word, remark_in, old_remark_in, or_told}
+use Rattle.study_remark.specs.Remarks.{latin_1, letters, original_name}
+use Rattle.study_remark.specs.Reading.{after_word, remark_in}
 use Rattle.study_web.specs.Reported.{line_of}
 
 -- ---- fields
@@ -45,14 +45,12 @@ told_fields (doubted why) = codes "doubted" ++ field (doubt_name why)
 told_fields (not_taken_over counts) = codes "not-taken-over" ++ field counts
 told_fields (behind_result line column) = codes "behind-result" ++ (field (decimal line) ++ field (decimal column))
 told_fields (original_of name text) = codes "original" ++ (field (original_name name) ++ field text)
+told_fields (latin_1 name) = codes "latin-1" ++ field (original_name name)
+told_fields (letters language) = codes "letters" ++ field language
 told_fields (tail moves) = codes "tail" ++ field (decimal moves)
 told_fields (total games studies) = codes "total" ++ (field (decimal games) ++ field (decimal studies))
 
 -- ---- a line of a script
-
--- a remark, also one of version 1.7
-unfoldable pub remark_of : List ℕ → Option Told
-remark_of line = or_told (remark_in line) (old_remark_in line)
 
 abbrev pub or_words : Option (List ℕ) → Option (List ℕ) → Option (List ℕ)
 or_words (Some words) other = Some words
@@ -77,7 +75,7 @@ row_with n (Some fields) = decimal n ++ (codes "\t" ++ line_of fields)
 
 -- the row of the line with this number
 unfoldable pub row_of : ℕ → List ℕ → List ℕ
-row_of n line = row_with n (fields_by (remark_of line) (comment_words line))
+row_of n line = row_with n (fields_by (remark_in line) (comment_words line))
 
 -- the rows of these lines, which are counted on from a number
 abbrev pub rows_from : ℕ → List (List ℕ) → List ℕ

@@ -542,7 +542,7 @@ fn games_come_in(rt: HostRuntime) -> Result<(), Fail> {
     Ok(())
 }
 
-/// Lines as docs/IMPORT.md has them, two of version 1.7, and comments.
+/// Lines as docs/IMPORT.md has them, and comments, two of them as version 1.7 wrote its remarks.
 const REMARKS: &str = r#"#! game 1, line 1: stipulated by its comment
 #! game 4, line 52, column 17 (Kasparyan, G.): NoSuchMove at Kb6
 #! game 5, line 60 (A (B)): left out: 7 men
@@ -553,6 +553,8 @@ const REMARKS: &str = r#"#! game 1, line 1: stipulated by its comment
 #! not taken over: comments 9, NAGs 4
 #! behind the result: line 14, column 715
 #! White was: Troickij
+#! read as Latin 1: White
+#! letters: German
 position 8/8
 #! a tail: moves before 3; its position is another program's word
 #! games 7, studies 2
@@ -575,13 +577,15 @@ const ROWS: &str = "1\tstipulated\t1\t1\t\t\tcomment
 8\tnot-taken-over\tcomments 9, NAGs 4
 9\tbehind-result\t14\t715
 10\toriginal\tWhite\tTroickij
-12\ttail\t3
-13\ttotal\t7\t2
-14\tleft-out\t7\t3\t\t\tleft out: 5 men
-15\toriginal\tWhite\tR
-16\tother\ta study
-17\tother\tnote Kg3: good
-19\tother\tgame 8, line 1: stipulated by hand
+11\tlatin-1\tWhite
+12\tletters\tGerman
+14\ttail\t3
+15\ttotal\t7\t2
+16\tother\tgame 7, line 3: left out: 5 men
+17\tother\tWhite was: R
+18\tother\ta study
+19\tother\tnote Kg3: good
+21\tother\tgame 8, line 1: stipulated by hand
 ";
 
 /// Remarks are taken apart, each at the number of its line.

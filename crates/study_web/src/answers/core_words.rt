@@ -117,7 +117,7 @@ PawnOnEndRank SideField OpponentInCheck Castling EnPassantField EnPassantImpossi
 fn game_names() -> &'static [u8]
     ensures { result.now ≡ game_names }
 {
-    b"GameTooLarge TagForm OpenString NoStipulation StipulationUnread TagTwice TagInMoves Numbering NullMove BehindResult Byte OpenComment \
+    b"GameTooLarge TagForm OpenString NoStipulation StipulationUnread TagTwice TagInMoves Numbering NullMove BehindWord BehindResult Byte OpenComment \
 NoMoveBefore NotOpened OpenVariation TooNested"
 }
 

@@ -5,14 +5,14 @@ ghost use Rattle.study_command.specs.Lines.{script_lines};
 ghost use Rattle.study_remark.specs.Remarks.{game_seen, remark_seen, original_name};
 ghost use Rattle.study_remark.specs.Reading.{after_word};
 ghost use Rattle.study_web.specs.Answers.{MayEnd, IsOutOfMemory, IsUnread};
-ghost use Rattle.study_web.specs.RemarkRows.{field, column_digits, game_fields, source_name, doubt_name, told_fields, remark_of};
+ghost use Rattle.study_web.specs.RemarkRows.{field, column_digits, game_fields, source_name, doubt_name, told_fields};
 ghost use Rattle.study_web.specs.RemarkRows.{comment_words, row_of, rows_from};
 
 use crate::reply::AnswerFault;
 use crate::request_fault::RequestFault;
 use std::alloc::{AllocError, Allocator};
 use study_command::{Line, LineFault, read_byte};
-use study_remark::{Doubt, Original, Remark, Source, Subject, read_old_remark, read_remark};
+use study_remark::{Doubt, Original, Remark, Source, Subject, read_remark};
 use study_reply::Refusal;
 use study_script::RunFault;
 use study_text::Text;
@@ -142,22 +142,19 @@ fn add_fields<A: Allocator>(text: &mut Text<'_, A>, remark: &Remark<'_>) -> Resu
             add_field(text, original_name(*name))?;
             add_field(text, original)
         }
+        Remark::Latin1(name) => {
+            text.add(b"latin-1")?;
+            add_field(text, original_name(*name))
+        }
+        Remark::Letters(language) => {
+            text.add(b"letters")?;
+            add_field(text, language)
+        }
         Remark::Tail(moves) => {
             text.add(b"tail")?;
             add_number(text, *moves)
         }
         Remark::Total(games, studies) => add_pair(text, b"total", *games, *studies),
-    }
-}
-
-/// The remark in a line, also in one of version 1.7.
-#[tactic(auto, unfolding(crate::specs::RemarkRows::remark_of))]
-fn remark_of(line: &[u8]) -> Option<Remark<'_>>
-    ensures { option_map remark_seen result ≡ remark_of line.now }
-{
-    match read_remark(line) {
-        Some(remark) => Some(remark),
-        None => read_old_remark(line),
     }
 }
 
@@ -196,7 +193,7 @@ fn add_place<A: Allocator>(text: &mut Text<'_, A>, number: u32) -> Result<(), Al
 fn add_row<A: Allocator>(text: &mut Text<'_, A>, number: u32, line: &[u8]) -> Result<(), AllocError>
     ensures { OnOk result (text.new ≡ text.old ++ row_of number line.now) }
 {
-    match (remark_of(line), comment_words(line)) {
+    match (read_remark(line), comment_words(line)) {
         (Some(remark), _) => {
             add_place(text, number)?;
             add_fields(text, &remark)?;
