@@ -39,6 +39,7 @@ pgn
 
 #! game 2, line 5: stipulated by its result
 #! White was: R\xe9ti\xa0R
+#! read as Latin 1: White
 position 8/8/8/4k3/8/4K3/4P3/8 w - - 0 1
 stipulate white win
 tag Event ?

@@ -29,6 +29,7 @@ const TWO: &[u8] = b"[Event \"A \"first\" one\"]
 const TWO_REPORTED: &[u8] = b"#! game 1, line 1: stipulated by its comment
 #! not taken over: comments 1, NAGs 1, repeated 1
 #! White was: R\xe9ti
+#! read as Latin 1: White
 position 8/8/8/4k3/8/4K3/4P3/8 w - - 0 1
 stipulate black draw
 tag Event A \"first\" one

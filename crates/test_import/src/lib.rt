@@ -2,11 +2,25 @@
 #![tactic(auto)]
 
 #[cfg(test)]
+mod collection;
+#[cfg(test)]
+mod digest;
+#[cfg(test)]
 mod encoding;
 #[cfg(test)]
 mod encoding_spaces;
 #[cfg(test)]
+mod entries;
+#[cfg(test)]
 mod games;
+#[cfg(test)]
+mod games_to_100;
+#[cfg(test)]
+mod games_to_150;
+#[cfg(test)]
+mod games_to_50;
+#[cfg(test)]
+mod judge;
 #[cfg(test)]
 mod lines;
 #[cfg(test)]
@@ -20,4 +34,8 @@ mod stipulations;
 #[cfg(test)]
 mod tails;
 #[cfg(test)]
+mod traps;
+#[cfg(test)]
 mod typeset;
+#[cfg(test)]
+mod words_and_letters;
