@@ -42,8 +42,8 @@ export function headView(s) {
           'Clear')),
     h('div', {class: 'row'}, aimView(s.aim, setAim, 'aim'), s.aim && !isAimCarried(s) && sourceView(s),
       h('span', {class: 'note'}, app.counts)),
-    s.aim && isAimCarried(s) && carriedAim(s.aim), againstView(s), s.place.Date !== undefined && dateNote(t.Date),
-    lettersNote(s), messageAt('head'),
+    s.aim && isAimCarried(s) && carriedAim(s.aim), againstView(s), languageView(s),
+    s.place.Date !== undefined && dateNote(t.Date), lettersNote(s), messageAt('head'),
     h('details', {
       id: 'tags',
       open: open.tags,
@@ -72,6 +72,12 @@ const sourceView = s => sourceText(s.origin) && h('span', {class: 'note', id: 's
 const againstView = ({origin}) => origin && origin.against.length > 0 &&
   h('p', {class: 'note differs', id: 'against'},
     `Compare the sources of the stipulation: ${origin.against.map(againstText).join('; ')}.`);
+/**
+ * The language of the letters in which its file has the moves.
+ * @param {Study} s
+ */
+const languageView = ({origin}) => origin && origin.letters !== '' &&
+  h('p', {class: 'note', id: 'letters'}, `The file has its moves in ${origin.letters} letters.`);
 /** @param {string} words */
 const setAim = words =>
   change(now => (now.studies[now.at] ? stipulate(now.lines, now.studies[now.at], words) : null), 'head');

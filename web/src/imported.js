@@ -34,7 +34,9 @@ const placeOf = ({game, line, column, author}) =>
 const GONE = /** @type {Record<string, [string, string]>} */ ({
   repeated: ['repeated move', 'repeated moves'],
   'null moves': ['null move', 'null moves'],
-  'moves behind': ['move behind a null move', 'moves behind null moves']
+  'moves behind': ['move behind a null move', 'moves behind null moves'],
+  words: ['word among the moves', 'words among the moves'],
+  'wrong signs': ['wrong sign of check or mate', 'wrong signs of check or mate']
 });
 /** @param {{word: string, rest: string}} remark */
 const isAtNullMove = ({word, rest}) => word === 'note' && cutAt(rest, ': ')[0].split(' ').includes('--');
@@ -111,8 +113,8 @@ export function documentOf(lines) {
 /**
  * Where a study comes from, as the remarks above its position say: the game of the file and its line, which source its
  * stipulation is from, such as `result-tag`, and what speaks against it, such as `result-differs`; where it ends, if a
- * bad move stands there in the file.
- * @typedef {{game: number, line: number, source: string, against: string[],
+ * bad move stands there in the file; the language of its letters, if that is not English.
+ * @typedef {{game: number, line: number, source: string, against: string[], letters: string,
  *   cut: import('./left_out.js').Cut | null}} Origin
  */
 /** What the page writes where the user states another stipulation. */
@@ -140,8 +142,9 @@ export const isOfFile = ({source}) => source !== '' && source !== HAND && source
  */
 export function originIn(remarks) {
   const found = remarks.map(stipulatedBy).find(Boolean) || {game: 0, line: 0, source: ''},
-        against = remarksOfKind(remarks, 'doubted').map(({said}) => said);
-  return {...found, against, cut: cutIn(remarks)};
+        against = remarksOfKind(remarks, 'doubted').map(({said}) => said),
+        letters = remarksOfKind(remarks, 'letters').map(({said}) => said).join('');
+  return {...found, against, letters, cut: cutIn(remarks)};
 }
 /**
  * The remarks above a position once the user states another stipulation, or sets up other men: what the file says of

@@ -38,6 +38,7 @@ const INSTEAD = /** @type {Record<string, string>} */ ({
   CastlingLeftOut: 'begin with the position after it',
   Numbering: 'write the move that is missing before it, or the right number',
   NullMove: 'show a threat in a variation',
+  BehindWord: 'write the words in braces, or the move in one piece',
   BehindResult: 'delete the result before them, or write them in braces',
   TagInMoves: 'write it above the moves, or in braces',
   Byte: 'delete it, or write it in braces',
@@ -92,8 +93,8 @@ export function whyLeftOut({why, text}) {
 
 /** Faults at a place among the moves. */
 const AMONG_MOVES = new Set([
-  'NotSan', 'NoSuchMove', 'Ambiguous', 'CastlingLeftOut', 'Numbering', 'NullMove', 'BehindResult', 'TagInMoves', 'Byte',
-  'OpenComment', 'NoMoveBefore', 'NotOpened', 'OpenVariation', 'TooDeep', 'TreeFull', 'TooNested'
+  'NotSan', 'NoSuchMove', 'Ambiguous', 'CastlingLeftOut', 'Numbering', 'NullMove', 'BehindWord', 'BehindResult',
+  'TagInMoves', 'Byte', 'OpenComment', 'NoMoveBefore', 'NotOpened', 'OpenVariation', 'TooDeep', 'TreeFull', 'TooNested'
 ]);
 /**
  * Whether a game can be read up to what is wrong with it.

@@ -66,8 +66,11 @@ export function walk(movetext, visit) {
     }
   }
 }
-/** @param {string} symbol */
-export const isMoveText = symbol => NULL_MOVE.test(symbol) || /[a-hO0]/.test(plain(symbol));
+/**
+ * Whether a symbol is a move: each names a square, but for castling and a null move. Other words are comments.
+ * @param {string} symbol
+ */
+export const isMoveText = symbol => NULL_MOVE.test(symbol) || /[a-h][1-8]|^[O0]-?[O0]/.test(plain(symbol));
 /** A tag, with the comments before it. */
 const TAG = /^((?:\s|\{[^}]*\}|;[^\n]*(?:\n|$))*)\[[ \t]*([A-Za-z]\w*)[ \t]*"((?:\\.|[^\\\n])*?)"[ \t]*\]/;
 /**

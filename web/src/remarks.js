@@ -18,6 +18,8 @@ const FIELDS = /** @type {Record<string, string[]>} */ ({
   'not-taken-over': ['said'],
   'behind-result': ['line', 'column'],
   'original': ['name', 'said'],
+  'latin-1': ['name'],
+  'letters': ['said'],
   'total': ['games', 'studies'],
   'other': ['said']
 });

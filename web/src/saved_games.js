@@ -55,17 +55,32 @@ export const joined = texts =>
  */
 const loose = path => path.split(' ').map(looseMove).join(' ');
 /**
+ * The squares of a path, without letters of pieces, which may be those of another language.
+ * @param {string} path
+ */
+const squaresOf = path => path.split(' ').map(move => looseMove(move).replace(/^[A-Z]|[A-Z]$/g, '')).join(' ');
+/**
+ * The keys by their squares, where only one has these.
+ * @param {Set<string>} keys
+ */
+function bySquares(keys) {
+  const found = /** @type {Map<string, string | undefined>} */ (new Map());
+  for (const key of keys) found.set(squaresOf(key), found.has(squaresOf(key)) ? undefined : key);
+  return found;
+}
+/**
  * The notes of remarks at the moves of a game; those at moves that are not in it are left out.
  * @param {string[]} remarks
  * @param {Item[]} items
  */
 function notesAt(remarks, items) {
   const notes = /** @type {Map<string, Note>} */ (new Map()), keys = new Set(items.map(item => item.key)),
-        nearly = new Map([...keys].reverse().map(key => [loose(key), key]));
+        nearly = new Map([...keys].reverse().map(key => [loose(key), key])), squares = bySquares(keys);
   for (const {word: kind, rest} of remarks.map(ownRemark)) {
     const [moves, text] = cutAt(rest, ': ');
     if (!AT_MOVES.has(kind) || !text) continue;
-    const key = moves === '-' ? '' : moves, at = keys.has(key) ? key : nearly.get(loose(key));
+    const key = moves === '-' ? '' : moves,
+          at = keys.has(key) ? key : nearly.get(loose(key)) || squares.get(squaresOf(key));
     if (at === undefined) continue;
     const note = notes.get(at) || {comments: [], glyphs: [], marks: []}, last = note.comments.length - 1;
     if (kind === 'mark') note.marks.push(text);

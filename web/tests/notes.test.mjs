@@ -71,6 +71,17 @@ test('without the program\'s marks a game is the author\'s', () => {
     movesOf(withNotes(OURS, ['#! note Kg3: !', '#! note Kg3 Kf5: on'], false, ['White to win', 'not read: 2. x'])),
     '{White to win. not read: 2. x} 1. Kg3 {!} (1. b4 Kf6) 1... Kf5 {on} 2. Kf3 1-0');
 });
+test('words among the moves are no moves', () => {
+  const game = GAME.replace('1... Kf5 2. Kf3 $1 1-0', 'matt 1... Kf5 etc. 2. Kf3 wins at once $1 1-0');
+  assert.deepEqual(remarksOf(game).slice(-2), ['#! note Kg3 Kf5 Kf3: $1', '#! result 1-0']);
+});
+test('comments at moves in letters of another language', () => {
+  const
+    ours =
+      '[FEN "8/8/8/8/8/8/8/8 w - - 0 1"]\n\n1. Qg2+ {White mates in 2} Kf8 {White mates in 1} 2. Rh8# {mate} 1-0\n\n',
+    text = withNotes(ours, ['#! note Dg2: good', '#! note Dg2 Kf8 Th8: matt']);
+  assert.equal(movesOf(text), '1. Qg2+ {good. White mates in 2} Kf8 {White mates in 1} 2. Rh8# {matt. mate} 1-0');
+});
 /** Saavedra's study as its second entry in a tourney: the program calls 1... Rd1 in the try no mistake. */
 const ROOK = `[Event "?"]
 [Result "1-0"]

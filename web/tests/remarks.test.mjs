@@ -21,10 +21,12 @@ test('the fields of a remark', () => {
   assert.deepEqual(remarkOf(LINES[1]),
     {...none, kind: 'left-out', game: 4, line: 52, column: 17, author: 'Kasparyan, G.', said: 'NoSuchMove at Kb6'});
   assert.deepEqual(remarkOf(LINES[9]), {...none, kind: 'original', name: 'White', said: 'Troickij'});
+  assert.deepEqual(remarkOf(LINES[10]), {...none, kind: 'latin-1', name: 'White'});
+  assert.deepEqual(remarkOf(LINES[11]), {...none, kind: 'letters', said: 'German'});
   assert.deepEqual(remarksOfKind(LINES, 'total'), [{...none, kind: 'total', games: 7, studies: 2}]);
-  assert.deepEqual(ownRemark(LINES[16]), {word: 'note', rest: 'Kg3: good'});
+  assert.deepEqual(ownRemark(LINES[18]), {word: 'note', rest: 'Kg3: good'});
   assert.deepEqual(ownRemark(LINES[0]), {word: '', rest: ''});
-  assert.deepEqual([0, 15, 16, 17].map(at => isOfImport(LINES[at])), [true, false, false, false]);
+  assert.deepEqual([0, 11, 15, 18, 19].map(at => isOfImport(LINES[at])), [true, true, false, false, false]);
 });
 test('the words of the program', () => {
   assert.equal(refusalReason('BadByte'), 'a letter outside plain ASCII');

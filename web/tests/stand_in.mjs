@@ -39,14 +39,16 @@ const FORMS = [
   [/^not taken over: (.*)$/, found => ['not-taken-over', ...found]],
   [/^behind the result: line (\d+), column (\d+)$/, found => ['behind-result', ...found]],
   [/^(Event|Site|Date|Round|White|Black) was: (.*)$/, found => ['original', ...found]],
+  [/^read as Latin 1: (Event|Site|Date|Round|White|Black)$/, found => ['latin-1', ...found]],
+  [/^letters: (.*)$/, found => ['letters', ...found]],
   [/^a tail: moves before (\d+); its position is another program's word$/, found => ['tail', ...found]],
   [/^games (\d+), studies (\d+)$/, found => ['total', ...found]]
 ];
 /** The row of a line without its number, or nothing. */
 export function rowOf(line) {
-  const [, words] = /^#!? (.*)$/.exec(line) || [];
+  const [, mark, words] = /^#(!?) (.*)$/.exec(line) || [];
   if (words === undefined) return null;
-  for (const [form, row] of FORMS) {
+  for (const [form, row] of mark ? FORMS : []) {
     const found = form.exec(words), fields = found && row(found.slice(1));
     if (fields) return fields.join('\t');
   }

@@ -50,6 +50,19 @@ def opened(user, name, text, waited="document.getElementById('stamp')"):
     user.settle()
 
 
+def test_letters_of_another_language_and_words(user):
+    """A game in German letters, with words among its moves: read, said, and saved with its comment at its move."""
+    user.open_tables(TABLES, SMALL)
+    text = game("Deutsch", "Autor", "1... Kg8 2.Dg2+ {gut} Kf8 3.Th8 matt", fen="7k/8/5K2/8/8/8/8/5Q1R b - - 0 1")
+    opened(user, "deutsch.pgn", text, "document.getElementById('letters')")
+    assert user.text("letters") == "The file has its moves in German letters.", user.text("letters")
+    lines = script(user).split("\n")
+    for line in ("#! letters: German", "#! not taken over: comments 1, words 1, tags 1", "insert 0.0.0 Rh8#"):
+        assert line in lines, lines
+    saved = user.download("savePgn")[1]
+    assert re.search(r"Qg2\+[^{]*\{gut", saved), saved
+
+
 def test_ten_entries_are_ten_rows(user):
     user.open_tables(TABLES, SMALL)
     pgn = "% made by hand\n" + "".join(
