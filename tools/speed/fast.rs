@@ -1,4 +1,5 @@
 //! The fastest builder of tables that we know of one byte a cell, in plain Rust without crates: how far the proved builder is from the limit.
+//! Classes of four men are built by whole rows of squares (`sets.rs`), the smaller ones number by number (`builder.rs`).
 //!
 //!     fast all | CLASS..    builds the classes and what they need: a line each with the class, processor seconds, and the sum of its cells
 //!     fast DIR all          the same, and writes the cells of each class to DIR/CLASS.cells
@@ -8,14 +9,35 @@ mod builder;
 mod classes;
 #[path = "fast/geometry.rs"]
 mod geometry;
+#[path = "fast/images.rs"]
+mod images;
+#[path = "fast/leaving.rs"]
+mod leaving;
+#[path = "fast/lines.rs"]
+mod lines;
+#[path = "fast/sets.rs"]
+mod sets;
+#[path = "fast/small.rs"]
+mod small;
+#[path = "fast/sweeps.rs"]
+mod sweeps;
 
 use builder::Builder;
 use classes::{Conversions, NAMES};
 use geometry::*;
+use lines::Lines;
+use sets::Sets;
+use small::Small;
 use std::time::Instant;
 
 /// The cells of a class, with each image of a position and as a table has them.
-fn build(class: usize, geometry: &Geometry, tables: &[Vec<u8>]) -> (f64, Vec<u8>, Vec<u8>) {
+fn build(
+    class: usize,
+    geometry: &Geometry,
+    lines: &Lines,
+    small: &mut Option<Small>,
+    tables: &[Vec<u8>],
+) -> (f64, Vec<u8>, Vec<u8>) {
     macro_rules! classes {
         ($($name:literal $men:literal $third:ident $fourth:ident $white:literal),*) => {
             match NAMES[class] {
@@ -23,7 +45,13 @@ fn build(class: usize, geometry: &Geometry, tables: &[Vec<u8>]) -> (f64, Vec<u8>
                     let begun = Instant::now();
                     let conversions = Conversions::new(class, tables);
                     let builder = Builder::<$men, $third, $fourth, $white> { geometry, conversions };
-                    let cells = builder.build();
+                    let cells = if $men == 4 {
+                        let small = small.get_or_insert_with(|| Small::new(geometry, tables));
+                        let conversions = Conversions::new(class, tables);
+                        Sets::<$third, $fourth, $white> { geometry, lines, small, conversions }.build()
+                    } else {
+                        builder.build()
+                    };
                     let seconds = begun.elapsed().as_secs_f64();
                     let cleared = builder.cleared(&cells);
                     (seconds, cells, cleared)
@@ -52,7 +80,8 @@ fn main() -> std::io::Result<()> {
         .first()
         .is_some_and(is_folder)
         .then(|| words.remove(0));
-    let mut list: Vec<usize> = vec![];
+    // the classes of two and three men come first, since each class of four is built over all of them
+    let mut list: Vec<usize> = (0..6).collect();
     for word in &words {
         let wanted = NAMES
             .iter()
@@ -66,10 +95,12 @@ fn main() -> std::io::Result<()> {
         );
     }
     let geometry = Geometry::new();
+    let lines = Lines::new(&geometry);
+    let mut small = None;
     let mut tables = vec![vec![]; 36];
     let mut all = 0.0;
     for class in list {
-        let (seconds, cells, table) = build(class, &geometry, &tables);
+        let (seconds, cells, table) = build(class, &geometry, &lines, &mut small, &tables);
         all += seconds;
         println!(
             "{} {seconds:.2} {}",

@@ -9,8 +9,8 @@
 #   tools/speed/speed.sh views DIR       what a board shows of them, views and surveys, likewise
 #   tools/speed/speed.sh all [CLASS]     builds all 36 tables (or one, and what it needs) and prints for each: seconds, numbers
 #                                        examined, deepest win and loss in plies, SHA-256 of the cells; then the sum of seconds
-#   tools/speed/speed.sh fast [CLASS]    the same beside the fastest plain Rust that we know (tools/speed/fast.rs: the same algorithm with men by
-#                                        slots, sets of squares and numbers to which moves are added); a line is marked where the cells differ
+#   tools/speed/speed.sh fast [CLASS]    the same beside the fastest plain Rust that we know (tools/speed/fast.rs: whole rows of numbers as sets of
+#                                        squares, each cell written once); a line is marked where the cells differ
 #
 # Both programs print 'NAME LABEL PICOSECONDS SUM' for the same positions and numbers; a line is marked where the sums
 # differ. Each takes the fastest of five goes, and is run three times, in turns with the other; tables are built once in

@@ -143,11 +143,17 @@ impl<'t> Conversion<'t> {
         }
     }
 
-    /// The cell of the position after it, 0 for a draw. Each image of a position has its cell in `cells`.
-    pub fn cell(&self, geometry: &Geometry, squares: &[usize; 4], white_to_move: bool) -> u8 {
+    /// The symmetry that brings the first king where the table has it, and the number of his place and of the side to move.
+    #[inline(always)]
+    fn head(
+        &self,
+        geometry: &Geometry,
+        squares: &[usize; 4],
+        white_to_move: bool,
+    ) -> (usize, usize) {
         let king = squares[self.from[0]] ^ self.turned;
         let is_black = (white_to_move == (self.turned != 0)) as usize;
-        let (symmetry, head) = if self.pawns {
+        if self.pawns {
             let symmetry = (king & 7) >> 2;
             let square = geometry.images[symmetry][king] as usize;
             (symmetry, square / 8 * 4 + square % 8 + 32 * is_black)
@@ -157,11 +163,64 @@ impl<'t> Conversion<'t> {
                 symmetry,
                 geometry.place[geometry.images[symmetry][king] as usize] as usize + 10 * is_black,
             )
-        };
+        }
+    }
+
+    /// The cell of the position after it, 0 for a draw. Each image of a position has its cell in `cells`.
+    pub fn cell(&self, geometry: &Geometry, squares: &[usize; 4], white_to_move: bool) -> u8 {
+        let (symmetry, head) = self.head(geometry, squares, white_to_move);
         let images = &geometry.images[symmetry];
         self.cells[(1..self.men).fold(head, |n, slot| {
             n * 64 + images[squares[self.from[slot]] ^ self.turned] as usize
         })]
+    }
+}
+
+/// The cells of the positions after a conversion where one man's square varies.
+pub struct Line<'c> {
+    cells: &'c [u8],
+    base: usize,
+    shift: usize,
+    turned: usize,
+    images: &'c [u8; 64],
+}
+
+impl Line<'_> {
+    #[inline(always)]
+    pub fn cell(&self, square: usize) -> u8 {
+        self.cells[self.base + ((self.images[square ^ self.turned] as usize) << self.shift)]
+    }
+}
+
+impl<'t> Conversion<'t> {
+    /// The cells where the man of a slot, which is no king, stands on any square.
+    #[inline(always)]
+    pub fn line<'c>(
+        &'c self,
+        geometry: &'c Geometry,
+        squares: &[usize; 4],
+        white_to_move: bool,
+        slot: usize,
+    ) -> Line<'c> {
+        let (symmetry, head) = self.head(geometry, squares, white_to_move);
+        let images = &geometry.images[symmetry];
+        let (mut base, mut shift) = (head, 0);
+        for place in 1..self.men {
+            shift += 6;
+            base <<= 6;
+            if self.from[place] == slot {
+                shift = 0;
+            } else {
+                base += images[squares[self.from[place]] ^ self.turned] as usize;
+            }
+        }
+        Line {
+            cells: self.cells,
+            base,
+            shift,
+            turned: self.turned,
+            images,
+        }
     }
 }
 
