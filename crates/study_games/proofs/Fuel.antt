@@ -7,6 +7,7 @@ use Rattle.study_games.specs.Header.{step_at, with_tags, tags_in, with_fault, fa
 use Rattle.study_games.specs.Characters.{character_at, is_utf8_behind, begins_utf8, read_at}
 use Rattle.study_games.specs.declared.language.Language.{Language}
 use Rattle.study_games.specs.Languages.{token_in_english, english_then, english_from}
+use Rattle.study_games.specs.Closed.{depth_after, depth_then, depth_from}
 use Rattle.study_games.specs.Ascii.{behind_or, word_at, ascii_of, spelled_behind, spelled_in}
 
 pub tags_more : (n : ℕ) (fresh : Bool) (text : List ℕ) → 0 < n → tags_in n fresh text ≡ with_tags (tags_in (n - 1) (begins_feed text)) (step_at fresh text)
@@ -55,3 +56,16 @@ english_on n language fresh feed text behind bytes t out new some read cut added
     ∙ ap (λ (x : List ℕ). x ++ on behind) (added ∙ ap (λ (x : List ℕ). out ++ token_in_english language t x) cut)
     ∙ append_assoc out (token_in_english language t (take (length text - length behind) text)) (on behind)
     ∙ ap (λ (x : List ℕ). out ++ x) (ap (english_then on language text) read ∙ sym (english_more n language fresh text some))
+
+pub depth_more : (n depth : ℕ) (fresh : Bool) (text : List ℕ) → 0 < n
+    → depth_from n depth fresh text ≡ depth_then (λ more behind. depth_from (n - 1) more (begins_feed text) behind) depth (token_at fresh text)
+depth_more zero depth fresh text h = absurd (omega (arith, h))
+depth_more (suc m) depth fresh text h = let e : suc m - 1 ≡ m = omega arith in rw e refl
+
+-- a token is counted, and the rest is read
+pub depth_on : (n depth new : ℕ) (fresh feed : Bool) (text behind : List ℕ) (t : Token) → 0 < n → Some (Ok (t, behind)) ≡ token_at fresh text
+    → new ≡ depth_after depth t → feed ≡ begins_feed text → depth_from (n - 1) new feed behind ≡ depth_from n depth fresh text
+depth_on n depth new fresh feed text behind t some read counted next =
+    ap (λ (b : Bool). depth_from (n - 1) new b behind) next
+    ∙ ap (λ (k : ℕ). depth_from (n - 1) k (begins_feed text) behind) counted
+    ∙ ap (depth_then (λ more rest. depth_from (n - 1) more (begins_feed text) rest) depth) read ∙ sym (depth_more n depth fresh text some)

@@ -9,4 +9,5 @@ pub mod Header
 pub mod Characters
 pub mod Ascii
 pub mod Languages
+pub mod Closed
 pub mod Laws

@@ -3,12 +3,13 @@
 //! `Gathering` cuts a text into games, line by line; `count_tags`, `header_fault` and `tag_value` read the header of a game; `read_token` reads the
 //! tokens of its moves one by one, `say` reads a symbol, `san_in` the SAN of a symbol for a move, and `claim_in` its signs of check and mate. `cut_run`
 //! cuts a text after its first bytes of one kind. `unescape`, `spell_out` and `short_text` turn the value of a tag into text that a script can hold.
-//! `in_english` writes the moves of a game with English letters.
+//! `in_english` writes the moves of a game with English letters; `closed_text` closes the variations of a game that breaks off.
 #![tactic(auto)]
 
 mod ascii;
 pub mod bytes;
 mod characters;
+mod closing;
 mod games;
 mod gathering;
 mod header;
@@ -24,6 +25,7 @@ mod words;
 
 pub use ascii::{LONGEST_TAG, short_text, spell_out};
 pub use characters::is_utf8;
+pub use closing::closed_text;
 pub use games::{LineKind, Seen, begins_game, kind_of, seen_then, without_mark};
 pub use gathering::{Game, Gathering, LARGEST_GAME, LONGEST_LINE};
 pub use header::{HeaderFault, count_named, count_tags, header_fault, tag_value, unescape};
