@@ -43,12 +43,14 @@ use Rattle.study_import.specs.Reading.{insert_line}
 use Rattle.study_import.specs.Insertions.{Insertion, made_by, AllAccepted, AllReadAgain, lines_for}
 use Rattle.study_import.specs.Blocks.{Entry, Block, no_study, left_out, token_name, Reported, reported_of, head_line, remark_lines, position_line}
 use Rattle.study_import.specs.Blocks.{stipulation_line, tag_line, tag_value_text, six_names, study_lines, block_lines, sources_of, aim_of_game, aimed_block}
+use Rattle.study_import.specs.Blocks.{reported_up_to, text_up_to, not_read_line, aimed_up_to, block_up_to, faulty_block}
 use Rattle.study_import.specs.Blocks.{stopped_block, read_block, no_moves, game_read, language_of, text_in, fen_in, start_block, fen_block, repeated_name, single_block, header_block, sized_block}
 use Rattle.study_import.specs.Blocks.{block_of, tail_of, tail_line, under_remark, block_or_tail, block_by, place_in, last_line, is_chosen, Tally}
 use Rattle.study_import.specs.Blocks.{tally_with_game, reported_text, blocks}
 use Rattle.study_import.specs.Tails.{Tail, position_text}
 use Rattle.study_command.specs.Documents.{Document, empty, start as placed, study as composed, with_start_of as with_start, after_position, new_study}
 use Rattle.study_command.specs.Documents.{after_stipulate, unless_refused, after_move, after_line, after_lines}
+use Rattle.study_import.specs.Meant.{study_of_moves, study_up_to}
 use Rattle.study_import.specs.Meant.{tag_texts, study_aimed, study_read, study_begun, study_with_fen, study_unless_repeated, study_behind_header, study_in, study_of_game}
 use Rattle.study_import.specs.Meant.{study_of_tail, study_by}
 use Rattle.study_import.specs.Laws.{IsCounted, IsGiven, asks_pgn, IsNoPgn, IsWritten, HasSixTags, document_then, document_behind}
@@ -68,7 +70,7 @@ use Rattle.study_import.proofs.CommandLines.{side_words, goal_words, stipulate_w
 use Rattle.study_import.proofs.CommandLines.{stipulate_prints, insert_asked, insert_prints, tag_asked, tag_prints, pgn_asked, empty_asked}
 use Rattle.study_import.proofs.CommandLines.{position_prints}
 use Rattle.study_import.proofs.Remarks.{shows, IsLine, IsRemark, fed, AreLines, each_append, IsPart, number_part, joined, wider, tag_part, head_remark}
-use Rattle.study_import.proofs.Remarks.{remarks_are, left_out_is, unaimed_is, repeated_is, fault_words_are, token_part, stopped_lines, fen_words_part, last_is, tail_is}
+use Rattle.study_import.proofs.Remarks.{remarks_are, left_out_is, unaimed_is, repeated_is, fault_words_are, token_part, stopped_lines, not_read_is, fen_words_part, last_is, tail_is}
 
 -- ---- lines are found as they were written
 
@@ -491,71 +493,7 @@ block_reads e start aim t is tree r counted h k made inserts =
 
 -- ---- a game
 
-module _ (given : Option Stipulation) (g : IsGiven given) (e : Entry) where
-  aimed_reads : (text : List ℕ) (start : Start) (l : Option Language) (x : Ended) (aim : Option Aim) → IsStart start → game_read text start ≡ Ok x
-      → aim_of_game given (tags_of e.text) start.position.to_move x.game.notes ≡ aim
-      → Reads (aimed_block e start (reported_of l x) (sources_of given (tags_of e.text) start.position.to_move x.game.notes) aim)
-      (study_aimed start (tags_of e.text) x aim)
-  unfolding game_read
-  aimed_reads text start l x None r is a = remarks_read _ (unaimed_is e (sources_of given (tags_of e.text) start.position.to_move x.game.notes))
-  aimed_reads text start l x (Some aim) r is a =
-      let read = end_is (read_moves (length text) true text (no_moves start)) x is in
-      let made = moves_lead (Unit {0}) (length text) true text (no_moves start) x read in
-      let counted = aim_counted given (tags_of e.text) start.position.to_move x.game.notes aim g
-      (opening_given (length text) true text (no_moves start) x (tt, tt) read) a in
-      block_reads e start aim (reported_of l x) made.insertions x.game.reading.study r counted made.accepted
-      (read_again (Unit {0}) (no_moves start).reading.study made.insertions r.valid tt made.accepted) made.study made.lines
-
-  read_reads : (text : List ℕ) (start : Start) (l : Option Language) (x : Result Ended MovesFault) → IsStart start → game_read text start ≡ x
-      → Reads (read_block given e start l x) (study_read given (tags_of e.text) start x)
-  read_reads text start l (Err fault) r is = remarks_read (stopped_block e fault).text (stopped_lines e fault)
-  read_reads text start l (Ok x) r is = aimed_reads text start l x (aim_of_game given (tags_of e.text) start.position.to_move x.game.notes) r is refl
-
-  start_reads : (fen : List ℕ) (x : Result Start FenFault) → start_of fen ≡ x → Reads (start_block given e fen x) (study_begun given e.text x)
-  start_reads fen (Err fault) is = remarks_read _ (left_out_is e _ (fen_words_part fen fault))
-  start_reads fen (Ok start) is =
-      let l = language_of e.text start in let text = text_in l e.text in read_reads text start l (game_read text start) (read_is fen start is) refl
-
-  fen_reads : (value : Option (List ℕ)) → Reads (fen_block given e value) (study_with_fen given e.text value)
-  fen_reads None = remarks_read _ (left_out_is e (codes "left out: no FEN, so 32 men") (record { shown = refl; few = omega arith }))
-  fen_reads (Some value) = start_reads (fen_in value) (start_of (fen_in value)) refl
-
-  single_reads : (tags : List Pair) (name : Option (List ℕ)) → repeated_name tags ≡ name
-      → Reads (single_block given e tags name) (study_unless_repeated given e.text tags name)
-  single_reads tags (Some name) is = remarks_read _ (repeated_is e tags name is)
-  single_reads tags None is = fen_reads (value_of (codes "FEN") tags)
-
-  no_tag : (tags : List Pair) (none : Bool) → (length tags == 0) ≡ none
-      → Reads (if none then no_study (left_out e (codes "left out: no tags")) else single_block given e tags (repeated_name tags))
-      (study_unless_repeated given e.text tags (repeated_name tags))
-  unfolding repeated_name
-  no_tag [] true is = remarks_read _ (left_out_is e (codes "left out: no tags") (record { shown = refl; few = omega arith }))
-  no_tag [] false is = single_reads [] (repeated_name []) refl
-  no_tag (t ∷ ts) true is = absurd (ne_length t ts is)
-    where
-      ne_length : (t : Pair) (ts : List Pair) → (length (t ∷ ts) == 0) ≡ true → ⊥
-      ne_length t ts h = absurd (let zero_is = eqb-true (length (t ∷ ts)) 0 h in omega arith)
-  no_tag (t ∷ ts) false is = single_reads (t ∷ ts) (repeated_name (t ∷ ts)) refl
-
-  header_reads : (fault : Option HeaderFault) → Reads (header_block given e fault) (study_behind_header given e.text fault)
-  header_reads (Some fault) =
-      remarks_read _ (fault_words_are e (place_in e fault.left) (token_name fault.why) (wider 20 100 _ (omega arith) (token_part fault.why)))
-  header_reads None = no_tag (tags_of e.text) (length (tags_of e.text) == 0) refl
-
-sized_reads : (given : Option Stipulation) (number line : ℕ) (text : Option (List ℕ)) → IsGiven given
-    → Reads (sized_block given number line text) (study_of_game given text)
-unfolding study_in
-sized_reads given number line None g =
-    remarks_read _ (fault_words_are (record { number = number; line = line; text = [] }) (record { line = line; column = 1 }) (codes "GameTooLarge")
-    (record { shown = refl; few = omega arith }))
-sized_reads given number line (Some text) g = header_reads given g (record { number = number; line = line; text = text }) (header_fault text)
-
-game_reads : (given : Option Stipulation) (number : ℕ) (game : Game) → IsGiven given → Reads (block_of given number game) (study_of_game given game.text)
-unfolding block_of
-game_reads given number game g = sized_reads given number game.line game.text g
-
--- ---- a tail
-
+-- a block below a remark
 under_reads : (remark : List ℕ) (block : Block) (o : Option PlainStudy) → AreLines IsRemark remark → Reads block o → Reads (under_remark remark block) o
 under_reads remark block o h r = record {
   is_study = r.is_study;
@@ -567,16 +505,111 @@ under_reads remark block o h r = record {
       after_append (Some d) h.lines r.lines ∙ ap (λ (x : Option Document). after_lines x r.lines) (after_remarks h.lines h.each d) ∙ r.study d six;
 }
 
-tail_reads : (given : Option Stipulation) (number : ℕ) (game : Game) (tail : Option Tail) → IsGiven given
-    → Reads (block_or_tail given number game tail) (study_of_tail given game.text tail)
-tail_reads given number game None g = game_reads given number game g
-tail_reads given number game (Some t) g =
+module _ (c : Choice) (g : IsGiven c.given) (e : Entry) where
+  study_reads : (text : List ℕ) (start : Start) (x : Ended) (aim : Aim) (t : Reported) → IsStart start → game_read text start ≡ Ok x
+      → aim_of_game c.given (tags_of e.text) start.position.to_move x.game.notes ≡ Some aim → t.inserts ≡ x.game.reading.inserts
+      → Reads (record { text = block_lines e start aim t; is_study = true }) (study_aimed start (tags_of e.text) x (Some aim))
+  unfolding game_read
+  study_reads text start x aim t r is a same =
+      let read = end_is (read_moves (length text) true text (no_moves start)) x is in
+      let made = moves_lead (Unit {0}) (length text) true text (no_moves start) x read in
+      let counted = aim_counted c.given (tags_of e.text) start.position.to_move x.game.notes aim g
+      (opening_given (length text) true text (no_moves start) x (tt, tt) read) a in
+      block_reads e start aim t made.insertions x.game.reading.study r counted made.accepted
+      (read_again (Unit {0}) (no_moves start).reading.study made.insertions r.valid tt made.accepted) made.study (same ∙ made.lines)
+
+  aimed_reads : (text : List ℕ) (start : Start) (l : Option Language) (x : Ended) (aim : Option Aim) → IsStart start → game_read text start ≡ Ok x
+      → aim_of_game c.given (tags_of e.text) start.position.to_move x.game.notes ≡ aim
+      → Reads (aimed_block e start (reported_of l x) (sources_of c.given (tags_of e.text) start.position.to_move x.game.notes) aim)
+      (study_aimed start (tags_of e.text) x aim)
+  aimed_reads text start l x None r is a = remarks_read _ (unaimed_is e (sources_of c.given (tags_of e.text) start.position.to_move x.game.notes))
+  aimed_reads text start l x (Some aim) r is a = study_reads text start x aim (reported_of l x) r is a refl
+
+  -- up to a fault
+  aimed_up_to_reads : (text : List ℕ) (start : Start) (fault : MovesFault) (x : Ended) (aim : Option Aim) → IsStart start → game_read text start ≡ Ok x
+      → aim_of_game c.given (tags_of e.text) start.position.to_move x.game.notes ≡ aim
+      → Reads (aimed_up_to e start fault (reported_up_to x) aim) (study_aimed start (tags_of e.text) x aim)
+  aimed_up_to_reads text start fault x None r is a = remarks_read (stopped_block e fault).text (stopped_lines e fault)
+  aimed_up_to_reads text start fault x (Some aim) r is a =
+      under_reads (not_read_line e fault) _ _ (not_read_is e fault) (study_reads text start x aim (reported_up_to x) r is a refl)
+
+  up_to_reads : (text : List ℕ) (start : Start) (fault : MovesFault) (x : Result Ended MovesFault) → IsStart start → game_read text start ≡ x
+      → Reads (block_up_to c.given e start fault x) (study_of_moves c.given (tags_of e.text) start x)
+  up_to_reads text start fault (Err other) r is = remarks_read (stopped_block e fault).text (stopped_lines e fault)
+  up_to_reads text start fault (Ok x) r is =
+      aimed_up_to_reads text start fault x (aim_of_game c.given (tags_of e.text) start.position.to_move x.game.notes) r is refl
+
+  if_up_to_reads : (start : Start) (fault : MovesFault) (wanted : Bool) → IsStart start
+      → (let x = game_read (text_up_to e.text fault.left) start in
+      Reads (if wanted then block_up_to c.given e start fault x else stopped_block e fault)
+      (if wanted then study_of_moves c.given (tags_of e.text) start x else None))
+  if_up_to_reads start fault true r = up_to_reads (text_up_to e.text fault.left) start fault (game_read (text_up_to e.text fault.left) start) r refl
+  if_up_to_reads start fault false r = remarks_read (stopped_block e fault).text (stopped_lines e fault)
+
+  faulty_reads : (start : Start) (fault : MovesFault) → IsStart start → Reads (faulty_block c e start fault) (study_up_to c e.text start fault)
+  unfolding faulty_block study_up_to
+  faulty_reads start fault r = if_up_to_reads start fault c.up_to_faults r
+
+  read_reads : (text : List ℕ) (start : Start) (l : Option Language) (x : Result Ended MovesFault) → IsStart start → game_read text start ≡ x
+      → Reads (read_block c e start l x) (study_read c e.text start x)
+  read_reads text start l (Err fault) r is = faulty_reads start fault r
+  read_reads text start l (Ok x) r is = aimed_reads text start l x (aim_of_game c.given (tags_of e.text) start.position.to_move x.game.notes) r is refl
+
+  start_reads : (fen : List ℕ) (x : Result Start FenFault) → start_of fen ≡ x → Reads (start_block c e fen x) (study_begun c e.text x)
+  start_reads fen (Err fault) is = remarks_read _ (left_out_is e _ (fen_words_part fen fault))
+  start_reads fen (Ok start) is =
+      let l = language_of e.text start in let text = text_in l e.text in read_reads text start l (game_read text start) (read_is fen start is) refl
+
+  fen_reads : (value : Option (List ℕ)) → Reads (fen_block c e value) (study_with_fen c e.text value)
+  fen_reads None = remarks_read _ (left_out_is e (codes "left out: no FEN, so 32 men") (record { shown = refl; few = omega arith }))
+  fen_reads (Some value) = start_reads (fen_in value) (start_of (fen_in value)) refl
+
+  single_reads : (tags : List Pair) (name : Option (List ℕ)) → repeated_name tags ≡ name
+      → Reads (single_block c e tags name) (study_unless_repeated c e.text tags name)
+  single_reads tags (Some name) is = remarks_read _ (repeated_is e tags name is)
+  single_reads tags None is = fen_reads (value_of (codes "FEN") tags)
+
+  no_tag : (tags : List Pair) (none : Bool) → (length tags == 0) ≡ none
+      → Reads (if none then no_study (left_out e (codes "left out: no tags")) else single_block c e tags (repeated_name tags))
+      (study_unless_repeated c e.text tags (repeated_name tags))
+  unfolding repeated_name
+  no_tag [] true is = remarks_read _ (left_out_is e (codes "left out: no tags") (record { shown = refl; few = omega arith }))
+  no_tag [] false is = single_reads [] (repeated_name []) refl
+  no_tag (t ∷ ts) true is = absurd (ne_length t ts is)
+    where
+      ne_length : (t : Pair) (ts : List Pair) → (length (t ∷ ts) == 0) ≡ true → ⊥
+      ne_length t ts h = absurd (let zero_is = eqb-true (length (t ∷ ts)) 0 h in omega arith)
+  no_tag (t ∷ ts) false is = single_reads (t ∷ ts) (repeated_name (t ∷ ts)) refl
+
+  header_reads : (fault : Option HeaderFault) → Reads (header_block c e fault) (study_behind_header c e.text fault)
+  header_reads (Some fault) =
+      remarks_read _ (fault_words_are e (place_in e fault.left) (token_name fault.why) (wider 20 100 _ (omega arith) (token_part fault.why)))
+  header_reads None = no_tag (tags_of e.text) (length (tags_of e.text) == 0) refl
+
+sized_reads : (c : Choice) (number line : ℕ) (text : Option (List ℕ)) → IsGiven c.given
+    → Reads (sized_block c number line text) (study_of_game c text)
+unfolding study_in
+sized_reads c number line None g =
+    remarks_read _ (fault_words_are (record { number = number; line = line; text = [] }) (record { line = line; column = 1 }) (codes "GameTooLarge")
+    (record { shown = refl; few = omega arith }))
+sized_reads c number line (Some text) g = header_reads c g (record { number = number; line = line; text = text }) (header_fault text)
+
+game_reads : (c : Choice) (number : ℕ) (game : Game) → IsGiven c.given → Reads (block_of c number game) (study_of_game c game.text)
+unfolding block_of
+game_reads c number game g = sized_reads c number game.line game.text g
+
+-- ---- a tail
+
+tail_reads : (c : Choice) (number : ℕ) (game : Game) (tail : Option Tail) → IsGiven c.given
+    → Reads (block_or_tail c number game tail) (study_of_tail c game.text tail)
+tail_reads c number game None g = game_reads c number game g
+tail_reads c number game (Some t) g =
     let fen = position_text t.position in
     under_reads (tail_line t.skipped) _ _ (tail_is t.skipped)
-    (start_reads given g (record { number = number; line = game.line; text = t.text }) fen (start_of fen) refl)
+    (start_reads c g (record { number = number; line = game.line; text = t.text }) fen (start_of fen) refl)
 
 by_reads : (c : Choice) (number : ℕ) (game : Game) → IsGiven c.given → Reads (block_by c number game) (study_by c game.text)
-by_reads c number game g = tail_reads c.given number game (tail_of c.tails game.text) g
+by_reads c number game g = tail_reads c number game (tail_of c.tails game.text) g
 
 pub are_read : AreRead
 are_read c g number game =

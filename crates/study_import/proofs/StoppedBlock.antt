@@ -1,10 +1,10 @@
--- A game whose moves stop at a fault has the block of this fault.
+-- A game whose moves have a fault has the block of this fault.
 use Rattle.std.proofs.Common.{◌≡◌, ℕ, Bool, true, false, List, Result, Ok, Err, IsErr, sym, subst, inl, inr}
 use Rattle.std.specs.Prelude.{Option}
 use Rattle.std.proofs.lemmas.Bool.{cases_Bool, false≢true}
 use Rattle.std.proofs.lemmas.Result.{IfOk-from_err}
 use Rattle.study_notation.specs.declared.start.Start.{Start}
-use Rattle.study_marks.specs.declared.stipulation.Stipulation.{Stipulation}
+use Rattle.study_import.specs.declared.importer.Choice.{Choice}
 use Rattle.study_games.specs.declared.language.Language.{Language}
 use Rattle.study_import.specs.declared.game.lines.LineFault.TheVariants as line_fault
 use Rattle.study_import.specs.declared.game.moves.MoveFault.TheVariants as move_fault
@@ -14,7 +14,7 @@ use Rattle.study_import.specs.declared.game.movetext.Stop.{Stop}
 use Rattle.study_import.specs.declared.game.movetext.Stop.TheVariants as stop
 use Rattle.study_import.specs.Movetext.{Ended}
 use Rattle.study_import.specs.MovesRead.{IsReported}
-use Rattle.study_import.specs.Blocks.{Entry, stopped_block, read_block}
+use Rattle.study_import.specs.Blocks.{Entry, faulty_block, read_block}
 use Rattle.study_import.specs.BlocksRead.{is_of_memory, Adds}
 
 pub reported_is : (why : Stop) (expected : Result Ended MovesFault) (left : ℕ) → is_of_memory why ≡ false → IsReported why expected left
@@ -23,12 +23,12 @@ reported_is (stop.Taking (reason.Move move_fault.OutOfMemory)) expected left non
 reported_is (stop.Taking (reason.Line line_fault.OutOfMemory)) expected left none h = absurd (false≢true (sym none))
 reported_is why expected left none h = h
 
-pub stopped_again : {E : Type 0} (r : Result Bool E) (old new : List ℕ) (given : Option Stipulation) (e : Entry) (start : Start) (l : Option Language) (fault : MovesFault)
+pub stopped_again : {E : Type 0} (r : Result Bool E) (old new : List ℕ) (c : Choice) (e : Entry) (start : Start) (l : Option Language) (fault : MovesFault)
     (expected : Result Ended MovesFault) → IsReported fault.why expected fault.left → (is_of_memory fault.why ≡ true → IsErr r)
-    → Adds r old new (stopped_block e fault) → Adds r old new (read_block given e start l expected)
-stopped_again (Err error) old new given e start l fault expected h memory adds = tt
-stopped_again {E = E} (Ok is_study) old new given e start l fault expected h memory adds = elim (cases_Bool (is_of_memory fault.why)) [
+    → Adds r old new (faulty_block c e start fault) → Adds r old new (read_block c e start l expected)
+stopped_again (Err error) old new c e start l fault expected h memory adds = tt
+stopped_again {E = E} (Ok is_study) old new c e start l fault expected h memory adds = elim (cases_Bool (is_of_memory fault.why)) [
   | inl is ↦ absurd (IfOk-from_err {E = E} (Ok is_study) (λ x. ⊥) (memory is))
-  | inr other ↦ subst (λ (x : Result Ended MovesFault). Adds {E = E} (Ok is_study) old new (read_block given e start l x))
+  | inr other ↦ subst (λ (x : Result Ended MovesFault). Adds {E = E} (Ok is_study) old new (read_block c e start l x))
       (sym (reported_is fault.why expected fault.left other h)) adds
 ]

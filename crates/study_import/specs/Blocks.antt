@@ -31,6 +31,7 @@ use Rattle.study_games.specs.Characters.{is_utf8}
 use Rattle.study_games.specs.declared.language.Language.{Language}
 use Rattle.study_games.specs.declared.language.Language.TheVariants.{German, French, Spanish, Dutch}
 use Rattle.study_games.specs.Languages.{language_name, in_english}
+use Rattle.study_games.specs.Closed.{closed_text}
 use Rattle.study_games.specs.declared.header.HeaderFault.{HeaderFault}
 use Rattle.study_games.specs.declared.symbols.Outcome.{Outcome}
 use Rattle.study_games.specs.declared.token.TokenFault.{TokenFault}
@@ -147,30 +148,39 @@ tag_text value = short_text (spelled_out value)
 abbrev pub no_colon : ℕ → ℕ
 no_colon b = if b == 58 then 44 else b
 
--- the author, if the name is known
+-- a name, if it is known
 abbrev pub name_words : List ℕ → List ℕ
 name_words text = if bytes_eq text (codes "?") then [] else map no_colon text
 
-abbrev pub author_of : Option (List ℕ) → List ℕ
-author_of None = []
-author_of (Some value) = name_words (tag_text (unescape value))
+abbrev pub name_of : Option (List ℕ) → List ℕ
+name_of None = []
+name_of (Some value) = name_words (tag_text (unescape value))
 
--- the author of a study is its tag White
-unfoldable pub author_words : List Pair → List ℕ
-author_words tags = author_of (value_of (tag_name tag_named.White) tags)
+-- `Author; Title`, as far as they are known
+abbrev pub both_names : List ℕ → List ℕ → List ℕ
+both_names author title =
+    if length author == 0 then title else (if length title == 0 then author else author ++ (codes "; " ++ title))
+
+-- the author of a study is its tag White, and its title its tag Event
+unfoldable pub entry_names : List Pair → List ℕ
+entry_names tags = both_names (name_of (value_of (tag_name tag_named.White) tags)) (name_of (value_of (tag_name tag_named.Event) tags))
 
 -- the remark on a game without a block, and an empty line
 unfoldable pub told_words : ℕ → ℕ → Option ℕ → List ℕ → List ℕ → List ℕ
 told_words number line column author words =
     told.remark_text (told.left_out (record { game = number; line = line; column = column; author = author }) words) ++ codes "\n"
 
+-- a place in a game, with author and title
+abbrev pub subject_at : Entry → Place → told.Game
+subject_at e p = record { game = e.number; line = p.line; column = Some p.column; author = entry_names (tags_of e.text) }
+
 -- a game without a block, and why
 abbrev pub left_out : Entry → List ℕ → List ℕ
-left_out e words = told_words e.number e.line None (author_words (tags_of e.text)) words
+left_out e words = told_words e.number e.line None (entry_names (tags_of e.text)) words
 
 -- the same at the place of a fault
 abbrev pub fault_words : Entry → Place → List ℕ → List ℕ
-fault_words e p words = told_words e.number p.line (Some p.column) (author_words (tags_of e.text)) words
+fault_words e p words = told_words e.number p.line (Some p.column) (entry_names (tags_of e.text)) words
 
 -- the text written for a game, and whether it is a study
 pub record Block : Type 0 where
@@ -402,13 +412,12 @@ aimed_block e start t s (Some aim) = record { text = block_lines e start aim t; 
 abbrev pub sourced_block : Entry → Start → Reported → Sources → Block
 sourced_block e start t s = aimed_block e start t s (aim_by_sources s)
 
-abbrev pub stopped_block : Entry → MovesFault → Block
-stopped_block e fault = no_study (fault_words e (place_in e fault.left) (stop_name fault.why ++ symbol_words fault.why (text_at e fault.left)))
+-- the name of a fault, and the symbol or the number at its place
+abbrev pub stop_words : Entry → MovesFault → List ℕ
+stop_words e fault = stop_name fault.why ++ symbol_words fault.why (text_at e fault.left)
 
-abbrev pub read_block : Option Stipulation → Entry → Start → Option Language → Result Ended MovesFault → Block
-read_block given e start language (Err fault) = stopped_block e fault
-read_block given e start language (Ok x) =
-    sourced_block e start (reported_of language x) (sources_of given (tags_of e.text) start.position.to_move x.game.notes)
+abbrev pub stopped_block : Entry → MovesFault → Block
+stopped_block e fault = no_study (fault_words e (place_in e fault.left) (stop_words e fault))
 
 -- before the first move. The stipulation has no effect here
 abbrev pub no_moves : Start → GameRead
@@ -425,6 +434,42 @@ no_moves start = record {
 -- up to the result, behind which there are no moves
 unfoldable pub game_read : List ℕ → Start → Result Ended MovesFault
 game_read text start = to_the_end (read_moves (length text) true text (no_moves start))
+
+-- ---- a game that is read only up to its first fault
+
+-- its text before the place with so many bytes left, with the variations closed that are open there
+unfoldable pub text_up_to : List ℕ → ℕ → List ℕ
+text_up_to text left = closed_text (take (length text - left) text)
+
+-- above its block stands where it breaks off, and why
+unfoldable pub not_read_line : Entry → MovesFault → List ℕ
+not_read_line e fault = told.remark_text (told.not_read (subject_at e (place_in e fault.left)) (stop_words e fault))
+
+abbrev pub fault_line : Entry → Option MovesFault → List ℕ
+fault_line e None = []
+fault_line e (Some fault) = not_read_line e fault
+
+abbrev pub reported_up_to : Ended → Reported
+reported_up_to x = record (reported_of None x) { behind = [] }
+
+-- without a stipulation it is left out for its fault
+abbrev pub aimed_up_to : Entry → Start → MovesFault → Reported → Option Aim → Block
+aimed_up_to e start fault t None = stopped_block e fault
+aimed_up_to e start fault t (Some aim) = record { text = fault_line e (Some fault) ++ block_lines e start aim t; is_study = true }
+
+abbrev pub block_up_to : Option Stipulation → Entry → Start → MovesFault → Result Ended MovesFault → Block
+block_up_to given e start fault (Err other) = stopped_block e fault
+block_up_to given e start fault (Ok x) =
+    aimed_up_to e start fault (reported_up_to x) (aim_of_game given (tags_of e.text) start.position.to_move x.game.notes)
+
+unfoldable pub faulty_block : Choice → Entry → Start → MovesFault → Block
+faulty_block c e start fault =
+    if c.up_to_faults then block_up_to c.given e start fault (game_read (text_up_to e.text fault.left) start) else stopped_block e fault
+
+abbrev pub read_block : Choice → Entry → Start → Option Language → Result Ended MovesFault → Block
+read_block c e start language (Err fault) = faulty_block c e start fault
+read_block c e start language (Ok x) =
+    sourced_block e start (reported_of language x) (sources_of c.given (tags_of e.text) start.position.to_move x.game.notes)
 
 -- ---- letters of another language
 
@@ -458,8 +503,8 @@ abbrev pub text_in : Option Language → List ℕ → List ℕ
 text_in None text = text
 text_in (Some language) text = in_english language text
 
-abbrev pub moves_block : Option Stipulation → Entry → Start → Option Language → Block
-moves_block given e start language = read_block given e start language (game_read (text_in language e.text) start)
+abbrev pub moves_block : Choice → Entry → Start → Option Language → Block
+moves_block c e start language = read_block c e start language (game_read (text_in language e.text) start)
 
 -- the number of men that a FEN places
 abbrev pub men_in : Option (List ℕ × List ℕ) → ℕ
@@ -470,9 +515,9 @@ abbrev pub fen_words : List ℕ → FenFault → List ℕ
 fen_words text fen.TooManyMen = codes "left out: " ++ (decimal (at_most (men_in (first_word text))) ++ codes " men")
 fen_words text fault = fen_name fault
 
-abbrev pub start_block : Option Stipulation → Entry → List ℕ → Result Start FenFault → Block
-start_block given e text (Err fault) = no_study (left_out e (fen_words text fault))
-start_block given e text (Ok start) = moves_block given e start (language_of e.text start)
+abbrev pub start_block : Choice → Entry → List ℕ → Result Start FenFault → Block
+start_block c e text (Err fault) = no_study (left_out e (fen_words text fault))
+start_block c e text (Ok start) = moves_block c e start (language_of e.text start)
 
 -- an unprintable byte is read as `?`, which no field of a FEN has
 abbrev pub printable_byte : ℕ → ℕ
@@ -481,9 +526,9 @@ printable_byte b = if is_printable b then b else 63
 abbrev pub fen_in : List ℕ → List ℕ
 fen_in value = map printable_byte (unescape value)
 
-abbrev pub fen_block : Option Stipulation → Entry → Option (List ℕ) → Block
-fen_block given e None = no_study (left_out e (codes "left out: no FEN, so 32 men"))
-fen_block given e (Some value) = start_block given e (fen_in value) (start_of (fen_in value))
+abbrev pub fen_block : Choice → Entry → Option (List ℕ) → Block
+fen_block c e None = no_study (left_out e (codes "left out: no FEN, so 32 men"))
+fen_block c e (Some value) = start_block c e (fen_in value) (start_of (fen_in value))
 
 -- two games that run together have a second tag of a name that each game has once
 unfoldable pub repeated_name : List Pair → Option (List ℕ)
@@ -495,27 +540,27 @@ repeated_name tags =
 unfoldable pub repeated_words : List ℕ → List ℕ
 repeated_words name = codes "TagTwice at " ++ name
 
-abbrev pub single_block : Option Stipulation → Entry → List Pair → Option (List ℕ) → Block
-single_block given e tags (Some name) = no_study (left_out e (repeated_words name))
-single_block given e tags None = fen_block given e (value_of (codes "FEN") tags)
+abbrev pub single_block : Choice → Entry → List Pair → Option (List ℕ) → Block
+single_block c e tags (Some name) = no_study (left_out e (repeated_words name))
+single_block c e tags None = fen_block c e (value_of (codes "FEN") tags)
 
-abbrev pub tagged_block : Option Stipulation → Entry → List Pair → Block
-tagged_block given e tags =
-    if length tags == 0 then no_study (left_out e (codes "left out: no tags")) else single_block given e tags (repeated_name tags)
+abbrev pub tagged_block : Choice → Entry → List Pair → Block
+tagged_block c e tags =
+    if length tags == 0 then no_study (left_out e (codes "left out: no tags")) else single_block c e tags (repeated_name tags)
 
-abbrev pub header_block : Option Stipulation → Entry → Option HeaderFault → Block
-header_block given e (Some fault) = no_study (fault_words e (place_in e fault.left) (token_name fault.why))
-header_block given e None = tagged_block given e (tags_of e.text)
+abbrev pub header_block : Choice → Entry → Option HeaderFault → Block
+header_block c e (Some fault) = no_study (fault_words e (place_in e fault.left) (token_name fault.why))
+header_block c e None = tagged_block c e (tags_of e.text)
 
-abbrev pub sized_block : Option Stipulation → ℕ → ℕ → Option (List ℕ) → Block
-sized_block given number line None =
+abbrev pub sized_block : Choice → ℕ → ℕ → Option (List ℕ) → Block
+sized_block c number line None =
     no_study (fault_words (record { number = number; line = line; text = [] }) (record { line = line; column = 1 }) (codes "GameTooLarge"))
-sized_block given number line (Some text) =
-    header_block given (record { number = number; line = line; text = text }) (header_fault text)
+sized_block c number line (Some text) =
+    header_block c (record { number = number; line = line; text = text }) (header_fault text)
 
 -- the text written for the game with this number, which begins with at most four men
-unfoldable pub block_of : Option Stipulation → ℕ → Game → Block
-block_of given number game = sized_block given number game.line game.text
+unfoldable pub block_of : Choice → ℕ → Game → Block
+block_of c number game = sized_block c number game.line game.text
 
 -- ---- a game with more men, from a position on that a comment states
 
@@ -545,20 +590,20 @@ abbrev pub under_remark : List ℕ → Block → Block
 under_remark remark block = record { text = remark ++ block.text; is_study = block.is_study }
 
 -- the block of the tail, as for a game that begins there
-abbrev pub tail_block : Option Stipulation → ℕ → ℕ → Tail → Block
-tail_block given number line t =
+abbrev pub tail_block : Choice → ℕ → ℕ → Tail → Block
+tail_block c number line t =
     under_remark (tail_line t.skipped)
-    (start_block given (record { number = number; line = line; text = t.text }) (position_text t.position) (start_of (position_text t.position)))
+    (start_block c (record { number = number; line = line; text = t.text }) (position_text t.position) (start_of (position_text t.position)))
 
-abbrev pub block_or_tail : Option Stipulation → ℕ → Game → Option Tail → Block
-block_or_tail given number game None = block_of given number game
-block_or_tail given number game (Some t) = tail_block given number game.line t
+abbrev pub block_or_tail : Choice → ℕ → Game → Option Tail → Block
+block_or_tail c number game None = block_of c number game
+block_or_tail c number game (Some t) = tail_block c number game.line t
 
 -- ---- a file
 
 -- the text written for the game with this number
 abbrev pub block_by : Choice → ℕ → Game → Block
-block_by c number game = block_or_tail c.given number game (tail_of c.tails game.text)
+block_by c number game = block_or_tail c number game (tail_of c.tails game.text)
 
 abbrev pub last_line : ℕ → ℕ → List ℕ
 last_line games studies = told.remark_text (told.total games studies)

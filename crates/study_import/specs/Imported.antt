@@ -21,9 +21,9 @@ tally_behind c t (g ∷ gs) = tally_behind c (tally_with_game c t g) gs
 unfoldable pub tally_of : Choice → List ℕ → Tally
 tally_of c text = tally_behind c no_game (games_of text)
 
--- all games, without tails; given: the stipulation of the games that state none
+-- all games, whole and without tails; given: the stipulation of the games that state none
 abbrev pub all_games : Option Stipulation → Choice
-all_games given = record { given = given; from = 1; to = 2 ^ 32 - 1; tails = false }
+all_games given = record { given = given; from = 1; to = 2 ^ 32 - 1; tails = false; up_to_faults = false }
 
 -- the state of an import: the bytes of the current line, the current game, and the tally before
 pub record Held : Type 0 where

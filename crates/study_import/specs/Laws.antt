@@ -17,7 +17,7 @@ use Rattle.study_games.specs.Games.{Game, games_of, games_from, one_more}
 use Rattle.study_games.specs.Laws.{number_behind, EndsWithMoves, BeginsWithTag, lines_of}
 use Rattle.study_import.specs.declared.importer.Choice.{Choice}
 use Rattle.study_import.specs.Blocks.{Tally, is_chosen, tally_with_game, reported_text, blocks, no_moves, game_read, tag_value_text, Entry, Reported}
-use Rattle.study_import.specs.Blocks.{block_lines}
+use Rattle.study_import.specs.Blocks.{Block, block_lines, fault_line}
 use Rattle.study_import.specs.Blocks.{tail_of, tail_line, under_remark, block_by}
 use Rattle.study_import.specs.Insertions.{Leads, AllReadAgain}
 use Rattle.study_import.specs.declared.game.aims.Aim.{Aim}
@@ -69,14 +69,19 @@ abbrev pub text_read : List ℕ → Option Tail → List ℕ
 text_read text None = text
 text_read text (Some t) = t.text
 
--- a game leads to the same study under every number and at every line: its start, its stipulation and its moves are those of its text
+-- the block of a game that leads to a study, below the line of its fault, if it has one
+abbrev pub study_block : Entry → Start → Aim → Reported → Option MovesFault → Block
+study_block e start aim reported fault = record { text = fault_line e fault ++ block_lines e start aim reported; is_study = true }
+
+-- a game leads to the same study under every number and at every line: its start, its stipulation and its moves are those of its text; if it is read only
+-- up to its first fault, the fault is the same
 abbrev pub AreAlike : Type 0
 AreAlike =
     (c : Choice) → (text : List ℕ) → (m k : ℕ) → (block_by c m (record { line = k; text = Some text })).is_study ≡ true
-    → (start : Start) × (aim : Aim) × (reported : Reported)
+    → (start : Start) × (aim : Aim) × (reported : Reported) × (fault : Option MovesFault)
     × ((number line : ℕ) → block_by c number (record { line = line; text = Some text })
     ≡ under_remark (remark_above (tail_of c.tails (Some text)))
-    (record { text = block_lines (entry_of number line (text_read text (tail_of c.tails (Some text)))) start aim reported; is_study = true }))
+    (study_block (entry_of number line (text_read text (tail_of c.tails (Some text)))) start aim reported fault))
 
 -- a mate within 1 to 127 moves
 abbrev pub IsCounted : Goal → Type 0

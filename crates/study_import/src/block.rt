@@ -1,5 +1,5 @@
 //! The text written for a game.
-ghost use Rattle.std.specs.Prelude.{◌≡◌, ◌≤◌, ◌++◌, ◌-◌, true, codes, count_by, Some, Err, OnOk, IfOk, IsErr};
+ghost use Rattle.std.specs.Prelude.{◌≡◌, ◌≤◌, ◌++◌, ◌-◌, true, codes, count_by, Some, Err, OnOk, IfOk};
 ghost use Rattle.std.specs.List.{list_all};
 ghost use Rattle.std.specs.Option.{option_map};
 ghost use Rattle.study_notation.specs.Fen.{start_of};
@@ -15,11 +15,10 @@ ghost use Rattle.study_import.specs.Aims.{or_stipulation, signed_by};
 ghost use Rattle.study_import.specs.Blocks.{entry_seen, repeated_moves, behind_line, side_text, goal_text, stipulation_line, source_line};
 ghost use Rattle.study_import.specs.Blocks.{doubt_line, doubt_lines, head_line, tag_unread, sources_of, sourced_block, repeated_name, repeated_words, single_block};
 ghost use Rattle.study_import.specs.Blocks.{position_line, counts_line, counted_words, other_tags, remark_lines, study_lines, block_lines};
-ghost use Rattle.study_import.specs.Blocks.{tag_aim, result_of, reported_seen, reported_of, stopped_block, no_moves, game_read};
-ghost use Rattle.study_import.specs.Blocks.{letters_line, is_unknown_move, is_read, first_readable, language_by, language_of, moves_block};
-ghost use Rattle.study_games.specs.Languages.{in_english};
+ghost use Rattle.study_import.specs.Blocks.{tag_aim, result_of, reported_seen, reported_of};
+ghost use Rattle.study_import.specs.Blocks.{letters_line};
 ghost use Rattle.study_import.specs.Blocks.{at_most, men_in, no_study, left_out, fen_words, start_block, fen_in, fen_block, header_block, block_of};
-ghost use Rattle.study_import.specs.BlocksRead.{is_of_memory, Adds};
+ghost use Rattle.study_import.specs.BlocksRead.{Adds};
 
 use crate::counts::{add_counted, add_counts_line, other_tags};
 use crate::faults::{add_fault, add_left_out, token_name};
@@ -29,6 +28,7 @@ use crate::game::aims::{
 };
 use crate::game::movetext::GameReading;
 use crate::game::notes::Notes;
+use crate::importer::Choice;
 use crate::letters::add_read;
 use crate::masks::{Mask, add_masked};
 use crate::pieces::{Piece, add_pieces};
@@ -343,7 +343,7 @@ fn comment_aim(to_move: Side, notes: &Notes) -> Option<Stipulation>
 
 /// What each source of a game's stipulation states.
 #[tactic(auto, unfolding(crate::specs::Blocks::sources_of))]
-fn sources_of<'a, A: Allocator>(
+pub fn sources_of<'a, A: Allocator>(
     alloc: &'a A,
     given: Option<Stipulation>,
     game: &[u8],
@@ -365,8 +365,9 @@ fn sources_of<'a, A: Allocator>(
     })
 }
 
+/// Adds the block of a game with this stipulation.
 #[tactic(auto, unfolding(crate::specs::Blocks::block_lines))]
-fn add_block<'a, A: Allocator>(
+pub fn add_block<'a, A: Allocator>(
     alloc: &'a A,
     out: &mut Text<'_, A>,
     entry: &Entry<'_>,
@@ -382,11 +383,10 @@ fn add_block<'a, A: Allocator>(
     add_study(alloc, out, entry, start, &aim.stipulation, reported.inserts)
 }
 
-/// What the caller of the block knows of a game before its moves are read.
+/// A game before its moves are read, and how the caller wants it.
 #[derive(Clone, Copy)]
 pub struct Setting<'t> {
-    /// The stipulation of a game that states none.
-    pub given: Option<Stipulation>,
+    pub choice: Choice,
     pub entry: Entry<'t>,
 }
 
@@ -400,12 +400,18 @@ pub fn add_aimed<'a, A: Allocator>(
 ) -> Result<bool, AllocError>
     ensures { Adds result out.old out.new
         (sourced_block (entry_seen setting.now.entry) start.now (reported_seen reported.now)
-        (sources_of setting.now.given
+        (sources_of setting.now.choice.given
         (tags_of setting.now.entry.text.now) start.now.position.to_move reported.now.notes)) }
 {
     let entry = &setting.entry;
     let to_move = start.position.to_move();
-    let sources = sources_of(alloc, setting.given, entry.text, to_move, &reported.notes)?;
+    let sources = sources_of(
+        alloc,
+        setting.choice.given,
+        entry.text,
+        to_move,
+        &reported.notes,
+    )?;
     match aim_by_sources(&sources) {
         Some(aim) => {
             add_block(alloc, out, entry, start, &aim, reported)?;
@@ -484,7 +490,7 @@ pub fn add_start<'a, A: Allocator>(
 ) -> Result<bool, AllocError>
     requires { list_all is_printable fen.now ≡ true }
     ensures { Adds result out.old out.new
-        (start_block setting.now.given (entry_seen setting.now.entry) fen.now (start_of fen.now)) }
+        (start_block setting.now.choice (entry_seen setting.now.entry) fen.now (start_of fen.now)) }
 {
     match read_fen(as_text(fen)) {
         Ok(start) => add_read(alloc, out, setting, &start),
@@ -551,7 +557,7 @@ fn add_by_fen<'a, A: Allocator>(
     setting: &Setting<'_>,
 ) -> Result<bool, AllocError>
     ensures { Adds result out.old out.new
-        (fen_block setting.now.given (entry_seen setting.now.entry)
+        (fen_block setting.now.choice (entry_seen setting.now.entry)
         (value_of (codes "FEN") (tags_of setting.now.entry.text.now))) }
 {
     match tag_value(setting.entry.text, b"FEN") {
@@ -570,7 +576,7 @@ fn add_tagged<'a, A: Allocator>(
     setting: &Setting<'_>,
 ) -> Result<bool, AllocError>
     ensures { Adds result out.old out.new
-        (single_block setting.now.given (entry_seen setting.now.entry)
+        (single_block setting.now.choice (entry_seen setting.now.entry)
         (tags_of setting.now.entry.text.now)
         (repeated_name (tags_of setting.now.entry.text.now))) }
 {
@@ -587,7 +593,7 @@ fn add_entry<'a, A: Allocator>(
     setting: &Setting<'_>,
 ) -> Result<bool, AllocError>
     ensures { Adds result out.old out.new
-        (header_block setting.now.given (entry_seen setting.now.entry)
+        (header_block setting.now.choice (entry_seen setting.now.entry)
         (header_fault setting.now.entry.text.now)) }
 {
     let entry = &setting.entry;
@@ -606,11 +612,11 @@ fn add_entry<'a, A: Allocator>(
 pub fn add_game<'a, A: Allocator>(
     alloc: &'a A,
     out: &mut Text<'_, A>,
-    given: Option<Stipulation>,
+    choice: Choice,
     number: u32,
     game: &Game<'_>,
 ) -> Result<bool, AllocError>
-    ensures { Adds result out.old out.new (block_of given number (game_seen game.now)) }
+    ensures { Adds result out.old out.new (block_of choice number (game_seen game.now)) }
 {
     let line = game.line;
     match game.text {
@@ -625,7 +631,7 @@ pub fn add_game<'a, A: Allocator>(
         }
         Some(text) => {
             let entry = Entry { number, line, text };
-            add_entry(alloc, out, &Setting { given, entry })
+            add_entry(alloc, out, &Setting { choice, entry })
         }
     }
 }

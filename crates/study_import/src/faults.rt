@@ -1,8 +1,8 @@
 //! The names of faults, and the lines that report them.
-ghost use Rattle.std.specs.Prelude.{◌≡◌, ◌++◌, OnOk};
+ghost use Rattle.std.specs.Prelude.{◌≡◌, ◌++◌, OnOk, IfOk};
 ghost use Rattle.study_games.specs.Runs.{is_in};
 ghost use Rattle.study_import.specs.Blocks.{token_name, move_name, line_name, stop_name, run_words, symbol_words, told_words, left_out, no_study, fault_words, place_in};
-ghost use Rattle.study_import.specs.Blocks.{text_at, entry_seen, stopped_block};
+ghost use Rattle.study_import.specs.Blocks.{text_at, entry_seen, stop_words, stopped_block, not_read_line};
 ghost use Rattle.study_import.specs.BlocksRead.{is_of_memory, Adds};
 
 use crate::game::lines::LineFault;
@@ -11,7 +11,7 @@ use crate::game::movetext::{MovesFault, Stop};
 use crate::game::token_effects::Reason;
 use crate::pieces::{Piece, add_pieces};
 use crate::places::{Entry, Place, place_in, text_at};
-use crate::tags::author_of;
+use crate::tags::entry_names;
 use std::alloc::{AllocError, Allocator};
 use study_games::{Run, TokenFault, cut_run, truncate};
 use study_remark::{Remark, Subject, add_remark};
@@ -111,17 +111,17 @@ fn add_told<'t, A: Allocator>(
     number: u32,
     line: u32,
     column: Option<u32>,
-    author: &'t [u8],
+    names: &'t [u8],
     words: &'t [u8],
 ) -> Result<(), AllocError>
     ensures { OnOk result (out.new ≡ out.old
-        ++ told_words number line column author.now words.now) }
+        ++ told_words number line column names.now words.now) }
 {
     let subject = Subject {
         game: number,
         line,
         column,
-        author,
+        author: names,
     };
     add_remark(out, &Remark::LeftOut(subject, words))?;
     out.add(b"\n")
@@ -136,15 +136,8 @@ pub fn add_left_out<'a, A: Allocator>(
 ) -> Result<bool, AllocError>
     ensures { Adds result out.old out.new (no_study (left_out (entry_seen entry.now) words.now)) }
 {
-    let author = author_of(alloc, entry.text)?;
-    add_told(
-        out,
-        entry.number,
-        entry.line,
-        None,
-        author.as_slice(),
-        words,
-    )?;
+    let names = entry_names(alloc, entry.text)?;
+    add_told(out, entry.number, entry.line, None, names.as_slice(), words)?;
     Ok(false)
 }
 
@@ -159,17 +152,31 @@ pub fn add_fault<'a, A: Allocator>(
     ensures { Adds result out.old out.new
         (no_study (fault_words (entry_seen entry.now) place words.now)) }
 {
-    let author = author_of(alloc, entry.text)?;
+    let names = entry_names(alloc, entry.text)?;
     let column = Some(place.column);
     add_told(
         out,
         entry.number,
         place.line,
         column,
-        author.as_slice(),
+        names.as_slice(),
         words,
     )?;
     Ok(false)
+}
+
+/// The name of a fault, and the symbol or the number at its place.
+fn stop_words<'a, A: Allocator>(
+    alloc: &'a A,
+    entry: &Entry<'_>,
+    fault: &MovesFault,
+) -> Result<Text<'a, A>, AllocError>
+    ensures { IfOk result (λ words. words ≡ stop_words (entry_seen entry.now) fault.now) }
+{
+    let mut words = Text::new(alloc);
+    words.add(stop_name(fault.why))?;
+    add_symbol(&mut words, fault.why, text_at(entry, fault.left))?;
+    Ok(words)
 }
 
 /// Adds the line that reports the first fault of a game's moves.
@@ -181,9 +188,29 @@ pub fn add_stop<'a, A: Allocator>(
 ) -> Result<bool, AllocError>
     ensures { Adds result out.old out.new (stopped_block (entry_seen entry.now) fault.now) }
 {
-    let mut words = Text::new(alloc);
-    words.add(stop_name(fault.why))?;
-    add_symbol(&mut words, fault.why, text_at(entry, fault.left))?;
+    let words = stop_words(alloc, entry, fault)?;
     let place = place_in(entry, fault.left);
     add_fault(alloc, out, entry, place, words.as_slice())
+}
+
+/// Adds the line that a game is read only up to this fault.
+#[tactic(auto, unfolding(crate::specs::Blocks::not_read_line))]
+pub fn add_not_read<'a, A: Allocator>(
+    alloc: &'a A,
+    out: &mut Text<'_, A>,
+    entry: &Entry<'_>,
+    fault: &MovesFault,
+) -> Result<(), AllocError>
+    ensures { OnOk result (out.new ≡ out.old ++ not_read_line (entry_seen entry.now) fault.now) }
+{
+    let words = stop_words(alloc, entry, fault)?;
+    let names = entry_names(alloc, entry.text)?;
+    let place = place_in(entry, fault.left);
+    let subject = Subject {
+        game: entry.number,
+        line: place.line,
+        column: Some(place.column),
+        author: names.as_slice(),
+    };
+    add_remark(out, &Remark::NotRead(subject, words.as_slice()))
 }

@@ -22,6 +22,8 @@ pub struct Choice {
     pub to: u32,
     /// For a game with more than four men its tail is used, if it has one.
     pub tails: bool,
+    /// A game with a fault among its moves is read up to there.
+    pub up_to_faults: bool,
 }
 
 /// The numbers of games so far, of those written, and of studies among these.
@@ -242,6 +244,7 @@ pub fn import<'a, A: Allocator>(
         from: 1,
         to: u32::MAX,
         tails: false,
+        up_to_faults: false,
     };
     import_chosen(alloc, text, choice)
 }

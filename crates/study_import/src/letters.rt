@@ -4,12 +4,13 @@ ghost use Rattle.study_games.specs.Languages.{in_english};
 ghost use Rattle.study_marks.specs.Study.{plain_study};
 ghost use Rattle.study_marks.specs.BenchState.{marked_study};
 ghost use Rattle.study_import.specs.Notes.{game_of};
-ghost use Rattle.study_import.specs.Blocks.{entry_seen, stopped_block, no_moves, game_read};
+ghost use Rattle.study_import.specs.Blocks.{entry_seen, faulty_block, no_moves, game_read};
 ghost use Rattle.study_import.specs.Blocks.{is_unknown_move, is_read, first_readable, language_by, language_of, moves_block};
 ghost use Rattle.study_import.specs.BlocksRead.{is_of_memory, Adds};
 
 use crate::block::{Setting, add_aimed, reported_of};
-use crate::faults::{add_stop, is_of_memory};
+use crate::cut_off::add_faulty;
+use crate::faults::is_of_memory;
 use crate::game::lines::Lines;
 use crate::game::moves::MoveFault;
 use crate::game::movetext::{GameReading, MovesFault, Stop};
@@ -25,7 +26,7 @@ use study_notation::Start;
 use study_text::Text;
 
 /// A game before its first move.
-fn begin_game<'a, A: Allocator>(
+pub fn begin_game<'a, A: Allocator>(
     alloc: &'a A,
     start: Start,
 ) -> Result<GameReading<'a, A>, AllocError>
@@ -121,7 +122,7 @@ fn add_foreign<'a, A: Allocator>(
     language: Language,
 ) -> Result<bool, AllocError>
     ensures { Adds result out.old out.new
-        (moves_block setting.now.given (entry_seen setting.now.entry) start.now (Some language)) }
+        (moves_block setting.now.choice (entry_seen setting.now.entry) start.now (Some language)) }
 {
     let english = in_english(alloc, setting.entry.text, language)?;
     let mut game = begin_game(alloc, start.copied())?;
@@ -130,7 +131,7 @@ fn add_foreign<'a, A: Allocator>(
             let reported = reported_of(&game, Some(language), behind);
             add_aimed(alloc, out, setting, start, &reported)
         }
-        Err(fault) => add_stopped(alloc, out, setting, &fault),
+        Err(fault) => add_stopped(alloc, out, setting, start, &fault),
     }
 }
 
@@ -161,12 +162,12 @@ fn add_unread<'a, A: Allocator>(
 ) -> Result<bool, AllocError>
     ensures { game_read setting.now.entry.text.now start.now ≡ Err fault.now
         → Adds result out.old out.new
-        (moves_block setting.now.given (entry_seen setting.now.entry) start.now
+        (moves_block setting.now.choice (entry_seen setting.now.entry) start.now
         (language_of setting.now.entry.text.now start.now)) }
 {
     match language_by(alloc, setting.entry.text, start, fault)? {
         Some(language) => add_foreign(alloc, out, setting, start, language),
-        None => add_stop(alloc, out, &setting.entry, fault),
+        None => add_faulty(alloc, out, setting, start, fault),
     }
 }
 
@@ -179,7 +180,7 @@ pub fn add_read<'a, A: Allocator>(
     start: &Start,
 ) -> Result<bool, AllocError>
     ensures { Adds result out.old out.new
-        (moves_block setting.now.given (entry_seen setting.now.entry) start.now
+        (moves_block setting.now.choice (entry_seen setting.now.entry) start.now
         (language_of setting.now.entry.text.now start.now)) }
 {
     let mut game = begin_game(alloc, start.copied())?;
@@ -193,19 +194,20 @@ pub fn add_read<'a, A: Allocator>(
     }
 }
 
-/// Adds the first fault of a game's moves, unless it is want of memory.
+/// Adds the block of a game with this fault, unless it is want of memory.
 fn add_stopped<'a, A: Allocator>(
     alloc: &'a A,
     out: &mut Text<'_, A>,
     setting: &Setting<'_>,
+    start: &Start,
     fault: &MovesFault,
 ) -> Result<bool, AllocError>
     ensures reported { Adds result out.old out.new
-        (stopped_block (entry_seen setting.now.entry) fault.now) }
+        (faulty_block setting.now.choice (entry_seen setting.now.entry) start.now fault.now) }
     ensures memory { is_of_memory fault.now.why ≡ true → IsErr result }
 {
     if is_of_memory(fault.why) {
         return Err(AllocError);
     }
-    add_stop(alloc, out, &setting.entry, fault)
+    add_faulty(alloc, out, setting, start, fault)
 }

@@ -9,6 +9,7 @@
 
 mod block;
 mod counts;
+mod cut_off;
 mod faults;
 mod game;
 mod importer;

@@ -2,8 +2,9 @@
 ghost use Rattle.std.specs.Prelude.{◌≡◌, ◌++◌, OnOk, IfOk};
 ghost use Rattle.std.specs.List.{flat_map};
 ghost use Rattle.std.specs.Option.{option_map};
-ghost use Rattle.study_games.specs.Header.{tags_of};
-ghost use Rattle.study_import.specs.Blocks.{name_words, author_words, original_named, was_words, latin_line, was_line, six_names, unknown_text, text_or_unknown, tag_value_text, tag_line};
+ghost use Rattle.study_games.specs.Header.{tags_of, value_of};
+ghost use Rattle.study_marks.specs.Study.{tag_name};
+ghost use Rattle.study_import.specs.Blocks.{name_words, name_of, entry_names, original_named, was_words, latin_line, was_line, six_names, unknown_text, text_or_unknown, tag_value_text, tag_line};
 
 use crate::masks::{Mask, add_masked};
 use crate::pieces::{Piece, add_pieces};
@@ -28,18 +29,38 @@ fn add_name<A: Allocator>(out: &mut Text<'_, A>, text: &[u8]) -> Result<(), Allo
     add_masked(out, Mask::NoColon, text)
 }
 
-/// The author of a game, as a remark has it; empty if the game names none.
-#[tactic(auto, unfolding(crate::specs::Blocks::author_words))]
-pub fn author_of<'a, A: Allocator>(alloc: &'a A, game: &[u8]) -> Result<Text<'a, A>, AllocError>
-    ensures { IfOk result (λ author. author ≡ author_words (tags_of game.now)) }
+/// The value of a game's tag, as a remark has it; empty if it is not known.
+fn name_of<'a, A: Allocator>(
+    alloc: &'a A,
+    game: &[u8],
+    tag: TagName,
+) -> Result<Text<'a, A>, AllocError>
+    ensures { IfOk result (λ name. name ≡ name_of (value_of (tag_name tag) (tags_of game.now))) }
 {
-    let mut author = Text::new(alloc);
-    if let Some(raw) = tag_value(game, tag_name(TagName::White)) {
+    let mut name = Text::new(alloc);
+    if let Some(raw) = tag_value(game, tag_name(tag)) {
         let value = unescape(alloc, raw)?;
         let text = spell_out(alloc, value.as_slice())?;
-        add_name(&mut author, short_text(text.as_slice()))?;
+        add_name(&mut name, short_text(text.as_slice()))?;
     }
-    Ok(author)
+    Ok(name)
+}
+
+/// Author and title of a game, as a remark has them; empty if the game names neither.
+#[tactic(auto, unfolding(crate::specs::Blocks::entry_names))]
+pub fn entry_names<'a, A: Allocator>(alloc: &'a A, game: &[u8]) -> Result<Text<'a, A>, AllocError>
+    ensures { IfOk result (λ names. names ≡ entry_names (tags_of game.now)) }
+{
+    let mut names = name_of(alloc, game, TagName::White)?;
+    let title = name_of(alloc, game, TagName::Event)?;
+    if names.as_slice().is_empty() {
+        return Ok(title);
+    }
+    if !title.as_slice().is_empty() {
+        names.add(b"; ")?;
+        names.add(title.as_slice())?;
+    }
+    Ok(names)
 }
 
 fn original_named(name: TagName) -> Original

@@ -74,7 +74,7 @@ fn add_tail_block<'a, A: Allocator>(
     named: &Named<'_>,
 ) -> Result<bool, AllocError>
     ensures { Adds result out.old out.new
-        (tail_block setting.now.given setting.now.entry.number setting.now.entry.line
+        (tail_block setting.now.choice setting.now.entry.number setting.now.entry.line
         (record {
           position = named.now.position.now;
           text = setting.now.entry.text.now;
@@ -96,17 +96,17 @@ pub fn add_chosen<'a, A: Allocator>(
 ) -> Result<bool, AllocError>
     ensures { Adds result out.old out.new (block_by choice.now number (game_seen game.now)) }
 {
-    let given = choice.given;
+    let choice = *choice;
     let mut tail = Text::new(alloc);
     match add_tail_of(alloc, &mut tail, choice.tails, game.text)? {
-        None => add_game(alloc, out, given, number, game),
+        None => add_game(alloc, out, choice, number, game),
         Some(named) => {
             let entry = Entry {
                 number,
                 line: game.line,
                 text: tail.as_slice(),
             };
-            add_tail_block(alloc, out, &Setting { given, entry }, &named)
+            add_tail_block(alloc, out, &Setting { choice, entry }, &named)
         }
     }
 }

@@ -59,6 +59,7 @@ pub fn read_words(alloc: Global, words: &[String]) -> Result<Option<Options>, Er
         from,
         to,
         tails: matches.get_flag("tails"),
+        up_to_faults: matches.get_flag("up-to-faults"),
     };
     let encoding = match matches.get_one::<u16>("encoding") {
         Some(number) => page_of(number),
@@ -74,42 +75,36 @@ pub fn read_words(alloc: Global, words: &[String]) -> Result<Option<Options>, Er
 
 /// The options of the program.
 fn command<'a>(alloc: Global) -> Result<Command<'a>, Error> {
-    let stipulate = Arg::new(alloc, "stipulate")
-        .long("stipulate")
-        .value_name("SIDE GOAL")
-        .num_args(2..=3)
-        .action(ArgAction::Set)
-        .help("The stipulation of a game that says none: white win, black draw, white mate 3");
     let game = number(alloc, "game", "N", "Takes game N alone, counted from 1")
         .conflicts_with("from")?
         .conflicts_with("to")?;
-    let tails = Arg::new(alloc, "tails")
-        .long("tails")
-        .action(ArgAction::SetTrue)
-        .help(
-            "Takes a game with more than four men from the first position of at most four that a comment of its main line names",
-        );
-    let encoding = Arg::new(alloc, "encoding")
-        .long("encoding")
-        .value_name("PAGE")
-        .action(ArgAction::Set)
-        .value_parser(ValueParser::Names(&["1250", "1251", "1252"]))
-        .help("Reads the file in this code page of Windows");
-    let progress = Arg::new(alloc, "progress")
-        .long("progress")
-        .action(ArgAction::SetTrue)
-        .help("Tells on standard error, after every hundred games, how many were read");
+    let tails = switch(
+        alloc,
+        "tails",
+        "Takes a game with more than four men from the first position of at most four that a comment of its main line names",
+    );
+    let up_to_faults = switch(
+        alloc,
+        "up-to-faults",
+        "Takes a game with an illegal or unreadable move up to there; no report calls its study sound",
+    );
+    let progress = switch(
+        alloc,
+        "progress",
+        "Tells on standard error, after every hundred games, how many were read",
+    );
     Ok(
         Command::new(alloc, "studyimport")
             .version(VERSION)
             .about(ABOUT)
             .after_help(LINES)
-            .arg(stipulate)?
+            .arg(stipulate(alloc))?
             .arg(game)?
             .arg(number(alloc, "from", "N", "Takes the games from N on"))?
             .arg(number(alloc, "to", "M", "Takes the games up to M"))?
             .arg(tails)?
-            .arg(encoding)?
+            .arg(up_to_faults)?
+            .arg(encoding(alloc))?
             .arg(progress)?,
     )
 }
@@ -121,6 +116,32 @@ fn number<'a>(alloc: Global, name: &'a str, value: &'a str, help: &'a str) -> Ar
         .value_name(value)
         .action(ArgAction::Set)
         .value_parser(value_parser!(u32).range(1..=4294967295))
+        .help(help)
+}
+
+fn stipulate<'a>(alloc: Global) -> Arg<'a> {
+    Arg::new(alloc, "stipulate")
+        .long("stipulate")
+        .value_name("SIDE GOAL")
+        .num_args(2..=3)
+        .action(ArgAction::Set)
+        .help("The stipulation of a game that says none: white win, black draw, white mate 3")
+}
+
+fn encoding<'a>(alloc: Global) -> Arg<'a> {
+    Arg::new(alloc, "encoding")
+        .long("encoding")
+        .value_name("PAGE")
+        .action(ArgAction::Set)
+        .value_parser(ValueParser::Names(&["1250", "1251", "1252"]))
+        .help("Reads the file in this code page of Windows")
+}
+
+/// An option without a value.
+fn switch<'a>(alloc: Global, name: &'a str, help: &'a str) -> Arg<'a> {
+    Arg::new(alloc, name)
+        .long(name)
+        .action(ArgAction::SetTrue)
         .help(help)
 }
 

@@ -58,6 +58,7 @@ fn digest_of<'a, A: Allocator>(alloc: &'a A, games: &[&[u8]]) -> Result<Text<'a,
         from: 1,
         to: u32::MAX,
         tails: false,
+        up_to_faults: false,
     };
     let mut importer = Importer::new(alloc, choice);
     let mut script = Text::new(alloc);

@@ -94,6 +94,7 @@ fn check(rt: &HostRuntime, page: CodePage, file: &[u8], wanted: &[&[u8]]) -> Res
             from: 1,
             to: u32::MAX,
             tails: false,
+            up_to_faults: false,
         },
         encoding: Some(page),
         progress: false,

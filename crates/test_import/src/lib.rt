@@ -4,6 +4,8 @@
 #[cfg(test)]
 mod collection;
 #[cfg(test)]
+mod cut_off;
+#[cfg(test)]
 mod digest;
 #[cfg(test)]
 mod encoding;

@@ -60,6 +60,7 @@ fn all_games() -> Options {
             from: 1,
             to: u32::MAX,
             tails: false,
+            up_to_faults: false,
         },
         encoding: None,
         progress: false,

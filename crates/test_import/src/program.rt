@@ -42,6 +42,7 @@ fn options_of(from: u32, to: u32) -> Options {
             from,
             to,
             tails: false,
+            up_to_faults: false,
         },
         encoding: None,
         progress: false,
@@ -205,6 +206,7 @@ fn words_are_read(rt: HostRuntime) -> Result<(), Fail> {
         choice_of(&rt, &["--stipulate", "white", "mate", "3"])? == Some((1, u32::MAX, false))
     );
     assert!(rt; choice_of(&rt, &["--tails"])? == Some((1, u32::MAX, true)));
+    assert!(rt; choice_of(&rt, &["--up-to-faults"])? == Some((1, u32::MAX, false)));
     assert!(rt; choice_of(&rt, &["--stipulate", "white", "wins"])? == None);
     assert!(rt; choice_of(&rt, &["--game", "1", "--to", "2"])? == None);
     assert!(rt; choice_of(&rt, &["--game", "0"])? == None);

@@ -65,20 +65,20 @@ insert root Kh7
 pgn
 
 #! a tail: moves before 2; its position is another program's word
-#! game 3, line 21, column 42: NoSuchMove at Kc6
+#! game 3, line 21, column 42 (fault): NoSuchMove at Kc6
 
-#! game 4, line 23: left out: 5 men
+#! game 4, line 23 (no word): left out: 5 men
 
 #! games 4, studies 2
 ";
 
-const LEFT_OUT: &[u8] = b"#! game 1, line 1: left out: 5 men
+const LEFT_OUT: &[u8] = b"#! game 1, line 1 (five): left out: 5 men
 
-#! game 2, line 9: left out: 5 men
+#! game 2, line 9 (mate): left out: 5 men
 
-#! game 3, line 16: left out: 5 men
+#! game 3, line 16 (fault): left out: 5 men
 
-#! game 4, line 23: left out: 5 men
+#! game 4, line 23 (no word): left out: 5 men
 
 #! games 4, studies 0
 ";
@@ -92,6 +92,7 @@ fn games_come_to_their_tails(rt: HostRuntime) -> Result<(), Fail> {
         from: 1,
         to: u32::MAX,
         tails: true,
+        up_to_faults: false,
     };
     let mut importer = Importer::new(&alloc, choice);
     let mut script = Text::new(&alloc);

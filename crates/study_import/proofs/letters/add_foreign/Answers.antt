@@ -11,7 +11,7 @@ unfolding game_read
 returns g c =
     let text = in_english c.args.language c.args.setting.now.entry.text.now in
     let begun = c.in_ok-game.ensures in
-    stopped_again c.add_stopped.result c.args.out.now c.add_stopped.new.out c.args.setting.now.given (entry_seen c.args.setting.now.entry) c.args.start.now
+    stopped_again c.add_stopped.result c.args.out.now c.add_stopped.new.out c.args.setting.now.choice (entry_seen c.args.setting.now.entry) c.args.start.now
     (Some c.args.language) c.in-Err.fault (to_the_end (read_moves (length text) true text (no_moves c.args.start.now)))
     (rw c.in_ok-english.ensures at (rw c.as_slice.ensures at (rw c.copied.ensures at (rw begun at c.in-Err.ensures))))
     c.add_stopped.ensures.memory c.add_stopped.ensures.reported

@@ -15,7 +15,7 @@ pub returns-in-Ok : goal.returns-in-Ok
 unfolding game_read
 returns-in-Ok g c =
     let s = c.read_whole.new.self in
-    let given = c.args.setting.now.given in
+    let choice = c.args.setting.now.choice in
     let e = entry_seen c.args.setting.now.entry in
     let start = c.args.start.now in
     let x : Ended = record {
@@ -23,10 +23,10 @@ returns-in-Ok g c =
           s.reading.lines.cut s.reading.inserts s.notes;
       behind = c.in-Ok.behind.now;
     } in
-    english_added c.add_aimed.result c.args.out.now c.add_aimed.new.out given e start x
+    english_added c.add_aimed.result c.args.out.now c.add_aimed.new.out choice e start x
     (rw c.copied.ensures at (rw c.in_ok-game.ensures at c.in-Ok.ensures))
     (subst (λ (t : Reported). Adds c.add_aimed.result c.args.out.now c.add_aimed.new.out
-    (sourced_block e start t (sources_of given (tags_of e.text) start.position.to_move t.notes))) c.reported_of-reported.ensures c.add_aimed.ensures)
+    (sourced_block e start t (sources_of choice.given (tags_of e.text) start.position.to_move t.notes))) c.reported_of-reported.ensures c.add_aimed.ensures)
 
 pub returns : goal.returns
 unfolding game_read

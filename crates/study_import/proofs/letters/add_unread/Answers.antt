@@ -5,10 +5,10 @@ use Rattle.study_import.proofs.letters.add_unread.Goals as goal
 
 pub returns-in-Some : goal.returns-in-Some
 returns-in-Some g c = λ is.
-    foreign_added c.add_foreign.result c.args.out.now c.add_foreign.new.out c.args.setting.now.given (entry_seen c.args.setting.now.entry) c.args.start.now
+    foreign_added c.add_foreign.result c.args.out.now c.add_foreign.new.out c.args.setting.now.choice (entry_seen c.args.setting.now.entry) c.args.start.now
     c.args.fault.now c.in-Some.language is (sym c.in_ok-language.ensures ∙ c.in-Some.is) c.add_foreign.ensures
 
 pub returns-in-None : goal.returns-in-None
 returns-in-None g c = λ is.
-    unread_added c.add_stop.result c.args.out.now c.add_stop.new.out c.args.setting.now.given (entry_seen c.args.setting.now.entry) c.args.start.now
-    c.args.fault.now is (sym c.in_ok-language.ensures ∙ c.in-None.is) c.add_stop.ensures
+    unread_added c.add_faulty.result c.args.out.now c.add_faulty.new.out c.args.setting.now.choice (entry_seen c.args.setting.now.entry) c.args.start.now
+    c.args.fault.now is (sym c.in_ok-language.ensures ∙ c.in-None.is) c.add_faulty.ensures
