@@ -36,7 +36,7 @@ words_for "$top" std study_web
 grep '^logic=' out/module.log
 "$kit/bin/rattle-link" --target $target --toolchain "$kit/toolchain" -o out/$name.64.wasm out/lib$name.a
 
-# ---- the same with 32-bit addresses, for browsers without memory64
+# ---- with 32-bit addresses, which every browser has
 wasm-opt --enable-memory64 --enable-bulk-memory --enable-sign-ext --enable-mutable-globals --enable-multivalue --enable-reference-types \
     --enable-nontrapping-float-to-int --enable-extended-const --memory64-lowering -O3 out/$name.64.wasm -o out/$name.32.wasm
 
@@ -45,6 +45,6 @@ for it in main worker; do
     # (from its own folder, since esbuild writes where each module stands into a comment)
     (cd "$top/web" && esbuild "src/$it.js" --bundle --minify --format=iife --target=es2020 --charset=utf8 --log-level=warning --outfile="$work/out/$it.js")
 done
-python3 "$top/tools/release/web_page.py" out/main.js out/worker.js out/$name.64.wasm out/$name.32.wasm out/studyboard.html
+python3 "$top/tools/release/web_page.py" out/main.js out/worker.js out/$name.32.wasm out/studyboard.html
 mv out/studyboard.html "$top/web/out/studyboard.html"
 sha256sum "$top/web/out/studyboard.html"

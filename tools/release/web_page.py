@@ -1,9 +1,9 @@
 #!/usr/bin/env python3
 """Joins the parts of studyboard.html into one file.
 
-    tools/release/web_page.py PAGE_JS WORKER_JS MODULE64 MODULE32 OUT
+    tools/release/web_page.py PAGE_JS WORKER_JS MODULE OUT
 
-PAGE_JS and WORKER_JS are bundled scripts; the modules are packed by zopfli, without names or times, so that the same parts give
+PAGE_JS and WORKER_JS are bundled scripts; the module is packed by zopfli, without names or times, so that the same parts give
 the same bytes. The policy names the digests of the one script and the one style that the page has: no other runs.
 """
 import base64
@@ -72,9 +72,9 @@ def version():
 
 
 def main():
-    if len(sys.argv) != 6:
+    if len(sys.argv) != 5:
         sys.exit(__doc__)
-    page_js, worker_js, module64, module32, out = sys.argv[1:]
+    page_js, worker_js, module, out = sys.argv[1:]
     script, worker, style = read(page_js).strip(), read(worker_js).strip(), small_style(os.path.join(WEB, "board.css"))
     for text in (script, worker):
         assert "</script" not in text.lower() and "<!--" not in text, "a bundle that would end its element"
@@ -82,8 +82,7 @@ def main():
               "base-uri 'none'; form-action 'none'") % (digest(script), digest(style))
     page = read(os.path.join(WEB, "page.html")).replace(">\n<", "><")
     parts = {"/*POLICY*/": policy, "/*STYLE*/": style, "<!--MEN-->": read(os.path.join(WEB, "men.svg")).strip(), "/*WORKER*/": worker,
-             "/*MODULE64*/": packed(module64), "/*MODULE32*/": packed(module32), "/*SCRIPT*/": script,
-             "/*VERSION*/": version()}
+             "/*MODULE*/": packed(module), "/*SCRIPT*/": script, "/*VERSION*/": version()}
     for mark, text in parts.items():
         assert page.count(mark) == 1, mark
         page = page.replace(mark, text)

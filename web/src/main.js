@@ -27,24 +27,18 @@ import {openFile, openText} from './opening.js';
 import {counted, reason} from './words.js';
 import {refusalIn} from './parse_answers.js';
 
-// ---- the module, in the form that this browser can run; it stands after this script, so that tables are read while
-// it comes
+// ---- the module; it stands after this script, so that tables are read while it comes
 const whole = new Promise(on => onDocument('DOMContentLoaded', on));
-/**
- * @param {string} id
- * @returns {Promise<Uint8Array>}
- */
-async function unpack(id) {
+/** @returns {Promise<Uint8Array>} */
+async function unpack() {
   const gunzip = new (/** @type {any} */ (window).DecompressionStream)('gzip');
-  const bytes = new Blob([bytesOf($(id).textContent)]).stream().pipeThrough(gunzip);
+  const bytes = new Blob([bytesOf($('module').textContent)]).stream().pipeThrough(gunzip);
   return new Uint8Array(await new Response(bytes).arrayBuffer());
 }
-// A module of no code whose memory has 64-bit addresses.
-const MEMORY64 = new Uint8Array([0, 97, 115, 109, 1, 0, 0, 0, 5, 3, 1, 4, 0]);
 let module = /** @type {Promise<WebAssembly.Module> | null} */ (null);
 async function compile() {
   await whole;
-  return WebAssembly.compile(await unpack(WebAssembly.validate(MEMORY64) && $('module64') ? 'module64' : 'module32'));
+  return WebAssembly.compile(await unpack());
 }
 const compiled = () => module = module || compile();
 const source = URL.createObjectURL(new Blob([$('workerSource').textContent], {type: 'text/javascript'}));

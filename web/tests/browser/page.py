@@ -418,11 +418,4 @@ def test_phone(user):
     assert user.js("return document.documentElement.scrollWidth") <= 390
 
 
-def test_without_memory64(user):
-    user.end()
-    user.__init__(flags=("--js-flags=--no-experimental-wasm-memory64",))
-    sample(user)
-    assert user.text("stamp") == "sound"
-
-
 run(globals(), sys.argv[2:], lambda name, user: user.no_faults() if name != "no_request_is_made" else None)
