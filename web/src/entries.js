@@ -182,12 +182,10 @@ function leftOutAt(lines, line) {
   if (!game) return [];
   const end = lines.findIndex((text, at) => at > line && !text.startsWith('#'));
   const {Event = '', White = ''} = originalsIn(lines.slice(line, end < 0 ? undefined : end));
-  const [author, title] = game.author.split('; ');
+  const [, author, title] = game.author.match(/^(.*?)(?:; )?(?:"(.*)")?$/) || ['', '', ''];
   const place = `line ${game.line}${game.column ? `, column ${game.column}` : ''}`;
-  return [{
-    ...missing(line, Event || title || `line ${game.line} of the PGN`, White || author, `${whyLeftOut(game)} (${place})`),
-    number: `${game.game}`
-  }];
+  const name = Event || title || `line ${game.line} of the PGN`;
+  return [{...missing(line, name, White || author, `${whyLeftOut(game)} (${place})`), number: `${game.game}`}];
 }
 /**
  * @param {number} line

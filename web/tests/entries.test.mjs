@@ -50,7 +50,9 @@ test('each entry has a row and a stamp', () => {
 test('a game that was left out has its title and its author, where remarks behind it have them', () => {
   const lines = [
     '#! game 2, line 9: left out: 7 men', '#! Event was: A "prize"', '#! White was: Kasparyan, G.', '',
-    '#! game 3, line 20, column 8: NoSuchMove at Kh9', '#! White was: Réti', '#! game 4, line 31: left out: 6 men'
+    '#! game 3, line 20, column 8: NoSuchMove at Kh9', '#! White was: Réti', '#! game 4, line 31: left out: 6 men',
+    '#! game 5, line 40 (Kasparyan, G.; "A prize"): left out: 5 men', '#! game 6, line 49 ("B"): left out: 6 men',
+    '#! game 7, line 58 (Kubbel, L.): left out: 6 men'
   ];
   const rows =
     entriesOf({...readScript(lines, [], []), at: 0, path: 'root', name: '', id: 'x', note: '', judged: true});
@@ -59,10 +61,13 @@ test('a game that was left out has its title and its author, where remarks behin
   assert.deepEqual(rows.map(r => [r.number, r.title, r.author, r.stamp]), [
     ['2', 'A "prize"', 'Kasparyan, G.', `left out: 7 ${men} (line 9)`],
     ['3', 'line 20 of the PGN', 'Réti', `left out: ${move} (line 20, column 8)`],
-    ['4', 'line 31 of the PGN', '', `left out: 6 ${men} (line 31)`]
+    ['4', 'line 31 of the PGN', '', `left out: 6 ${men} (line 31)`],
+    ['5', 'A prize', 'Kasparyan, G.', `left out: 5 ${men} (line 40)`], ['6', 'B', '', `left out: 6 ${men} (line 49)`],
+    ['7', 'line 58 of the PGN', 'Kubbel, L.', `left out: 6 ${men} (line 58)`]
   ]);
   assert.deepEqual(rows.map(row => menuText([], row)), [
-    '2. A "prize", Kasparyan, G.: left out', '3. line 20 of the PGN, Réti: left out', '4. line 31 of the PGN: left out'
+    '2. A "prize", Kasparyan, G.: left out', '3. line 20 of the PGN, Réti: left out', '4. line 31 of the PGN: left out',
+    '5. A prize, Kasparyan, G.: left out', '6. B: left out', '7. line 58 of the PGN, Kubbel, L.: left out'
   ]);
 });
 test('a study has the number of its game, and no name of the study before', () => {

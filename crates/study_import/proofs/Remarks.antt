@@ -47,7 +47,7 @@ use Rattle.study_import.specs.declared.places.Place.{Place}
 use Rattle.study_import.specs.declared.game.aims.Sources.{Sources}
 use Rattle.study_import.specs.Aims.{unaimed_words}
 use Rattle.study_import.specs.Blocks.{Entry, Reported, place_in, text_at, token_name, move_name, line_name, reason_name, stop_name, run_words}
-use Rattle.study_import.specs.Blocks.{stop_words, subject_at, not_read_line, symbol_words, name_of, entry_names, no_colon, told_words, left_out, fault_words, counts_words, counts_line, doubt_line, doubt_lines, source_line, original_named}
+use Rattle.study_import.specs.Blocks.{stop_words, subject_at, not_read_line, symbol_words, name_of, quoted, entry_names, no_colon, told_words, left_out, fault_words, counts_words, counts_line, doubt_line, doubt_lines, source_line, original_named}
 use Rattle.study_import.specs.Blocks.{move_counts, counted_words, behind_line, six_names, remark_byte, tag_text, was_text, latin_line, was_of, was_line, head_line, letters_line}
 use Rattle.study_import.specs.Blocks.{remark_lines}
 use Rattle.study_games.specs.Characters.{is_utf8}
@@ -146,19 +146,19 @@ column_part None = record { shown = refl; few = omega arith }
 column_part (Some column) =
     joined 9 64 (codes ", column ") (decimal column) (record { shown = refl; few = omega arith }) (number_part column)
 
-author_by : (author : List ℕ) (none : Bool) → IsPart 122 author → IsPart 125 (if none then [] else codes " (" ++ (author ++ codes ")"))
+author_by : (author : List ℕ) (none : Bool) → IsPart 124 author → IsPart 127 (if none then [] else codes " (" ++ (author ++ codes ")"))
 author_by author true h = record { shown = refl; few = omega arith }
 author_by author false h =
-    joined 2 123 (codes " (") _ (record { shown = refl; few = omega arith })
-    (joined 122 1 author (codes ")") h (record { shown = refl; few = omega arith }))
+    joined 2 125 (codes " (") _ (record { shown = refl; few = omega arith })
+    (joined 124 1 author (codes ")") h (record { shown = refl; few = omega arith }))
 
-subject_part : (g : told.Game) → IsPart 122 g.author → IsPart 340 (told.subject_words g)
+subject_part : (g : told.Game) → IsPart 124 g.author → IsPart 342 (told.subject_words g)
 unfolding told.subject_words
 subject_part g h =
-    numbered 5 (7 + (64 + (73 + (125 + 2)))) (codes "game ") _ g.game (record { shown = refl; few = omega arith })
-    (numbered 7 (73 + (125 + 2)) (codes ", line ") _ g.line (record { shown = refl; few = omega arith })
-    (joined 73 (125 + 2) (told.column_words g.column) _ (column_part g.column)
-    (joined 125 2 (told.author_words g.author) (codes ": ") (author_by g.author (length g.author == 0) h) (record { shown = refl; few = omega arith }))))
+    numbered 5 (7 + (64 + (73 + (127 + 2)))) (codes "game ") _ g.game (record { shown = refl; few = omega arith })
+    (numbered 7 (73 + (127 + 2)) (codes ", line ") _ g.line (record { shown = refl; few = omega arith })
+    (joined 73 (127 + 2) (told.column_words g.column) _ (column_part g.column)
+    (joined 127 2 (told.author_words g.author) (codes ": ") (author_by g.author (length g.author == 0) h) (record { shown = refl; few = omega arith }))))
 
 -- ---- the head of a block
 
@@ -172,8 +172,8 @@ source_part Given = record { shown = refl; few = omega arith }
 
 source_remark : (e : Entry) (aim : Aim) → AreLines IsRemark (source_line e aim)
 source_remark e aim =
-    remark_is _ (wider (340 + 34) 998 _ (omega arith)
-    (joined 340 34 (told.subject_words (record { game = e.number; line = e.line; column = None; author = [] })) (told.stipulated_words aim.source)
+    remark_is _ (wider (342 + 34) 998 _ (omega arith)
+    (joined 342 34 (told.subject_words (record { game = e.number; line = e.line; column = None; author = [] })) (told.stipulated_words aim.source)
     (subject_part _ (record { shown = refl; few = omega arith })) (source_part aim.source)))
 
 doubt_part : (why : Doubt) → IsPart 60 (told.remark_words (told.doubted why))
@@ -390,26 +390,32 @@ known_part (Some value) =
     name_by (tag_text (unescape value)) (bytes_eq (tag_text (unescape value)) (codes "?"))
     (short_few (unescape value)) (short_prints (unescape value))
 
-both_part : (author title : List ℕ) (no_author no_title : Bool) → IsPart 60 author → IsPart 60 title
-    → IsPart 122 (if no_author then title else (if no_title then author else author ++ (codes "; " ++ title)))
-both_part author title true no_title h k = wider 60 122 title (omega arith) k
-both_part author title false true h k = wider 60 122 author (omega arith) h
-both_part author title false false h k =
-    joined 60 (2 + 60) author (codes "; " ++ title) h (joined 2 60 (codes "; ") title (record { shown = refl; few = omega arith }) k)
+quoted_part : (text : List ℕ) → IsPart 60 text → IsPart 62 (quoted text)
+quoted_part text h =
+    joined 1 61 (codes "\"") _ (record { shown = refl; few = omega arith })
+    (joined 60 1 text (codes "\"") h (record { shown = refl; few = omega arith }))
 
-names_part : (tags : List Pair) → IsPart 122 (entry_names tags)
+both_part : (author title : List ℕ) (no_author no_title : Bool) → IsPart 60 author → IsPart 60 title
+    → IsPart 124 (if no_title then author else (if no_author then quoted title else author ++ (codes "; " ++ quoted title)))
+both_part author title no_author true h k = wider 60 124 author (omega arith) h
+both_part author title true false h k = wider 62 124 (quoted title) (omega arith) (quoted_part title k)
+both_part author title false false h k =
+    joined 60 (2 + 62) author (codes "; " ++ quoted title) h
+    (joined 2 62 (codes "; ") (quoted title) (record { shown = refl; few = omega arith }) (quoted_part title k))
+
+names_part : (tags : List Pair) → IsPart 124 (entry_names tags)
 unfolding entry_names
 names_part tags =
     let author = value_of (tag_name named.White) tags in
     let title = value_of (tag_name named.Event) tags in
     both_part (name_of author) (name_of title) (length (name_of author) == 0) (length (name_of title) == 0) (known_part author) (known_part title)
 
-told_is : (number line : ℕ) (column : Option ℕ) (author words : List ℕ) → IsPart 122 author → IsPart 100 words
+told_is : (number line : ℕ) (column : Option ℕ) (author words : List ℕ) → IsPart 124 author → IsPart 100 words
     → AreLines IsRemark (told_words number line column author words)
 unfolding told_words
 told_is number line column author words h k =
-    with_empty _ (remark_is _ (wider (340 + 100) 998 _ (omega arith)
-    (joined 340 100 (told.subject_words (record { game = number; line = line; column = column; author = author })) words (subject_part _ h) k)))
+    with_empty _ (remark_is _ (wider (342 + 100) 998 _ (omega arith)
+    (joined 342 100 (told.subject_words (record { game = number; line = line; column = column; author = author })) words (subject_part _ h) k)))
 
 pub left_out_is : (e : Entry) (words : List ℕ) → IsPart 100 words → AreLines IsRemark (left_out e words)
 left_out_is e words h = told_is e.number e.line None (entry_names (tags_of e.text)) words (names_part (tags_of e.text)) h
@@ -531,8 +537,8 @@ pub not_read_is : (e : Entry) (fault : MovesFault) → AreLines IsRemark (not_re
 unfolding not_read_line
 not_read_is e fault =
     let subject = subject_at e (place_in e fault.left) in
-    remark_is _ (wider (340 + (10 + 100)) 998 _ (omega arith)
-    (joined 340 (10 + 100) (told.subject_words subject) (codes "not read: " ++ stop_words e fault) (subject_part _ (names_part (tags_of e.text)))
+    remark_is _ (wider (342 + (10 + 100)) 998 _ (omega arith)
+    (joined 342 (10 + 100) (told.subject_words subject) (codes "not read: " ++ stop_words e fault) (subject_part _ (names_part (tags_of e.text)))
     (joined 10 100 (codes "not read: ") (stop_words e fault) (record { shown = refl; few = omega arith }) (stop_words_part e fault))))
 
 fen_part : (fault : FenFault) → IsPart 100 (fen_name fault)

@@ -156,10 +156,13 @@ abbrev pub name_of : Option (List ℕ) → List ℕ
 name_of None = []
 name_of (Some value) = name_words (tag_text (unescape value))
 
--- `Author; Title`, as far as they are known
+abbrev pub quoted : List ℕ → List ℕ
+quoted text = codes "\"" ++ (text ++ codes "\"")
+
+-- `Author; "Title"`, as far as they are known
 abbrev pub both_names : List ℕ → List ℕ → List ℕ
 both_names author title =
-    if length author == 0 then title else (if length title == 0 then author else author ++ (codes "; " ++ title))
+    if length title == 0 then author else (if length author == 0 then quoted title else author ++ (codes "; " ++ quoted title))
 
 -- the author of a study is its tag White, and its title its tag Event
 unfoldable pub entry_names : List Pair → List ℕ

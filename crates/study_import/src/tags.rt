@@ -4,7 +4,7 @@ ghost use Rattle.std.specs.List.{flat_map};
 ghost use Rattle.std.specs.Option.{option_map};
 ghost use Rattle.study_games.specs.Header.{tags_of, value_of};
 ghost use Rattle.study_marks.specs.Study.{tag_name};
-ghost use Rattle.study_import.specs.Blocks.{name_words, name_of, entry_names, original_named, was_words, latin_line, was_line, six_names, unknown_text, text_or_unknown, tag_value_text, tag_line};
+ghost use Rattle.study_import.specs.Blocks.{name_words, name_of, quoted, entry_names, original_named, was_words, latin_line, was_line, six_names, unknown_text, text_or_unknown, tag_value_text, tag_line};
 
 use crate::masks::{Mask, add_masked};
 use crate::pieces::{Piece, add_pieces};
@@ -46,6 +46,15 @@ fn name_of<'a, A: Allocator>(
     Ok(name)
 }
 
+fn add_quoted<A: Allocator>(out: &mut Text<'_, A>, text: &[u8]) -> Result<(), AllocError>
+    ensures { OnOk result (out.new ≡ out.old ++ quoted text.now) }
+{
+    add_pieces(
+        out,
+        &[Piece::Bytes(b"\""), Piece::Bytes(text), Piece::Bytes(b"\"")],
+    )
+}
+
 /// Author and title of a game, as a remark has them; empty if the game names neither.
 #[tactic(auto, unfolding(crate::specs::Blocks::entry_names))]
 pub fn entry_names<'a, A: Allocator>(alloc: &'a A, game: &[u8]) -> Result<Text<'a, A>, AllocError>
@@ -53,13 +62,13 @@ pub fn entry_names<'a, A: Allocator>(alloc: &'a A, game: &[u8]) -> Result<Text<'
 {
     let mut names = name_of(alloc, game, TagName::White)?;
     let title = name_of(alloc, game, TagName::Event)?;
-    if names.as_slice().is_empty() {
-        return Ok(title);
+    if title.as_slice().is_empty() {
+        return Ok(names);
     }
-    if !title.as_slice().is_empty() {
+    if !names.as_slice().is_empty() {
         names.add(b"; ")?;
-        names.add(title.as_slice())?;
     }
+    add_quoted(&mut names, title.as_slice())?;
     Ok(names)
 }
 

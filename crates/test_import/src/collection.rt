@@ -42,7 +42,7 @@ position 1n3k2/8/8/8/8/8/R4K2/8 w - - 0 1 white win Event No. 26 Date 1925.??.??
 position 8/8/8/8/2P3p1/8/1K5k/8 w - - 0 1 white draw Event No. 27 Date 1926.??.?? Round 27 White Author 26 c5 g3 c6 g2 c7 g1=Q c8=Q
 position 8/8/8/8/1k6/7R/p7/4K3 w - - 0 1 white draw Event No. 28 Date 1927.??.?? Round 28 White Author 27 Rh4+ Ka3 Rh3+ Kb2 Rh2+
 position 2k5/7K/8/1N6/8/8/3p4/8 w - - 0 1 white draw Event No. 29 Date 1928.??.?? Round 29 White Author 28 Nc3 d1=Q Nxd1
-#! game 30, line 359, column 22 (Author 29; No. 30): NoSuchMove at Ne5
+#! game 30, line 359, column 22 (Author 29; \"No. 30\"): NoSuchMove at Ne5
 position 8/6K1/8/8/N7/8/k1p5/8 w - - 0 1 white draw Event No. 31 Date 1930.??.?? Round 31 White Author 30 Nc3+ Ka1 Ne2 c1=Q Nxc1
 position 8/8/8/5pk1/8/P6K/8/8 w - - 0 1 white win Event No. 32 Date 1931.??.?? Round 32 White Author 31 a4 Kf4 a5 Ke3 a6
 position 6K1/8/8/2p5/5k2/6R1/8/8 w - - 0 1 white win Event No. 33 Date 1932.??.?? Round 33 White Author 32 Rc3 Ke4 Rxc5
@@ -50,7 +50,7 @@ position 8/8/8/8/4K3/P3r3/8/2k5 w - - 0 1 white win Event No. 34 Date 1933.??.??
 position 8/p7/8/k3P3/8/8/5K2/8 w - - 0 1 white win Event No. 35 Date 1934.??.?? Round 35 White Author 34 e6 Kb5 e7
 position 8/8/2K5/5P2/4k3/8/8/8 w - - 0 1 white win Event No. 36 Date 1935.??.?? Round 36 White Author 35 f6 Ke5 f7
 position 8/8/k4P2/8/3K4/8/2p5/8 w - - 0 1 white draw Event No. 37 Date 1936.??.?? Round 37 f7 c1=Q f8=Q
-#! game 38, line 445 (Author 00; No. 38): left out: 5 men
+#! game 38, line 445 (Author 00; \"No. 38\"): left out: 5 men
 position 8/3B4/8/8/8/8/1p4K1/2k5 w - - 0 1 white draw Event No. 39 Date 1938.??.?? Round 39 White Author 01 Bf5 b1=Q Bxb1
 position 8/8/4K3/8/8/8/3n2k1/1R6 w - - 0 1 white win Event No. 40 Date 1939.??.?? Round 40 White Author 02 Rb2 Kf2 Rxd2+
 position 8/3K4/8/6P1/8/1pk5/8/8 w - - 0 1 white draw Event No. 41 Date 1940.??.?? Round 41 White Author 03 g6 b2 g7
@@ -74,12 +74,12 @@ position 8/8/8/8/4K3/3P3p/8/1k6 w - - 0 1 white win Event No. 55 Date 1954.??.??
 position 8/2p5/8/8/7P/6K1/4k3/8 w - - 0 1 white win Event No. 56 Date 1955.??.?? Round 56 White Author 18 h5 c5 h6 c4 h7 c3 h8=Q
 position 8/6K1/8/2p1k3/8/8/7P/8 w - - 0 1 white draw Event No. 57 Date 1956.??.?? Round 57 White Author 19 h4 c4 h5 c3 h6 c2 h7 c1=Q h8=Q
 position 8/1k6/8/6P1/8/4K3/6p1/8 w - - 0 1 white win Event No. 58 Date 1957.??.?? Round 58 White Author 20 Kf2 g1=Q+ Kxg1 Kc6 g6 Kd5 g7
-#! game 59, line 707, column 17 (Author 21; No. 59): Numbering at 3
+#! game 59, line 707, column 17 (Author 21; \"No. 59\"): Numbering at 3
 position 8/8/1p6/8/6P1/4k3/8/K7 w - - 0 1 white win Event No. 60 Date 1959.??.?? Round 60 White Author 22 g5 Kd4 g6
 position 8/1n6/8/8/1k6/8/3R4/1K6 w - - 0 1 white win Event No. 61 Date 1960.??.?? Round 61 White Author 23 Rb2+ Kc3 Rxb7
 position 8/4r3/8/8/8/3K4/2P5/6k1 w - - 0 1 white draw Event No. 62 Date 1961.??.?? Round 62 White Author 24 c4 Re2 Kxe2
 position 8/8/k6P/8/8/8/1K3p2/8 w - - 0 1 white draw Event No. 63 Date 1962.??.?? Round 63 White Author 25 h7 f1=R h8=Q
-#! game 64, line 767, column 24 (Author 26; No. 64): NoSuchMove at Ne5
+#! game 64, line 767, column 24 (Author 26; \"No. 64\"): NoSuchMove at Ne5
 position 8/8/Nk6/8/K7/8/8/1r6 w - - 0 1 white draw Event No. 65 Date 1964.??.?? Round 65 White Author 27 Nb4 Ra1+ Kb3
 #! game 66, line 781: stipulated by its comment
 #! the stipulation differs from its tag Result
@@ -102,7 +102,7 @@ position 5B2/8/4K3/1k6/8/3p4/8/8 w - - 0 1 white draw Event No. 79 Date 1978.??.
 position 8/7k/8/6p1/8/1P3K2/8/8 w - - 0 1 white win Event No. 80 Date 1979.??.?? Round 80 White Author 05 b4 Kg6 b5 Kf5 b6 Ke5 b7
 position 7K/8/8/8/3P4/3k4/8/8 w - - 0 1 white win Event No. 81 Date 1980.??.?? Round 81 White Author 06 d5 Kc4 d6 Kb5 d7
 position 8/8/k7/8/3P4/8/7K/8 w - - 0 1 white win Event No. 82 Date 1981.??.?? Round 82 White Author 07 Kg3 Kb5 Kf4 Kc6 Ke5 Kd7 Kd5
-#! game 83, line 985 (Author 08; No. 83): Placement
+#! game 83, line 985 (Author 08; \"No. 83\"): Placement
 position K7/8/6P1/b7/8/8/8/5k2 w - - 0 1 white win Event No. 84 Date 1983.??.?? Round 84 White Author 09 g7 Bc3 g8=Q
 position 8/8/8/6P1/8/K1k4p/8/8 w - - 0 1 white draw Event No. 85 Date 1984.??.?? Round 85 White Author 10 g6 h2 g7 h1=Q g8=Q Qa8+ Qxa8
 position 2K5/8/8/8/8/8/1P1k4/8 w - - 0 1 white win Event No. 86 Date 1985.??.?? Round 86 White Author 11 b4 Kc3 b5 Kb4 b6
@@ -149,7 +149,7 @@ position 8/8/4k3/8/8/8/6p1/2NK4 w - - 0 1 white draw Event No. 124 Date 1923.??.
 position K7/8/8/5P2/8/1p4k1/8/8 w - - 0 1 white draw Event No. 125 Date 1924.??.?? Round 125 White Author 13 f6 b2 f7
 position 8/8/5K2/8/4p3/5k2/8/1R6 w - - 0 1 white win Event No. 126 Date 1925.??.?? Round 126 White Author 14 Ke5 e3 Kd4
 position 7K/8/8/5P2/5k2/8/3p4/8 w - - 0 1 white draw Event No. 127 Date 1926.??.?? Round 127 White Author 15 f6 d1=N f7
-#! game 128, line 1535, column 4 (Author 16; No. 128): NoSuchMove at e8=Q
+#! game 128, line 1535, column 4 (Author 16; \"No. 128\"): NoSuchMove at e8=Q
 #! game 129, line 1537: stipulated by its comment
 #! the stipulation differs from its tag Result
 #! the stipulation differs from its result
@@ -173,8 +173,8 @@ position 8/7K/8/3N4/k7/8/4p3/8 w - - 0 1 white draw Event No. 144 Date 1943.??.?
 position 1K6/8/p7/8/7P/8/k7/8 w - - 0 1 white win Event No. 145 Date 1944.??.?? Round 145 White Author 33 h5 Kb1 h6 a5 h7 a4 h8=Q
 position K7/8/5k2/4p3/8/1P6/8/8 w - - 0 1 white draw Event No. 146 Date 1945.??.?? Round 146 White Author 34 b4 e4 b5 e3 b6 e2 b7 e1=Q b8=Q
 position B7/8/8/k7/8/p7/4K3/8 w - - 0 1 white draw Event No. 147 Date 1946.??.?? Round 147 White Author 35 Bd5 a2 Bxa2
-#! game 148, line 1775, column 13 (Author 36; No. 148): NoSuchMove at Ne5
-#! game 149, line 1787, column 19 (Author 00; No. 149): Numbering at 3
+#! game 148, line 1775, column 13 (Author 36; \"No. 148\"): NoSuchMove at Ne5
+#! game 149, line 1787, column 19 (Author 00; \"No. 149\"): Numbering at 3
 position 8/8/8/6P1/8/1p3K2/8/3k4 w - - 0 1 white draw Event No. 150 Date 1949.??.?? Round 150 White Author 01 g6 b2 g7
 #! games 150, studies 142
 ";

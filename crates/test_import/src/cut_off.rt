@@ -41,7 +41,7 @@ const GAMES: &[u8] = b"[Event \"bad\"]
 ";
 
 const UP_TO_FAULTS: &[u8] =
-    b"#! game 1, line 7, column 40 (Reti, Richard; bad): not read: NotSan at c9
+    b"#! game 1, line 7, column 40 (Reti, Richard; \"bad\"): not read: NotSan at c9
 #! game 1, line 1: stipulated by its comment
 #! not taken over: comments 1
 position 7K/8/k1P5/7p/8/8/8/8 w - - 0 1
@@ -63,7 +63,7 @@ insert 0.0.0.1.1 h2
 insert 0.0.0.1.0 h2
 pgn
 
-#! game 2, line 12, column 11 (no move): not read: NotSan at Kg9
+#! game 2, line 12, column 11 (\"no move\"): not read: NotSan at Kg9
 #! game 2, line 9: stipulated by its comment
 #! not taken over: comments 1
 position 7K/8/k1P5/7p/8/8/8/8 w - - 0 1
@@ -76,9 +76,9 @@ tag White ?
 tag Black ?
 pgn
 
-#! game 3, line 17, column 14 (no word): NotSan at Kf9
+#! game 3, line 17, column 14 (\"no word\"): NotSan at Kf9
 
-#! game 4, line 22, column 29 (behind): not read: BehindResult
+#! game 4, line 22, column 29 (\"behind\"): not read: BehindResult
 #! game 4, line 19: stipulated by its comment
 #! not taken over: comments 1
 position 7K/8/k1P5/7p/8/8/8/8 w - - 0 1
@@ -107,7 +107,7 @@ insert root Kg7
 insert 0 h4
 pgn
 
-#! game 6, line 29 (five): left out: 5 men
+#! game 6, line 29 (\"five\"): left out: 5 men
 
 #! games 6, studies 4
 ";

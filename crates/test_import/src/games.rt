@@ -45,7 +45,7 @@ insert 0 Kd5
 insert 0 Kf5
 pgn
 
-#! game 2, line 11, column 12 (e): NoSuchMove at Kb6
+#! game 2, line 11, column 12 (\"e\"): NoSuchMove at Kb6
 
 #! games 2, studies 1
 ";
@@ -111,7 +111,7 @@ fn games_may_be_chosen(rt: HostRuntime) -> Result<(), Fail> {
     }
     let imported = importer.finish(&mut script)?;
     let reported =
-        b"#! game 2, line 11, column 12 (e): NoSuchMove at Kb6\n\n#! games 1, studies 0\n";
+        b"#! game 2, line 11, column 12 (\"e\"): NoSuchMove at Kb6\n\n#! games 1, studies 0\n";
     assert!(rt; script.as_slice() == reported.as_slice());
     assert!(rt; imported.met == 2 && imported.reported == 1 && imported.studies == 0);
     Ok(())
@@ -400,9 +400,9 @@ const AUTHORS: &[u8] = b"[Event \"a\"]
 1. Kd3 *
 ";
 
-const AUTHORS_REPORTED: &[u8] = b"#! game 1, line 1 (Kasparyan, G.; a): left out: 5 men
+const AUTHORS_REPORTED: &[u8] = b"#! game 1, line 1 (Kasparyan, G.; \"a\"): left out: 5 men
 
-#! game 2, line 13, column 4 (Sokolov, M.; b): NoSuchMove at Kb6
+#! game 2, line 13, column 4 (Sokolov, M.; \"b\"): NoSuchMove at Kb6
 
 #! game 3, line 15: NoStipulation
 

@@ -228,7 +228,7 @@ const HEADERS: &[u8] = b"[Event \"t16\"]
 1. Kg3 1-0
 ";
 
-const HEADERS_SCRIPT: &[u8] = b"#! game 1, line 1 (Author T16; t16): TagTwice at FEN
+const HEADERS_SCRIPT: &[u8] = b"#! game 1, line 1 (Author T16; \"t16\"): TagTwice at FEN
 
 #! game 2, line 13: stipulated by its tag Result
 #! White was: Nov\xe1k, Ji\xf8\xed

@@ -340,9 +340,9 @@ const JOINED: &[u8] = b"[Event \"header only\"]
 {White to win} 1. Kd3 1-0
 ";
 
-const JOINED_REPORTED: &[u8] = b"#! game 1, line 1 (Somebody Else; header only): TagTwice at FEN
+const JOINED_REPORTED: &[u8] = b"#! game 1, line 1 (Somebody Else; \"header only\"): TagTwice at FEN
 
-#! game 2, line 11 (A; first): TagTwice at White
+#! game 2, line 11 (A; \"first\"): TagTwice at White
 
 #! game 3, line 18: stipulated by its comment
 #! not taken over: comments 1

@@ -65,20 +65,20 @@ insert root Kh7
 pgn
 
 #! a tail: moves before 2; its position is another program's word
-#! game 3, line 21, column 42 (fault): NoSuchMove at Kc6
+#! game 3, line 21, column 42 (\"fault\"): NoSuchMove at Kc6
 
-#! game 4, line 23 (no word): left out: 5 men
+#! game 4, line 23 (\"no word\"): left out: 5 men
 
 #! games 4, studies 2
 ";
 
-const LEFT_OUT: &[u8] = b"#! game 1, line 1 (five): left out: 5 men
+const LEFT_OUT: &[u8] = b"#! game 1, line 1 (\"five\"): left out: 5 men
 
-#! game 2, line 9 (mate): left out: 5 men
+#! game 2, line 9 (\"mate\"): left out: 5 men
 
-#! game 3, line 16 (fault): left out: 5 men
+#! game 3, line 16 (\"fault\"): left out: 5 men
 
-#! game 4, line 23 (no word): left out: 5 men
+#! game 4, line 23 (\"no word\"): left out: 5 men
 
 #! games 4, studies 0
 ";

@@ -375,7 +375,7 @@ position 8/8/8/6k1/8/8/1P5K/8 w - - 0 1 white win Event s11 {Win} Result 1/2 Whi
 #! not taken over: comments 1
 position 8/8/8/4k3/8/3K4/3P4/8 b - - 0 1 white draw Event s13 {BTM, White draws} b White A Kd5
 position 8/8/8/4k3/8/3K4/3P4/8 b - - 0 1 white draw Event s15 Black to move Result 1/2 (Black draws by play) White A Kd5 Ke3 Ke5
-#! game 9, line 57 (A; s17 {White to win in 13}): StipulationUnread at its comment
+#! game 9, line 57 (A; \"s17 {White to win in 13}\"): StipulationUnread at its comment
 #! game 10, line 64: stipulated by its tag Stipulation
 #! the stipulation differs from its tag Result
 #! the stipulation differs from its result
@@ -387,56 +387,56 @@ position 8/8/8/6k1/8/8/1P5K/8 w - - 0 1 white mate 3 Event s21 tag Stipulation #
 #! the stipulation differs from its result
 #! not taken over: comments 1
 position 8/8/8/6k1/8/8/1P5K/8 w - - 0 1 black win Event s23 {Black wins} said of a refutation White A Kg3 Kf5 Kf3
-#! game 13, line 87 (A; s25 comment after 1st move *): NoStipulation
+#! game 13, line 87 (A; \"s25 comment after 1st move *\"): NoStipulation
 #! game 14, line 94: stipulated by its comment
 #! not taken over: comments 1
 position 8/8/8/6k1/8/8/1P5K/8 w - - 0 1 white mate 30 White A Kg3 Kf5 Kf3
 #! game 15, line 101: stipulated by its comment
 #! not taken over: comments 1
 position 8/8/8/6k1/8/8/1P5K/8 w - - 0 1 white win Event s29 {White to move and win} ok * White A Kg3 Kf5 Kf3
-#! game 16, line 108 (A; s31 {Blancs jouent et gagnent} *): NoStipulation
+#! game 16, line 108 (A; \"s31 {Blancs jouent et gagnent} *\"): NoStipulation
 #! game 17, line 115: stipulated by its comment
 #! not taken over: comments 1
 position 8/8/8/6k1/8/8/1P5K/8 w - - 0 1 white win Event s33 {White to play and win !} * White A Kg3 Kf5 Kf3
 #! game 18, line 122: stipulated by its comment
 #! not taken over: comments 1
 position 8/8/8/3k4/8/3K4/3P4/8 b - - 0 1 white win Event s35 {White to win, Black to move} White A Ke5 Ke3
-#! game 19, line 134, column 4 (A; m02 Dutch Pc5 for a knight): NoSuchMove at Pc5
-#! game 20, line 141, column 8 (A; m04 French Rc2 = roi, rook c8): NoSuchMove at Kf6
+#! game 19, line 134, column 4 (A; \"m02 Dutch Pc5 for a knight\"): NoSuchMove at Pc5
+#! game 20, line 141, column 8 (A; \"m04 French Rc2 = roi, rook c8\"): NoSuchMove at Kf6
 position 8/8/8/6k1/8/8/1P5K/8 w - - 0 1 white win Event m06 var without number White A Kg3 Kf5 Kh5 Kf4 Kf3
-#! game 22, line 155, column 8 (A; m10 N): NotSan at N
+#! game 22, line 155, column 8 (A; \"m10 N\"): NotSan at N
 #! not taken over: null moves 1, moves behind 1
 position 8/8/8/6k1/8/8/1P5K/8 w - - 0 1 white win Event m12 threat null White A Kg3 Kf5 Kf3
-#! game 24, line 164 (A; m14 bc3 with bishop b2): OpponentInCheck
-#! game 25, line 176, column 3 (A; m16 f8(Q)): NoSuchMove at f8
+#! game 24, line 164 (A; \"m14 bc3 with bishop b2\"): OpponentInCheck
+#! game 25, line 176, column 3 (A; \"m16 f8(Q)\"): NoSuchMove at f8
 position 8/8/8/6k1/8/8/1P5K/8 w - - 0 1 white win Event m18 long White A Kg3 Kf5 Kf3
-#! game 27, line 190, column 4 (A; m20 kg3 lower): NotSan at kg3
+#! game 27, line 190, column 4 (A; \"m20 kg3 lower\"): NotSan at kg3
 #! not taken over: comments 1
 position 8/8/8/6k1/8/8/1P5K/8 w - - 0 1 white win Event m22 twin b) White A Kg3 Kf5 Kf3
 #! not taken over: NAGs 1
 position 8/8/8/6k1/8/8/1P5K/8 w - - 0 1 white win Event m24 nested deep White A Kg3 Kf5 Kh5 Kf4 Kf3 Kg5 Kh4 Kf4 Kg6 Ke5 Kf3
-#! game 30, line 211, column 10 (A; m26 any): Numbering at 2
+#! game 30, line 211, column 10 (A; \"m26 any\"): Numbering at 2
 #! not taken over: NAGs 1
 position 7K/8/k1P5/7p/8/8/8/8 w - - 0 1 white draw Event m30 draw symbol White A Kg7 h4 Kf6
 position 8/8/8/6k1/8/8/1P5K/8 w - - 0 1 white win Event m34 ends with Black's refutation main White A b4 Kf6
-#! game 33, line 227 (A; f02 placement only): FieldCount
-#! game 34, line 239, column 4 (A; f04 wrong side to move b): NoSuchMove at Kg3
-#! game 35, line 241 (A; f06 ep junk): EnPassantImpossible
-#! game 36, line 248 (A; f08 pawn on 1st): PawnOnEndRank
-#! game 37, line 255 (A; f10 opp in check): OpponentInCheck
+#! game 33, line 227 (A; \"f02 placement only\"): FieldCount
+#! game 34, line 239, column 4 (A; \"f04 wrong side to move b\"): NoSuchMove at Kg3
+#! game 35, line 241 (A; \"f06 ep junk\"): EnPassantImpossible
+#! game 36, line 248 (A; \"f08 pawn on 1st\"): PawnOnEndRank
+#! game 37, line 255 (A; \"f10 opp in check\"): OpponentInCheck
 position 8/8/8/6k1/8/8/1P5K/8 w - - 0 1 white win White Author T02 Kg3
 #! White was: Pervakov, Oleg & Afek, Yochanan & Slumstrup Nielsen, Steffen & Minski, Martin
 position 8/8/8/6k1/8/8/1P5K/8 w - - 0 1 white win Event t04 White Pervakov, Oleg & Afek, Yochanan & Slumstrup Nielsen, Steffen Kg3 Kf5 Kf3
 #! White was: \xd2\xf0\xee\xe8\xf6\xea\xe8\xe9
 #! read as Latin 1: White
 position 8/8/8/6k1/8/8/1P5K/8 w - - 0 1 white win Event t06 White Odieoeee Kg3
-#! game 41, line 282 (A; t08): TagTwice at FEN
+#! game 41, line 282 (A; \"t08\"): TagTwice at FEN
 position 8/8/8/6k1/8/8/1P5K/8 w - - 0 1 white win Event t10 White White to win Black Author, T10 Kg3
 position 8/8/8/6k1/8/8/1P5K/8 w - - 0 1 white win Event t12 White A Kg3
 position 8/8/8/6k1/8/8/1P5K/8 w - - 0 1 white win Event t14 White A Kg3 Kf5 Kf3
 position 8/8/8/6k1/8/8/1P5K/8 w - - 0 1 white win Event t15 White Author T15 Kg3
 position 8/8/8/6k1/8/8/1P5K/8 w - - 0 1 white win Event t18 White Author T18 Kg3
-#! game 47, line 325 (x): left out: no FEN, so 32 men
+#! game 47, line 325 (\"x\"): left out: no FEN, so 32 men
 #! not taken over: tags 1
 position 8/8/8/6k1/8/8/1P5K/8 w - - 0 1 white win Event t20 Kg3
 #! game 49, line 334: stipulated by its comment

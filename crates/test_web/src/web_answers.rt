@@ -534,7 +534,7 @@ fn games_come_in(rt: HostRuntime) -> Result<(), Fail> {
     let alloc = rt.alloc();
     let without = ask(&alloc, "import", GAME, &[], &[]);
     assert!(rt; without.ended == Ending::Answered);
-    let want = b"#! game 1, line 1: NoStipulation\n\n#! games 1, studies 0\n";
+    let want = b"#! game 1, line 1 (\"e\"): NoStipulation\n\n#! games 1, studies 0\n";
     assert!(rt; without.text.as_slice() == want.as_slice());
     let given = ask(&alloc, "import white draw", GAME, &[], &[]);
     assert!(rt; given.ended == Ending::Answered);
