@@ -36,3 +36,14 @@ below_row Q n e m before row few after i b = elim (below_or i (64 * (n / 64))) [
         subst Q same (row (i - 64 * (n / 64)) (omega (arith, l, few, g)) (omega (arith, same, l)))
   ]
 ]
+
+-- a property that holds in the rows before one, in that row, and in those from the next one to another holds before the other
+pub below_rows : (Q : ℕ → Type 0) (r m : ℕ) → ((i : ℕ) → i < 64 * r → Q i) → ((y : ℕ) → y < 64 → Q (64 * r + y))
+    → ((i : ℕ) → 64 * (r + 1) ≤ i → i < 64 * m → Q i) → (i : ℕ) → i < 64 * m → Q i
+below_rows Q r m before row after i b = elim (below_or i (64 * r)) [
+  | inl l ↦ before i l
+  | inr g ↦ elim (below_or i (64 * (r + 1))) [
+    | inr h ↦ after i h b
+    | inl l ↦ subst Q (let same : 64 * r + (i - 64 * r) ≡ i = omega arith in same) (row (i - 64 * r) (omega arith))
+  ]
+]

@@ -4,6 +4,7 @@ pub mod NextLemmas
 pub mod StillLemmas
 pub mod FirstLemmas
 pub mod CellsLemmas
+pub mod DueLemmas
 pub mod DueTally
 pub mod BlockLemmas
 pub mod SquaresLeft

@@ -1,23 +1,26 @@
 //! The memory that a build uses.
-ghost use Rattle.std.specs.Prelude.{◌≡◌, IfOk, All, vec_len};
+ghost use Rattle.std.specs.Prelude.{◌≡◌, IfOk, All, length, vec_len};
 
+use crate::level_cells::LevelCells;
 use std::alloc::{AllocError, Allocator};
 use std::marker::Model;
 
-/// All the memory that a build uses: a byte for each cell, all of them 0.
+/// All the memory that a build uses: a byte for each cell and one for each row of 64 cells, all of them 0.
 #[derive(Drop)]
 pub struct BuildRoom<'a, A: Allocator> {
     cells: Vec<u8, &'a A>,
+    rows: Vec<u8, &'a A>,
 }
 
 impl<'a, A: Allocator> Model for BuildRoom<'a, A> {
-    ghost use Rattle.std.specs.Prelude.{◌≡◌, ℕ, ◌<◌, ◌^◌, All, vec_len};
+    ghost use Rattle.std.specs.Prelude.{ℕ, vec_len};
+    ghost use Rattle.study_levels.specs.Due.{IsRoom};
 
     ghost Value = { ℕ };
 
     ghost view = { λ r. vec_len r.cells };
 
-    ghost invariant = { λ r. (vec_len r.cells < 2 ^ 32) × All (λ c. c ≡ 0) r.cells.items };
+    ghost invariant = { λ r. IsRoom r.cells.items r.rows.items };
 }
 
 impl<'a, A: Allocator> BuildRoom<'a, A> {
@@ -25,8 +28,9 @@ impl<'a, A: Allocator> BuildRoom<'a, A> {
     pub fn new(alloc: &'a A, cells: u32) -> Result<Self, AllocError>
         ensures { IfOk result (λ room. room ≡ cells) }
     {
+        let rows = zeros(alloc, cells / 64 + 1)?;
         let cells = zeros(alloc, cells)?;
-        Ok(BuildRoom { cells })
+        Ok(BuildRoom { cells, rows })
     }
 
     /// The number of cells for which there is room.
@@ -36,13 +40,13 @@ impl<'a, A: Allocator> BuildRoom<'a, A> {
         self.cells.len() as u32
     }
 
-    /// The bytes.
-    pub fn into_cells(self) -> Vec<u8, &'a A>
-        ensures len { vec_len result ≡ self.entry }
-        ensures zero { All (λ c. c ≡ 0) result.items }
+    /// The cells, with a byte for each row.
+    pub fn into_cells(self) -> LevelCells<'a, A>
+        ensures len { length result ≡ self.entry }
+        ensures zero { All (λ c. c ≡ 0) result }
     {
-        let BuildRoom { cells } = self;
-        cells
+        let BuildRoom { cells, rows } = self;
+        LevelCells::new(cells, rows)
     }
 }
 

@@ -1,11 +1,11 @@
-//! Searching cells by blocks, all cells of a block at once.
+//! Searching the cells of a row, many at once.
 ghost use Rattle.std.specs.Prelude.{◌≡◌, ◌≢◌, ◌+◌, ◌*◌, ◌/◌, ◌<◌, ◌≤◌, ◌^◌, ◌&&◌, ◌==◌, ℕ, true, false, length, slice_index};
 ghost use Rattle.study_board.specs.Sets.{has};
 
 use study_board::{Square, SquareSet};
 
-/// The number of cells that are folded together before the result is tested.
-const BLOCK: usize = 64;
+/// The number of cells of a row.
+const ROW: usize = 64;
 
 /// The number of cells of a row that are compared at once.
 const PART: usize = 16;
@@ -22,53 +22,6 @@ fn has_byte(cells: &[u8], byte: u8) -> bool
         }
     }
     found
-}
-
-/// Whether some cell is above this byte.
-#[inline]
-fn has_above(cells: &[u8], byte: u8) -> bool
-    ensures { result ≡ false → (i : ℕ) → i < length cells.now → slice_index cells.now i ≤ byte }
-{
-    let mut found = false;
-    for cell in cells {
-        if *cell > byte {
-            found = true;
-        }
-    }
-    found
-}
-
-/// The start of the first block, from one place on, that has this byte; if there is none, the place where no whole block is left.
-pub fn next_block(cells: &[u8], from: u32, byte: u8) -> u32
-    requires from { from ≤ length cells.now }
-    requires small { length cells.now < 2 ^ 32 }
-    ensures above { from ≤ result }
-    ensures within { result ≤ length cells.now }
-    ensures none { (i : ℕ) → from ≤ i → i < result → slice_index cells.now i ≢ byte }
-{
-    let mut at = from as usize;
-    while at + BLOCK <= cells.len() {
-        if has_byte(&cells[at..at + BLOCK], byte) {
-            return at as u32;
-        }
-        at += BLOCK;
-    }
-    at as u32
-}
-
-/// Whether some cell has a mate in `level` plies or more.
-pub fn has_longer_mate(cells: &[u8], level: u8) -> bool
-    ensures { result ≡ false → (i : ℕ) → i < length cells.now → slice_index cells.now i ≤ level }
-{
-    let mut at = 0usize;
-    while at < cells.len() {
-        let end = cells.len().min(at.saturating_add(BLOCK));
-        if has_above(&cells[at..end], level) {
-            return true;
-        }
-        at = end;
-    }
-    false
 }
 
 /// The square if the cell is this byte, otherwise the empty set.
@@ -133,7 +86,7 @@ pub fn row_with(cells: &[u8], row: u32, byte: u8) -> SquareSet
         → slice_index cells.now (64 * row + y) ≡ byte → has result y ≡ true }
 {
     let first = (64 * row) as usize;
-    let end = cells.len().min(first.saturating_add(BLOCK));
+    let end = cells.len().min(first.saturating_add(ROW));
     squares_with(&cells[first..end], byte)
 }
 

@@ -9,7 +9,9 @@ ghost use Rattle.study_levels.specs.BestReplies.{drawn_with, lost_with, won_with
 use crate::best_replies::BestReplies;
 use crate::cell_blocks::row_end;
 use crate::game::{Game, Location};
+use crate::level_cells::LevelCells;
 use crate::level_game::LevelGame;
+use std::alloc::Allocator;
 use study_board::SquareSet;
 use study_values::{MAX_DISTANCE, Value};
 
@@ -103,38 +105,42 @@ pub fn initial_by_moves<G: Game>(game: &G, number: u32) -> Initial
     initial_by_value(value_by_conversion(game, &at))
 }
 
-/// Sets all cells to 0.
-fn clear_all(cells: &mut [u8])
-    ensures { (i : ℕ) → slice_index cells.new i ≡ 0 }
-{
-    cells.fill(0);
-}
-
 /// Writes the initial cell of a number, if the class has that number, and returns whether it has a mate that no cell can encode.
 #[inline]
-fn write_first<G: LevelGame>(game: &G, cells: &mut [u8], number: u32) -> bool
+fn write_first<G: LevelGame, A: Allocator>(
+    game: &G,
+    cells: &mut LevelCells<'_, A>,
+    number: u32,
+) -> bool
     requires laws { IsNumberedClass (G.numbered game.now) }
     requires cells { length cells.old ≡ (G.numbered game.now).size }
+    ensures size { length cells.new ≡ length cells.old }
     ensures other { (i : ℕ) → i ≢ number → slice_index cells.new i ≡ slice_index cells.old i }
     ensures held { number < (G.numbered game.now).size → OutsideIsRight (G.numbered game.now)
         → CellIsHeld (G.numbered game.now) result 0 number (slice_index cells.new number) }
     ensures numbered { number < (G.numbered game.now).size → slice_index cells.new number ≢ 0
         → HasPosition (G.numbered game.now) number }
 {
-    if number as usize >= cells.len() {
+    if number as usize >= cells.as_slice().len() {
         return false;
     }
     let first = game.first(number);
-    cells[number as usize] = first.cell;
+    cells.set(number, first.cell);
     first.far
 }
 
 /// Writes the initial cells of the numbers of a row whose squares are in the set, and returns whether some have a mate that no cell can encode.
 #[inline]
-fn write_each_first<G: LevelGame>(game: &G, cells: &mut [u8], row: u32, squares: SquareSet) -> bool
+fn write_each_first<G: LevelGame, A: Allocator>(
+    game: &G,
+    cells: &mut LevelCells<'_, A>,
+    row: u32,
+    squares: SquareSet,
+) -> bool
     requires laws { IsNumberedClass (G.numbered game.now) }
     requires row { 64 * row < (G.numbered game.now).size }
     requires cells { length cells.old ≡ (G.numbered game.now).size }
+    ensures size { length cells.new ≡ length cells.old }
     ensures other { (i : ℕ) → (i < 64 * row) ⊎ (64 * row + 64 ≤ i)
         → slice_index cells.new i ≡ slice_index cells.old i }
     ensures kept { (y : ℕ) → y < 64 → has squares y ≡ false
@@ -159,11 +165,16 @@ fn write_each_first<G: LevelGame>(game: &G, cells: &mut [u8], row: u32, squares:
 
 /// Writes the initial cells of the numbers of a row whose cells are 0, and returns whether some mate cannot be encoded.
 #[inline]
-fn initialise_row<G: LevelGame>(game: &G, cells: &mut [u8], row: u32) -> bool
+fn initialise_row<G: LevelGame, A: Allocator>(
+    game: &G,
+    cells: &mut LevelCells<'_, A>,
+    row: u32,
+) -> bool
     requires laws { IsNumberedClass (G.numbered game.now) }
     requires row { 64 * row < (G.numbered game.now).size }
     requires cells { length cells.old ≡ (G.numbered game.now).size }
     requires zero { (y : ℕ) → y < 64 → slice_index cells.old (64 * row + y) ≡ 0 }
+    ensures size { length cells.new ≡ length cells.old }
     ensures other { (i : ℕ) → (i < 64 * row) ⊎ (64 * row + 64 ≤ i)
         → slice_index cells.new i ≡ slice_index cells.old i }
     ensures held { OutsideIsRight (G.numbered game.now) → (y : ℕ) → y < 64
@@ -179,14 +190,15 @@ fn initialise_row<G: LevelGame>(game: &G, cells: &mut [u8], row: u32) -> bool
 }
 
 /// Writes the initial cells of all numbers, and returns whether some mate cannot be encoded.
-pub fn initialise<G: LevelGame>(game: &G, cells: &mut [u8]) -> bool
+pub fn initialise<G: LevelGame, A: Allocator>(game: &G, cells: &mut LevelCells<'_, A>) -> bool
     requires laws { IsNumberedClass (G.numbered game.now) }
     requires cells { length cells.old ≡ (G.numbered game.now).size }
+    ensures size { length cells.new ≡ length cells.old }
     ensures held { OutsideIsRight (G.numbered game.now)
         → CellsAreHeld (G.numbered game.now) result 0 cells.new }
     ensures numbered { CellsHavePositions (G.numbered game.now) cells.new }
 {
-    clear_all(cells);
+    cells.clear();
     let mut far = false;
     let size = game.cells();
     let mut number = 0;

@@ -8,6 +8,8 @@ ghost use Rattle.study_levels.specs.Numbered.{OutsideIsRight, StepLeads, label_b
 
 use crate::game::Game;
 use crate::initial::Initial;
+use crate::level_cells::LevelCells;
+use std::alloc::Allocator;
 use study_board::SquareSet;
 use study_moves::Move;
 use study_values::Value;
@@ -42,11 +44,18 @@ pub trait LevelGame: LabelledGame {
         ensures { IsUnknownIn (Self.numbered self.now) row result };
 
     /// For positions of a row that are lost in `level` plies: the positions before them are won in one more.
-    fn lower_before(&self, cells: &mut [u8], row: u32, decided: SquareSet, level: u8) -> u64
+    fn lower_before<A: Allocator>(
+        &self,
+        cells: &mut LevelCells<'_, A>,
+        row: u32,
+        decided: SquareSet,
+        level: u8,
+    ) -> u64
         requires laws { IsNumberedClass (Self.numbered self.now) }
         requires level { level < 254 }
         requires numbered { HavePositions (Self.numbered self.now) row decided }
         requires cells { length cells.old ≡ (Self.numbered self.now).size }
+        ensures size { length cells.new ≡ length cells.old }
         ensures rise { AreLowered (LeadsIntoRow (Self.numbered self.now) row decided)
             level cells.old cells.new }
         ensures done { (i y : ℕ) → y < 64 → has decided y ≡ true
@@ -54,11 +63,18 @@ pub trait LevelGame: LabelledGame {
             → IsSetBy (level + 2) cells.new i };
 
     /// For positions of a row that are won in `level` plies: the positions before them are marked, if they have no mate yet.
-    fn mark_before(&self, cells: &mut [u8], row: u32, decided: SquareSet, level: u8) -> u64
+    fn mark_before<A: Allocator>(
+        &self,
+        cells: &mut LevelCells<'_, A>,
+        row: u32,
+        decided: SquareSet,
+        level: u8,
+    ) -> u64
         requires laws { IsNumberedClass (Self.numbered self.now) }
         requires level { level < 254 }
         requires numbered { HavePositions (Self.numbered self.now) row decided }
         requires cells { length cells.old ≡ (Self.numbered self.now).size }
+        ensures size { length cells.new ≡ length cells.old }
         ensures rise { AreAdded (LeadsIntoRow (Self.numbered self.now) row decided)
             level cells.old cells.new }
         ensures done { (i y : ℕ) → y < 64 → has decided y ≡ true

@@ -11,6 +11,7 @@ mod cell_blocks;
 mod consistency;
 mod game;
 mod initial;
+mod level_cells;
 mod level_game;
 mod levels;
 mod propagate;
@@ -19,6 +20,7 @@ pub use build_room::BuildRoom;
 pub use consistency::{are_right, label};
 pub use game::{Game, Location};
 pub use initial::{Initial, initial_by_moves};
+pub use level_cells::LevelCells;
 pub use level_game::{LabelledGame, LevelGame};
 pub use levels::solve_cells;
 pub use propagate::{

@@ -6,50 +6,58 @@ ghost use Rattle.study_levels.specs.Propagation.{AreAdded, AreLowered, IsLowered
 ghost use Rattle.study_levels.specs.Numbered.{IsNumberedClass, LosesBy, NoLossBy, StepLeads};
 
 use crate::game::Game;
+use crate::level_cells::LevelCells;
 use crate::level_game::LabelledGame;
+use std::alloc::Allocator;
 use study_board::SquareSet;
 use study_values::Value;
 
 /// Sets a cell, unless it has as near a mate already.
-pub fn lower_cell(cells: &mut [u8], number: u32, cell: u8)
+#[inline]
+pub fn lower_cell<A: Allocator>(cells: &mut LevelCells<'_, A>, number: u32, cell: u8)
     requires number { number < length cells.old }
     requires cell { 0 < cell }
+    ensures size { length cells.new ≡ length cells.old }
     ensures rise { IsLowered number cell cells.old cells.new }
     ensures done { IsSetBy cell cells.new number }
 {
-    let known = cells[number as usize];
+    let known = cells.as_slice()[number as usize];
     if known == 0 || cell < known {
-        cells[number as usize] = cell;
+        cells.set(number, cell);
     }
 }
 
 /// Sets a cell, unless it has a mate already.
-pub fn mark_cell(cells: &mut [u8], number: u32, cell: u8)
+#[inline]
+pub fn mark_cell<A: Allocator>(cells: &mut LevelCells<'_, A>, number: u32, cell: u8)
     requires number { number < length cells.old }
     requires cell { 0 < cell }
+    ensures size { length cells.new ≡ length cells.old }
     ensures rise { IsMarked number cell cells.old cells.new }
     ensures done { slice_index cells.new number ≢ 0 }
 {
-    if cells[number as usize] == 0 {
-        cells[number as usize] = cell;
+    if cells.as_slice()[number as usize] == 0 {
+        cells.set(number, cell);
     }
 }
 
 /// Sets a cell to 0.
-fn clear_cell(cells: &mut [u8], number: u32)
+fn clear_cell<A: Allocator>(cells: &mut LevelCells<'_, A>, number: u32)
     requires number { number < length cells.old }
+    ensures size { length cells.new ≡ length cells.old }
     ensures each { (i : ℕ) → (slice_index cells.new i ≡ slice_index cells.old i) ⊎ (i ≡ number)
         × (slice_index cells.new i ≡ 0) }
     ensures here { slice_index cells.new number ≡ 0 }
 {
-    cells[number as usize] = 0;
+    cells.set(number, 0);
 }
 
 /// Sets to 0 the cells of a row whose squares are in the set.
-pub fn clear_in_row(cells: &mut [u8], row: u32, squares: SquareSet)
+pub fn clear_in_row<A: Allocator>(cells: &mut LevelCells<'_, A>, row: u32, squares: SquareSet)
     requires row { 64 * row ≤ length cells.old }
     requires small { length cells.old < 2 ^ 32 }
     requires squares { (y : ℕ) → y < 64 → has squares y ≡ true → 64 * row + y < length cells.old }
+    ensures size { length cells.new ≡ length cells.old }
     ensures each { (i : ℕ) → (slice_index cells.new i ≡ slice_index cells.old i)
         ⊎ ((y : ℕ) × (y < 64) × (has squares y ≡ true) × (i ≡ 64 * row + y))
         × (slice_index cells.new i ≡ 0) }
@@ -62,11 +70,17 @@ pub fn clear_in_row(cells: &mut [u8], row: u32, squares: SquareSet)
 }
 
 /// For a position that is lost in `level` plies: the positions before it are won in one more.
-pub fn lower_by_moves<G: Game>(game: &G, cells: &mut [u8], number: u32, level: u8) -> u64
+pub fn lower_by_moves<G: Game, A: Allocator>(
+    game: &G,
+    cells: &mut LevelCells<'_, A>,
+    number: u32,
+    level: u8,
+) -> u64
     requires laws { IsNumberedClass (G.numbered game.now) }
     requires level { level < 254 }
     requires number { number < (G.numbered game.now).size }
     requires cells { length cells.old ≡ (G.numbered game.now).size }
+    ensures size { length cells.new ≡ length cells.old }
     ensures rise { AreLowered (λ i.
         StepLeads (G.numbered game.now) i number) level cells.old cells.new }
     ensures done { (i : ℕ) → StepLeads (G.numbered game.now) i number
@@ -80,11 +94,17 @@ pub fn lower_by_moves<G: Game>(game: &G, cells: &mut [u8], number: u32, level: u
 }
 
 /// For a position that is won in `level` plies: the positions before it are marked, unless they have a mate.
-pub fn mark_by_moves<G: Game>(game: &G, cells: &mut [u8], number: u32, level: u8) -> u64
+pub fn mark_by_moves<G: Game, A: Allocator>(
+    game: &G,
+    cells: &mut LevelCells<'_, A>,
+    number: u32,
+    level: u8,
+) -> u64
     requires laws { IsNumberedClass (G.numbered game.now) }
     requires level { level < 254 }
     requires number { number < (G.numbered game.now).size }
     requires cells { length cells.old ≡ (G.numbered game.now).size }
+    ensures size { length cells.new ≡ length cells.old }
     ensures rise { AreAdded (λ i.
         StepLeads (G.numbered game.now) i number) level cells.old cells.new }
     ensures done { (i : ℕ) → StepLeads (G.numbered game.now) i number

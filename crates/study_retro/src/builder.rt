@@ -60,11 +60,12 @@ pub fn build<'a, A: Allocator>(
     }
     let _held = tables.table(class);
     let game = ClassGame { class, tables };
-    let mut cells = room.into_cells();
-    let filled = solve_cells(&game, cells.as_mut_slice());
+    let mut level_cells = room.into_cells();
+    let filled = solve_cells(&game, &mut level_cells);
     if !filled.fits {
         return Err(BuildFault::DistanceTooLarge);
     }
+    let cells = level_cells.into_cells();
     let deepest = greatest_distances(cells.as_slice());
     let report = BuildReport {
         cells: study_values::cells(class),

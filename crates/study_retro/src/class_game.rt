@@ -21,7 +21,9 @@ use arrayvec::ArrayVec;
 use std::alloc::Allocator;
 use study_board::{Position, SquareSet, is_occupied};
 use study_index::{decode, index, index_after_move};
-use study_levels::{Game, Initial, LabelledGame, LevelGame, Location, initial_by_moves, label};
+use study_levels::{
+    Game, Initial, LabelledGame, LevelCells, LevelGame, Location, initial_by_moves, label,
+};
 use study_material::{Class, class_of};
 use study_moves::{Move, MoveList, is_mate, legal_moves, played};
 use study_table::TableSet;
@@ -158,7 +160,13 @@ impl<'t, 'a, A: Allocator> LevelGame for ClassGame<'t, 'a, A> {
         quiet_squares_in_row(self.class, row)
     }
 
-    fn lower_before(&self, cells: &mut [u8], row: u32, decided: SquareSet, level: u8) -> u64 {
+    fn lower_before<B: Allocator>(
+        &self,
+        cells: &mut LevelCells<'_, B>,
+        row: u32,
+        decided: SquareSet,
+        level: u8,
+    ) -> u64 {
         if row >= EN_PASSANT_BIT / 64 {
             return lower_one_by_one(self, cells, row, decided, level);
         }
@@ -169,7 +177,13 @@ impl<'t, 'a, A: Allocator> LevelGame for ClassGame<'t, 'a, A> {
         write_before_row(self.class, cells, row, decided, change)
     }
 
-    fn mark_before(&self, cells: &mut [u8], row: u32, decided: SquareSet, level: u8) -> u64 {
+    fn mark_before<B: Allocator>(
+        &self,
+        cells: &mut LevelCells<'_, B>,
+        row: u32,
+        decided: SquareSet,
+        level: u8,
+    ) -> u64 {
         if row >= EN_PASSANT_BIT / 64 {
             return mark_one_by_one(self, cells, row, decided, level);
         }

@@ -9,9 +9,10 @@ ghost use Rattle.study_levels.specs.Propagation.{AreSet, IsSetWhere};
 
 use crate::mover::Mover;
 use crate::numbers::en_passant::{has_en_passant, leads_to_number_from};
+use std::alloc::Allocator;
 use study_board::{Man, Square};
 use study_index::{IndexAfterMove, decode_men};
-use study_levels::{lower_cell, mark_cell};
+use study_levels::{LevelCells, lower_cell, mark_cell};
 use study_material::Class;
 use study_moves::unmove_origins;
 use study_values::EN_PASSANT_BIT;
@@ -25,9 +26,10 @@ pub struct CellWrite {
 
 /// Sets a cell, unless it has a mate already, or, if `over`, one as near.
 #[inline]
-pub fn write_cell(cells: &mut [u8], number: u32, change: CellWrite)
+pub fn write_cell<A: Allocator>(cells: &mut LevelCells<'_, A>, number: u32, change: CellWrite)
     requires number { number < length cells.old }
     requires cell { 0 < change.cell }
+    ensures size { length cells.new ≡ length cells.old }
     ensures rise { AreSet (λ i. i ≡ number) change.cell change.over cells.old cells.new }
     ensures done { IsSetWhere change.cell change.over cells.new number }
 {
@@ -40,14 +42,15 @@ pub fn write_cell(cells: &mut [u8], number: u32, change: CellWrite)
 
 /// Sets the cells of the positions from which a quiet move of the man, from the square, leads to the position that the departure goes back from.
 #[inline]
-pub fn write_from(
+pub fn write_from<A: Allocator>(
     class: Class,
-    cells: &mut [u8],
+    cells: &mut LevelCells<'_, A>,
     man: &Man,
     departure: &IndexAfterMove,
     origin: Square,
     change: CellWrite,
 )
+    // Many clauses: what the caller has already found of the numbers is required, fact by fact.
     requires class { departure.now.class ≡ class }
     requires from { departure.now.from ≡ man.now.at }
     requires numbered { (q : Seen) × (position_numbered class departure.now.number ≡ Some q) }
@@ -56,6 +59,7 @@ pub fn write_from(
         → CanHaveLed q (move_from man.now origin) }
     requires cell { 0 < change.cell }
     requires cells { length cells.old ≡ cells_of class }
+    ensures size { length cells.new ≡ length cells.old }
     ensures rise { AreSet (IsBeforeFrom class departure.now.number man.now origin) change.cell
         change.over cells.old cells.new }
     ensures done { (n : ℕ) → IsBeforeFrom class departure.now.number man.now origin n
@@ -73,9 +77,9 @@ pub fn write_from(
 
 /// Sets the cells of the positions from which a quiet move of the man leads to the position of this number, and returns the number of these positions.
 #[inline]
-pub fn write_before_man(
+pub fn write_before_man<A: Allocator>(
     class: Class,
-    cells: &mut [u8],
+    cells: &mut LevelCells<'_, A>,
     number: u32,
     mover: Mover<'_>,
     slot: u32,
@@ -87,6 +91,7 @@ pub fn write_before_man(
     requires man { Contains mover.setup.now.men.items mover.man.now }
     requires cell { 0 < change.cell }
     requires cells { length cells.old ≡ cells_of class }
+    ensures size { length cells.new ≡ length cells.old }
     ensures rise { AreSet (IsBeforeBy class number mover.entry.man.now) change.cell
         change.over cells.old cells.new }
     ensures done { (n : ℕ) → IsBeforeBy class number mover.entry.man.now n
@@ -105,11 +110,17 @@ pub fn write_before_man(
 }
 
 /// Sets the cells of the positions from which a quiet move leads to the position of this number, and returns the number of these positions.
-pub fn write_before(class: Class, cells: &mut [u8], number: u32, change: CellWrite) -> u64
+pub fn write_before<A: Allocator>(
+    class: Class,
+    cells: &mut LevelCells<'_, A>,
+    number: u32,
+    change: CellWrite,
+) -> u64
     requires numbered { (q : Seen) × (position_numbered class number ≡ Some q) }
     requires plain { number < 16777216 }
     requires cell { 0 < change.cell }
     requires cells { length cells.old ≡ cells_of class }
+    ensures size { length cells.new ≡ length cells.old }
     ensures rise { AreSet (IsBefore class number) change.cell change.over cells.old cells.new }
     ensures done { (n : ℕ) → IsBefore class number n
         → IsSetWhere change.cell change.over cells.new n }

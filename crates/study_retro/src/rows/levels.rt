@@ -17,13 +17,15 @@ use crate::numbers::quiet::stays;
 use std::alloc::Allocator;
 use study_board::SquareSet;
 use study_index::decode_men;
-use study_levels::{Game, LabelledGame, is_lost_by_moves, lower_by_moves, mark_by_moves};
+use study_levels::{
+    Game, LabelledGame, LevelCells, is_lost_by_moves, lower_by_moves, mark_by_moves,
+};
 use study_material::Class;
 
 /// For positions of a row that are lost in `level` plies: the positions before them are won in one more. Each is gone back from by its moves.
-pub fn lower_one_by_one<G: Game>(
+pub fn lower_one_by_one<G: Game, A: Allocator>(
     game: &G,
-    cells: &mut [u8],
+    cells: &mut LevelCells<'_, A>,
     row: u32,
     decided: SquareSet,
     level: u8,
@@ -32,6 +34,7 @@ pub fn lower_one_by_one<G: Game>(
     requires level { level < 254 }
     requires numbered { HavePositions (G.numbered game.now) row decided }
     requires cells { length cells.old ≡ (G.numbered game.now).size }
+    ensures size { length cells.new ≡ length cells.old }
     ensures rise { AreLowered (LeadsIntoRow (G.numbered game.now) row decided)
         level cells.old cells.new }
     ensures done { (i y : ℕ) → y < 64 → has decided y ≡ true
@@ -47,9 +50,9 @@ pub fn lower_one_by_one<G: Game>(
 }
 
 /// For positions of a row that are won in `level` plies: the positions before them are marked, if they have no mate yet. Each is gone back from by its moves.
-pub fn mark_one_by_one<G: Game>(
+pub fn mark_one_by_one<G: Game, A: Allocator>(
     game: &G,
-    cells: &mut [u8],
+    cells: &mut LevelCells<'_, A>,
     row: u32,
     decided: SquareSet,
     level: u8,
@@ -58,6 +61,7 @@ pub fn mark_one_by_one<G: Game>(
     requires level { level < 254 }
     requires numbered { HavePositions (G.numbered game.now) row decided }
     requires cells { length cells.old ≡ (G.numbered game.now).size }
+    ensures size { length cells.new ≡ length cells.old }
     ensures rise { AreAdded (LeadsIntoRow (G.numbered game.now) row decided)
         level cells.old cells.new }
     ensures done { (i y : ℕ) → y < 64 → has decided y ≡ true
@@ -103,9 +107,9 @@ pub fn lost_one_by_one<G: LabelledGame>(
 
 /// Sets the cells of the positions from which a quiet move leads to the position of a number of the row whose square is in the set,
 /// and returns the number of these positions.
-pub fn write_before_each(
+pub fn write_before_each<A: Allocator>(
     class: Class,
-    cells: &mut [u8],
+    cells: &mut LevelCells<'_, A>,
     row: u32,
     decided: SquareSet,
     change: CellWrite,
@@ -114,6 +118,7 @@ pub fn write_before_each(
     requires plain { 64 * row < 16777216 }
     requires cell { 0 < change.cell }
     requires cells { length cells.old ≡ cells_of class }
+    ensures size { length cells.new ≡ length cells.old }
     ensures rise { AreSet (IsBeforeRow class row decided) change.cell
         change.over cells.old cells.new }
     ensures done { (n y : ℕ) → y < 64 → has decided y ≡ true → IsBefore class (64 * row + y) n

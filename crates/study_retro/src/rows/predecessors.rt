@@ -21,19 +21,27 @@ use crate::rows::checks::{CheckInfo, squares_of_check};
 use crate::rows::levels::write_before_each;
 use crate::rows::moves::{origins_among, origins_of_last, squares_allowing_unmove};
 use crate::rows::row::Row;
+use std::alloc::Allocator;
 use study_board::{Kind, Man, Side, Square, SquareSet, between};
 use study_index::{IndexAfterMove, RowIndexAfterMove, decode_men, row_of_last_man};
+use study_levels::LevelCells;
 use study_material::Class;
 use study_values::EN_PASSANT_BIT;
 
 /// Sets the cell of a number without the bit of a capture in passing, and the cell of the number with the bit, if that has a position: each unless it has a
 /// mate already, or, if `over`, one as near.
 #[inline(always)]
-fn write_with_twin(class: Class, cells: &mut [u8], number: u32, change: CellWrite)
+fn write_with_twin<A: Allocator>(
+    class: Class,
+    cells: &mut LevelCells<'_, A>,
+    number: u32,
+    change: CellWrite,
+)
     requires number { number < cells_of class }
     requires plain { number < 16777216 }
     requires cell { 0 < change.cell }
     requires cells { length cells.old ≡ cells_of class }
+    ensures size { length cells.new ≡ length cells.old }
     ensures rise { AreSet (IsItOrTwin class number) change.cell change.over cells.old cells.new }
     ensures done { (n : ℕ) → IsItOrTwin class number n
         → IsSetWhere change.cell change.over cells.new n }
@@ -46,12 +54,19 @@ fn write_with_twin(class: Class, cells: &mut [u8], number: u32, change: CellWrit
 
 /// Sets the cells of some numbers of a row, each as `write_with_twin` does.
 #[inline]
-fn write_row(class: Class, cells: &mut [u8], row: u32, set: SquareSet, change: CellWrite)
+fn write_row<A: Allocator>(
+    class: Class,
+    cells: &mut LevelCells<'_, A>,
+    row: u32,
+    set: SquareSet,
+    change: CellWrite,
+)
     requires numbers { (y : ℕ) → y < 64 → has set y ≡ true → (64 * row + y < cells_of class)
         × (64 * row + y < 16777216) }
     requires row { row < 1048576 }
     requires cell { 0 < change.cell }
     requires cells { length cells.old ≡ cells_of class }
+    ensures size { length cells.new ≡ length cells.old }
     ensures rise { AreSet (IsInRowOrTwin class row set) change.cell
         change.over cells.old cells.new }
     ensures done { (n y : ℕ) → y < 64 → has set y ≡ true → IsItOrTwin class (64 * row + y) n
@@ -66,8 +81,8 @@ fn write_row(class: Class, cells: &mut [u8], row: u32, set: SquareSet, change: C
 /// Sets the cells of the positions from which a quiet move of the man, from the square, leads to positions of the row that the
 /// departure goes back from: number by number.
 #[inline]
-fn write_predecessors_one_by_one(
-    cells: &mut [u8],
+fn write_predecessors_one_by_one<A: Allocator>(
+    cells: &mut LevelCells<'_, A>,
     departure: &RowIndexAfterMove,
     led: SquareSet,
     man: &Man,
@@ -80,6 +95,7 @@ fn write_predecessors_one_by_one(
     requires led { CanAllHaveLed departure.now.class departure.now.row led man.now origin }
     requires cell { 0 < change.cell }
     requires cells { length cells.old ≡ cells_of departure.now.class }
+    ensures size { length cells.new ≡ length cells.old }
     ensures rise { AreSet (IsBeforeRowFrom departure.now.class departure.now.row led man.now origin)
         change.cell change.over cells.old cells.new }
     ensures done { (n y : ℕ) → y < 64 → has led y ≡ true
@@ -96,14 +112,15 @@ fn write_predecessors_one_by_one(
 
 /// `write_predecessors_one_by_one` for a move that leaves no capture in passing: the numbers come from the departure.
 #[inline]
-fn write_moved_one_by_one(
-    cells: &mut [u8],
+fn write_moved_one_by_one<A: Allocator>(
+    cells: &mut LevelCells<'_, A>,
     departure: &RowIndexAfterMove,
     led: SquareSet,
     man: &Man,
     origin: Square,
     change: CellWrite,
 )
+    // Many clauses: what the caller has already found of the numbers is required, fact by fact.
     requires from { departure.now.from ≡ man.now.at }
     requires passes { PassesNone departure.now.class origin man.now.at }
     requires numbered { AreNumbered departure.now.class departure.now.row led }
@@ -111,6 +128,7 @@ fn write_moved_one_by_one(
     requires led { CanAllHaveLed departure.now.class departure.now.row led man.now origin }
     requires cell { 0 < change.cell }
     requires cells { length cells.old ≡ cells_of departure.now.class }
+    ensures size { length cells.new ≡ length cells.old }
     ensures rise { AreSet (IsBeforeRowFrom departure.now.class departure.now.row led man.now origin)
         change.cell change.over cells.old cells.new }
     ensures done { (n y : ℕ) → y < 64 → has led y ≡ true
@@ -126,8 +144,8 @@ fn write_moved_one_by_one(
 
 /// `write_predecessors_one_by_one`, at once if the numbers before are a row and the move leaves no capture in passing.
 #[inline]
-fn write_predecessors(
-    cells: &mut [u8],
+fn write_predecessors<A: Allocator>(
+    cells: &mut LevelCells<'_, A>,
     departure: &RowIndexAfterMove,
     led: SquareSet,
     man: &Man,
@@ -141,6 +159,7 @@ fn write_predecessors(
     requires led { CanAllHaveLed departure.now.class departure.now.row led man.now origin }
     requires cell { 0 < change.cell }
     requires cells { length cells.old ≡ cells_of departure.now.class }
+    ensures size { length cells.new ≡ length cells.old }
     ensures rise { AreSet (IsBeforeRowFrom departure.now.class departure.now.row led man.now origin)
         change.cell change.over cells.old cells.new }
     ensures done { (n y : ℕ) → y < 64 → has led y ≡ true
@@ -158,9 +177,9 @@ fn write_predecessors(
 
 /// Sets the cells of the positions from which a quiet move of one of the other men leads to some positions of a row, and returns the
 /// number of these positions: number by number.
-fn write_before_man_each(
+fn write_before_man_each<A: Allocator>(
     row: &Row,
-    cells: &mut [u8],
+    cells: &mut LevelCells<'_, A>,
     decided: SquareSet,
     man: &Man,
     slot: u32,
@@ -170,6 +189,7 @@ fn write_before_man_each(
     requires man { Contains row.now.others.items man.now }
     requires cell { 0 < change.cell }
     requires cells { length cells.old ≡ cells_of row.now.class }
+    ensures size { length cells.new ≡ length cells.old }
     ensures rise { AreSet (IsBeforeRowBy row.now.class row.now.number decided man.now) change.cell
         change.over cells.old cells.new }
     ensures done { (n y : ℕ) → y < 64 → has decided y ≡ true
@@ -188,9 +208,9 @@ fn write_before_man_each(
 }
 
 /// `write_before_man_each` with the common part of the numbers computed once.
-fn write_before_man_from(
+fn write_before_man_from<A: Allocator>(
     row: &Row,
-    cells: &mut [u8],
+    cells: &mut LevelCells<'_, A>,
     decided: SquareSet,
     man: &Man,
     slot: u32,
@@ -206,6 +226,7 @@ fn write_before_man_from(
     requires man { Contains row.now.others.items man.now }
     requires cell { 0 < change.cell }
     requires cells { length cells.old ≡ cells_of row.now.class }
+    ensures size { length cells.new ≡ length cells.old }
     ensures rise { AreSet (IsBeforeRowBy row.now.class row.now.number decided man.now) change.cell
         change.over cells.old cells.new }
     ensures done { (n y : ℕ) → y < 64 → has decided y ≡ true
@@ -224,9 +245,9 @@ fn write_before_man_from(
 }
 
 /// `write_before_man_from` for a man of any side: only men of the side that moved go back.
-fn write_before_man_of_row(
+fn write_before_man_of_row<A: Allocator>(
     row: &Row,
-    cells: &mut [u8],
+    cells: &mut LevelCells<'_, A>,
     decided: SquareSet,
     man: &Man,
     slot: u32,
@@ -236,6 +257,7 @@ fn write_before_man_of_row(
     requires man { Contains row.now.others.items man.now }
     requires cell { 0 < change.cell }
     requires cells { length cells.old ≡ cells_of row.now.class }
+    ensures size { length cells.new ≡ length cells.old }
     ensures rise { AreSet (IsBeforeRowBy row.now.class row.now.number decided man.now) change.cell
         change.over cells.old cells.new }
     ensures done { (n y : ℕ) → y < 64 → has decided y ≡ true
@@ -255,10 +277,16 @@ fn write_before_man_of_row(
 
 /// Sets the cells of the positions from which a quiet move of the last man leads to some positions of a row, and returns the
 /// number of these positions: number by number.
-fn write_before_last_each(row: &Row, cells: &mut [u8], decided: SquareSet, change: CellWrite) -> u64
+fn write_before_last_each<A: Allocator>(
+    row: &Row,
+    cells: &mut LevelCells<'_, A>,
+    decided: SquareSet,
+    change: CellWrite,
+) -> u64
     requires numbered { AreNumbered row.now.class row.now.number decided }
     requires cell { 0 < change.cell }
     requires cells { length cells.old ≡ cells_of row.now.class }
+    ensures size { length cells.new ≡ length cells.old }
     ensures rise { AreSet (IsBeforeRow row.now.class row.now.number decided) change.cell
         change.over cells.old cells.new }
     ensures done { (n y : ℕ) → y < 64 → has decided y ≡ true
@@ -352,13 +380,14 @@ fn passing_squares(class: Class, last: &Man) -> SquareSet
 }
 
 /// Steps back by the last man at once, if the numbers before are a row and no move leaves a capture in passing.
-fn write_before_last_at_once(
+fn write_before_last_at_once<A: Allocator>(
     row: &Row,
-    cells: &mut [u8],
+    cells: &mut LevelCells<'_, A>,
     decided: SquareSet,
     before: u32,
     change: CellWrite,
 ) -> u64
+    // Many clauses: what the caller has already found of the numbers is required, fact by fact.
     requires side { same_side row.now.last.side (other_side row.now.to_move) ≡ true }
     requires numbered { AreNumbered row.now.class row.now.number decided }
     requires plainly { (y : ℕ) → y < 64 → has decided y ≡ true
@@ -369,6 +398,7 @@ fn write_before_last_at_once(
     requires small { before < 1048576 }
     requires cell { 0 < change.cell }
     requires cells { length cells.old ≡ cells_of row.now.class }
+    ensures size { length cells.new ≡ length cells.old }
     ensures rise { AreSet (IsBeforeRow row.now.class row.now.number decided) change.cell
         change.over cells.old cells.new }
     ensures done { (n y : ℕ) → y < 64 → has decided y ≡ true
@@ -381,9 +411,9 @@ fn write_before_last_at_once(
 }
 
 /// Steps back by the last man at once, except from the squares to which a move may leave a capture in passing.
-fn write_before_last_apart(
+fn write_before_last_apart<A: Allocator>(
     row: &Row,
-    cells: &mut [u8],
+    cells: &mut LevelCells<'_, A>,
     decided: SquareSet,
     before: u32,
     change: CellWrite,
@@ -396,6 +426,7 @@ fn write_before_last_apart(
     requires small { before < 1048576 }
     requires cell { 0 < change.cell }
     requires cells { length cells.old ≡ cells_of row.now.class }
+    ensures size { length cells.new ≡ length cells.old }
     ensures rise { AreSet (IsBeforeRow row.now.class row.now.number decided) change.cell
         change.over cells.old cells.new }
     ensures done { (n y : ℕ) → y < 64 → has decided y ≡ true
@@ -409,10 +440,16 @@ fn write_before_last_apart(
 }
 
 /// Steps back by the last man, of any side: at once if the numbers before are a row and no move leaves a capture in passing.
-fn write_before_last(row: &Row, cells: &mut [u8], decided: SquareSet, change: CellWrite) -> u64
+fn write_before_last<A: Allocator>(
+    row: &Row,
+    cells: &mut LevelCells<'_, A>,
+    decided: SquareSet,
+    change: CellWrite,
+) -> u64
     requires numbered { AreNumbered row.now.class row.now.number decided }
     requires cell { 0 < change.cell }
     requires cells { length cells.old ≡ cells_of row.now.class }
+    ensures size { length cells.new ≡ length cells.old }
     ensures rise { AreSet (IsBeforeRow row.now.class row.now.number decided) change.cell
         change.over cells.old cells.new }
     ensures done { (n y : ℕ) → y < 64 → has decided y ≡ true
@@ -429,10 +466,16 @@ fn write_before_last(row: &Row, cells: &mut [u8], decided: SquareSet, change: Ce
 }
 
 /// Steps back by all men.
-fn write_before_men(row: &Row, cells: &mut [u8], decided: SquareSet, change: CellWrite) -> u64
+fn write_before_men<A: Allocator>(
+    row: &Row,
+    cells: &mut LevelCells<'_, A>,
+    decided: SquareSet,
+    change: CellWrite,
+) -> u64
     requires numbered { AreNumbered row.now.class row.now.number decided }
     requires cell { 0 < change.cell }
     requires cells { length cells.old ≡ cells_of row.now.class }
+    ensures size { length cells.new ≡ length cells.old }
     ensures rise { AreSet (IsBeforeRow row.now.class row.now.number decided) change.cell
         change.over cells.old cells.new }
     ensures done { (n y : ℕ) → y < 64 → has decided y ≡ true
@@ -449,9 +492,9 @@ fn write_before_men(row: &Row, cells: &mut [u8], decided: SquareSet, change: Cel
 
 /// Sets the cells of the positions from which a quiet move leads to the position of a number of the row whose square is in the set,
 /// and returns the number of these positions.
-pub fn write_before_row(
+pub fn write_before_row<A: Allocator>(
     class: Class,
-    cells: &mut [u8],
+    cells: &mut LevelCells<'_, A>,
     row: u32,
     decided: SquareSet,
     change: CellWrite,
@@ -460,6 +503,7 @@ pub fn write_before_row(
     requires plain { 64 * row < 16777216 }
     requires cell { 0 < change.cell }
     requires cells { length cells.old ≡ cells_of class }
+    ensures size { length cells.new ≡ length cells.old }
     ensures rise { AreSet (IsBeforeRow class row decided) change.cell
         change.over cells.old cells.new }
     ensures done { (n y : ℕ) → y < 64 → has decided y ≡ true → IsBefore class (64 * row + y) n

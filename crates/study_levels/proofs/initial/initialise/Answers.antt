@@ -21,7 +21,7 @@ loop-number-preserved g c =
     let few : e ≤ 64 * (n / 64) + 64 = end.row in
     let within : e ≤ (g.G.Game.numbered c.args.game.now).size = (let w = end.within in omega (arith, w, size-is)) in
     let low : n < (g.G.Game.numbered c.args.game.now).size = omega (arith, above, within) in
-    let size : length new ≡ (g.G.Game.numbered c.args.game.now).size = c.initialise_row.auto.cells ∙ inv.size in
+    let size : length new ≡ (g.G.Game.numbered c.args.game.now).size = c.initialise_row.ensures.size ∙ inv.size in
     let more : (c.loop-number.far ≡ true → c.if-initialise_row.far ≡ true) × (c.initialise_row.result ≡ true → c.if-initialise_row.far ≡ true) =
     elim c.if-initialise_row.branch [
       | then-initialise_row w ↦ (λ x. w.far-is, λ x. w.far-is)

@@ -34,7 +34,7 @@ loop-square-preserved g c =
     λ Q before here. taken-too c.args.squares set c.in-Some.square c.next.new.self f Q before (subst Q same here) in
     record {
       among = still-among c.args.squares set c.in-Some.square c.next.new.self f inv.among;
-      size = c.write_first-far.auto.cells ∙ inv.size;
+      size = c.write_first-far.ensures.size ∙ inv.size;
       other = λ i out.
           kept i (λ e. (let on = f.inside in elim out [ inl l ↦ omega (arith, l, e) | inr l ↦ omega (arith, l, e, on, same) ])) ∙ inv.other i out;
       kept = λ y on e.

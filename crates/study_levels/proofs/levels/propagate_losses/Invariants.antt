@@ -1,18 +1,18 @@
-use Rattle.std.proofs.Common.{◌≡◌, ◌≢◌, ℕ, ◌+◌, ◌<◌, ◌≤◌, length, slice_index, ◌-◌}
+use Rattle.std.proofs.Common.{◌≡◌, ◌≢◌, ℕ, ◌+◌, ◌*◌, ◌<◌, ◌≤◌, length, slice_index, ◌-◌}
 use Rattle.study_levels.specs.Propagation.{AreLowered}
 use Rattle.study_levels.specs.Numbered.{CellsHavePositions, StepLeads}
 use Rattle.study_levels.proofs.levels.propagate_losses.Given as goal
 
-abbrev pub invariant-loop-number : goal.invariant-loop-number
-invariant-loop-number g l = record {
-  there : l.number ≤ (g.G.Game.numbered l.game).size;
+abbrev pub invariant-loop-row : goal.invariant-loop-row
+invariant-loop-row g l = record {
+  there : 64 * l.row < length l.cells + 64;
   size : length l.cells ≡ (g.G.Game.numbered l.game).size;
   numbered : CellsHavePositions (g.G.Game.numbered l.game) l.cells;
   rise : AreLowered (λ i. (j : ℕ) × (slice_index l.initial.cells j ≡ l.level + 1) × StepLeads (g.G.Game.numbered l.game) i j) l.level l.initial.cells l.cells;
-  done : (j : ℕ) → j < l.number → (i : ℕ) → slice_index l.initial.cells j ≡ l.level + 1
+  done : (j : ℕ) → j < 64 * l.row → j < (g.G.Game.numbered l.game).size → (i : ℕ) → slice_index l.initial.cells j ≡ l.level + 1
       → StepLeads (g.G.Game.numbered l.game) i j → (slice_index l.cells i ≢ 0)
       × (slice_index l.cells i ≤ l.level + 2);
 }
 
-abbrev pub decreases-loop-number : goal.decreases-loop-number
-decreases-loop-number g l = (g.G.Game.numbered l.game).size - l.number
+abbrev pub decreases-loop-row : goal.decreases-loop-row
+decreases-loop-row g l = l.rows - l.row

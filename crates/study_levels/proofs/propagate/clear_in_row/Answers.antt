@@ -4,7 +4,7 @@ use Rattle.study_levels.proofs.SquaresLeft.{still-among, taken-too}
 use Rattle.study_levels.proofs.propagate.clear_in_row.Goals as goal
 
 pub clear_cell-requires : goal.clear_cell-requires
-clear_cell-requires c =
+clear_cell-requires g c =
     let f = first-of _ _ _ c.in-Some.ensures.steps in
     let inv = c.loop-square.invariant in
     let same : c.from.result ≡ c.in-Some.square = c.from.ensures ∙ c.number.ensures.value in
@@ -12,7 +12,7 @@ clear_cell-requires c =
     omega (arith, same, low, inv.size)
 
 pub loop-square-preserved : goal.loop-square-preserved
-loop-square-preserved c =
+loop-square-preserved g c =
     let f = first-of _ _ _ c.in-Some.ensures.steps in
     let inv = c.loop-square.invariant in
     let x = c.in-Some.square in
@@ -22,7 +22,7 @@ loop-square-preserved c =
     let same : c.from.result ≡ x = c.from.ensures ∙ c.number.ensures.value in
     record {
       among = still-among c.args.squares set x c.next.new.self f inv.among;
-      size = c.clear_cell.auto.cells ∙ inv.size;
+      size = c.clear_cell.ensures.size ∙ inv.size;
       each = λ i. elim (c.clear_cell.ensures.each i) [
         | inl stays ↦ elim (inv.each i) [ inl before ↦ inl (stays ∙ before) | inr before ↦ inr (before.0, stays ∙ before.1) ]
         | inr here ↦ inr ((x, f.inside, inv.among x f.inside f.there, here.0 ∙ ap (λ (k : ℕ). 64 * c.args.row + k) same), here.1)
@@ -36,4 +36,4 @@ loop-square-preserved c =
     }
 
 pub returns-clause-done : goal.returns-clause-done
-returns-clause-done c = λ y on e. c.loop-square.invariant.done y on e (none-of-empty _ c.in-None.ensures.steps.0 y on)
+returns-clause-done g c = λ y on e. c.loop-square.invariant.done y on e (none-of-empty _ c.in-None.ensures.steps.0 y on)

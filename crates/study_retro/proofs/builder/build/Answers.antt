@@ -1,5 +1,4 @@
-use Rattle.std.proofs.Common.{◌≡◌, ◌∙◌, ℕ, Bool, true, false, not, List, ◌++◌, length, take, refl, sym, ap, subst}
-use Rattle.std.proofs.Math.Seq.{take-append_seam}
+use Rattle.std.proofs.Common.{◌≡◌, ◌∙◌, ℕ, Bool, true, false, not, List, refl, sym, ap, subst}
 use Rattle.study_table.specs.Table.{Table}
 use Rattle.study_retro.specs.Report.{IsGreatest, win_of, loss_of}
 use Rattle.study_table.proofs.ChessClass.{chess_class}
@@ -14,10 +13,6 @@ fits_where false e = sym e
 unfit_where : (b : Bool) → not b ≡ true → b ≡ false
 unfit_where true e = sym e
 unfit_where false e = refl
-
--- the contents of a slice, written back into a vector of its length
-written : (n : ℕ) (xs zs : List ℕ) → length xs ≡ n → take n (xs ++ zs) ≡ xs
-written n xs zs e = subst (λ (m : ℕ). take m (xs ++ zs) ≡ xs) e (take-append_seam xs zs)
 
 pub invariant_of-game : goal.invariant_of-game
 invariant_of-game g c = record {
@@ -42,8 +37,7 @@ returns-clause-right g c = λ needs.
     let outer = outside_right held c.args.class c.table-held.ensures.closed ready needs in
     let right = c.solve_cells-filled.ensures.right outer (fits_where c.solve_cells-filled.result.fits c.if-not-filled.false) in
     table_right c.from_cells.result c.args.class c.solve_cells-filled.new.cells (sym (ap (λ (t : Table). t.class) c.from_cells.ensures))
-    (sym (ap (λ (t : Table). t.cells) c.from_cells.ensures ∙ written _ c.solve_cells-filled.new.cells _ (c.solve_cells-filled.auto.cells
-    ∙ c.as_mut_slice.ensures.len))) right
+    (sym (ap (λ (t : Table). t.cells) c.from_cells.ensures ∙ c.into_cells-cells.ensures.value)) right
 
 pub returns-clause-deepest_win : goal.returns-clause-deepest_win
 returns-clause-deepest_win g c =

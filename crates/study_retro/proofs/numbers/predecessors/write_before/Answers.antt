@@ -9,21 +9,21 @@ use Rattle.study_retro.proofs.BackLemmas.{set-then, set-kept, set-why, before_fo
 use Rattle.study_retro.proofs.numbers.predecessors.write_before.Goals as goal
 
 pub loop-slot-init : goal.loop-slot-init
-loop-slot-init c = record {
+loop-slot-init g c = record {
   size = c.requires.cells;
   rise = λ i. inl refl;
   done = λ m i. absurd (let l = i.1 in omega (arith, l));
 }
 
 pub write_before_man-more-requires-clause-man : goal.write_before_man-more-requires-clause-man
-write_before_man-more-requires-clause-man c =
+write_before_man-more-requires-clause-man g c =
     let men = c.as_slice-man-items.result.now in
     let there : Contains men c.man-item.result = subst (λ (x : Man). Contains men x) (sym c.man-item.is)
     (Contains-get_or men c.loop-slot.slot _ c.loop-slot-test.true) in
     subst (λ (xs : List Man). Contains xs c.man-item.result) c.as_slice-man-items.ensures.value there
 
 pub loop-slot-preserved : goal.loop-slot-preserved
-loop-slot-preserved c =
+loop-slot-preserved g c =
     let inv = c.loop-slot.invariant in
     let m = c.man-item.result in
     let men = c.as_slice-man-items.result.now in
@@ -36,7 +36,7 @@ loop-slot-preserved c =
     let more : AreSet Why k over mid new =
     set-why k over (IsBeforeBy c.args.class c.args.number m) Why mid new (λ i b. (m, b)) c.write_before_man-more.ensures.rise in
     record {
-      size = c.write_before_man-more.auto.cells ∙ inv.size;
+      size = c.write_before_man-more.ensures.size ∙ inv.size;
       rise = set-then k over Why c.args.cells.now mid new inv.rise more;
       done = each-more Q men c.loop-slot.slot m c.loop-slot-test.true
           (λ x i n b. set-kept k over Why mid new more c.requires.cell n (inv.done x i n b))
@@ -44,7 +44,7 @@ loop-slot-preserved c =
     }
 
 pub returns-clause-done : goal.returns-clause-done
-returns-clause-done c = λ n b.
+returns-clause-done g c = λ n b.
     let men = c.as_slice-man-items.result.now in
     let t = before_found c.args.class c.args.number c.requires.numbered.0 c.requires.numbered.1 c.decode_men-setup.result.men.items
     c.decode_men-setup.result.to_move

@@ -8,11 +8,11 @@ use Rattle.study_retro.proofs.numbers.predecessors.write_from.Goals as goal
 
 -- a move that lands on another number is not before this one
 pub returns-then-not-leads_to_number_from-clause-done : goal.returns-then-not-leads_to_number_from-clause-done
-returns-then-not-leads_to_number_from-clause-done c = λ n b.
+returns-then-not-leads_to_number_from-clause-done g c = λ n b.
     absurd (false≢true (sym c.if-not-leads_to_number_from.true ∙ (c.leads_to_number_from.ensures b.to b.before.from b.at b.before.leads).1 b.before.lands))
 
 pub write_cell-requires-clause-number : goal.write_cell-requires-clause-number
-write_cell-requires-clause-number c =
+write_cell-requires-clause-number g c =
     let class = c.args.class in
     let number = c.args.departure.now.number in
     let man = c.args.man.now in
@@ -28,7 +28,7 @@ write_cell-requires-clause-number c =
     subst (λ (m : ℕ). k < m) (sym c.requires.cells) (before_below class number man a k (is_before class number q at man a k fits led lands))
 
 pub has_en_passant-requires : goal.has_en_passant-requires
-has_en_passant-requires c =
+has_en_passant-requires g c =
     let class = c.args.class in
     let number = c.args.departure.now.number in
     let man = c.args.man.now in
@@ -42,7 +42,7 @@ has_en_passant-requires c =
     small_before class number q at man a k fits (c.requires.led q at)
 
 pub write_cell-requires-then-has_en_passant-clause-number : goal.write_cell-requires-then-has_en_passant-clause-number
-write_cell-requires-then-has_en_passant-clause-number c =
+write_cell-requires-then-has_en_passant-clause-number g c =
     let class = c.args.class in
     let number = c.args.departure.now.number in
     let man = c.args.man.now in
@@ -57,10 +57,10 @@ write_cell-requires-then-has_en_passant-clause-number c =
     let lands = (c.leads_to_number_from.ensures q led.from at led.leads).0 c.if-not-leads_to_number_from.false in
     let p = c.has_en_passant.ensures.0 c.if-has_en_passant.true in
     let twin = twin_before class number q at man a k fits led lands p.0 p.1 in
-    subst (λ (m : ℕ). k + 16777216 < m) (sym (c.write_cell.auto.cells ∙ c.requires.cells)) (before_below class number man a (k + 16777216) twin)
+    subst (λ (m : ℕ). k + 16777216 < m) (sym (c.write_cell.ensures.size ∙ c.requires.cells)) (before_below class number man a (k + 16777216) twin)
 
 pub returns-then-has_en_passant-clause-rise : goal.returns-then-has_en_passant-clause-rise
-returns-then-has_en_passant-clause-rise c =
+returns-then-has_en_passant-clause-rise g c =
     let class = c.args.class in
     let number = c.args.departure.now.number in
     let man = c.args.man.now in
@@ -87,7 +87,7 @@ returns-then-has_en_passant-clause-rise c =
     (set-why cell over (λ i. i ≡ k + 16777216) Why mid new (λ i e. subst Why (sym e) twin) c.write_cell-then-has_en_passant.ensures.rise)
 
 pub returns-else-has_en_passant-clause-rise : goal.returns-else-has_en_passant-clause-rise
-returns-else-has_en_passant-clause-rise c =
+returns-else-has_en_passant-clause-rise g c =
     let class = c.args.class in
     let number = c.args.departure.now.number in
     let man = c.args.man.now in
@@ -108,7 +108,7 @@ returns-else-has_en_passant-clause-rise c =
     set-why cell over (λ i. i ≡ k) Why old mid (λ i e. subst Why (sym e) (is_before class number q at man a k fits led lands)) c.write_cell.ensures.rise
 
 pub returns-then-has_en_passant-clause-done : goal.returns-then-has_en_passant-clause-done
-returns-then-has_en_passant-clause-done c = λ n b.
+returns-then-has_en_passant-clause-done g c = λ n b.
     let class = c.args.class in
     let number = c.args.departure.now.number in
     let man = c.args.man.now in
@@ -130,7 +130,7 @@ returns-then-has_en_passant-clause-done c = λ n b.
     ]
 
 pub returns-else-has_en_passant-clause-done : goal.returns-else-has_en_passant-clause-done
-returns-else-has_en_passant-clause-done c = λ n b.
+returns-else-has_en_passant-clause-done g c = λ n b.
     let class = c.args.class in
     let number = c.args.departure.now.number in
     let man = c.args.man.now in

@@ -36,7 +36,7 @@ loop-square-preserved g c =
     let k = c.args.level + 2 in
     let pos : 0 < k = omega arith in
     record {
-      size = c.lower_by_moves.auto.cells ∙ c.loop-square.invariant.size;
+      size = c.lower_by_moves.ensures.size ∙ c.loop-square.invariant.size;
       set = set-more _ _ _ _ _ _ _ f pos _ _ _ c.loop-square.invariant.set (lowered-set _ c.args.level _ new c.lower_by_moves.ensures.rise)
           (λ n w. lowered-where k new n (c.lower_by_moves.ensures.done n w));
     }

@@ -7,7 +7,7 @@ use Rattle.study_retro.proofs.RowBackLemmas.{fit_before, fit_below, last_led, la
 use Rattle.study_retro.proofs.rows.predecessors.write_before_last_at_once.Goals as goal
 
 pub write_row-requires-clause-numbers : goal.write_row-requires-clause-numbers
-write_row-requires-clause-numbers c = λ a ona there.
+write_row-requires-clause-numbers g c = λ a ona there.
     let row = c.args.row.now in
     let w = c.origins_in_row-origins.ensures.only a ona there in
     let y = w.0 in
@@ -20,7 +20,7 @@ write_row-requires-clause-numbers c = λ a ona there.
     (last_led row.class number y q.0 q.1 row.others.items row.last row.to_move (row.encoded y w.1) c.requires.side a ona w.3)
 
 pub returns-clause-rise : goal.returns-clause-rise
-returns-clause-rise c =
+returns-clause-rise g c =
     let row = c.args.row.now in
     set-why c.args.change.cell c.args.change.over (IsInRowOrTwin row.class c.args.before c.origins_in_row-origins.result.squares)
     (IsBeforeRow row.class row.number c.args.decided) c.args.cells.now c.write_row.new.cells
@@ -40,7 +40,7 @@ returns-clause-rise c =
     c.write_row.ensures.rise
 
 pub returns-clause-done : goal.returns-clause-done
-returns-clause-done c = λ n y on e b.
+returns-clause-done g c = λ n y on e b.
     let row = c.args.row.now in
     let a = b.0 in
     let q = c.requires.numbered y on e in

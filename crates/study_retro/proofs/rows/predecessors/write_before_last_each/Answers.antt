@@ -12,16 +12,16 @@ use Rattle.study_retro.proofs.SquaresKept.{first-as}
 use Rattle.study_retro.proofs.rows.predecessors.write_before_last_each.Goals as goal
 
 pub loop-square-init : goal.loop-square-init
-loop-square-init c = record { size = c.requires.cells; set = set-none _ _ _ _ _ _ c.into_iter-square-iterator.ensures.into_iter_gives }
+loop-square-init g c = record { size = c.requires.cells; set = set-none _ _ _ _ _ _ c.into_iter-square-iterator.ensures.into_iter_gives }
 
 pub write_before_man-more-requires-clause-numbered : goal.write_before_man-more-requires-clause-numbered
-write_before_man-more-requires-clause-numbered c =
+write_before_man-more-requires-clause-numbered g c =
     let y = c.from.result in
     let f = first-as _ _ _ y c.in-Some.ensures.steps (c.from.ensures ∙ c.number.ensures.value) in
     c.requires.numbered y f.inside (c.loop-square.invariant.set.among y f.inside f.there)
 
 pub write_before_man-more-requires-clause-man : goal.write_before_man-more-requires-clause-man
-write_before_man-more-requires-clause-man c =
+write_before_man-more-requires-clause-man g c =
     let row = c.args.row.now in
     let y = c.from.result in
     let same : y ≡ c.in-Some.square = c.from.ensures ∙ c.number.ensures.value in
@@ -31,7 +31,7 @@ write_before_man-more-requires-clause-man c =
     (Contains-push row.others.items (on_square row.last y)))
 
 pub loop-square-preserved : goal.loop-square-preserved
-loop-square-preserved c =
+loop-square-preserved g c =
     let row = c.args.row.now in
     let inv = c.loop-square.invariant in
     let y = c.from.result in
@@ -41,7 +41,7 @@ loop-square-preserved c =
     let over = c.args.change.over in
     let new = c.write_before_man-more.new.cells in
     record {
-      size = c.write_before_man-more.auto.cells ∙ inv.size;
+      size = c.write_before_man-more.ensures.size ∙ inv.size;
       set = set-more _ _ _ _ _ _ _ f c.requires.cell _ _ _ inv.set
           (subst (λ (x : ℕ). AreSet (IsBeforeBy row.class (64 * row.number + y) (on_square row.last x)) cell over c.loop-square.cells new) (sym same)
           c.write_before_man-more.ensures.rise)
@@ -49,7 +49,7 @@ loop-square-preserved c =
     }
 
 pub returns-clause-rise : goal.returns-clause-rise
-returns-clause-rise c =
+returns-clause-rise g c =
     let row = c.args.row.now in
     let Why : ℕ → ℕ → Type 0 = λ y n. IsBeforeBy row.class (64 * row.number + y) (on_square row.last y) n in
     set-why c.args.change.cell c.args.change.over (ForSome c.args.decided Why c.args.change.cell c.args.change.over)
@@ -57,4 +57,4 @@ returns-clause-rise c =
     (λ n w. (w.0, w.1, w.2, (on_square row.last w.0, w.3))) c.loop-square.invariant.set.rise
 
 pub returns-clause-done : goal.returns-clause-done
-returns-clause-done c = λ n y on e w. c.loop-square.invariant.set.done n y on e (none-of-empty _ c.in-None.ensures.steps.0 y on) w
+returns-clause-done g c = λ n y on e w. c.loop-square.invariant.set.done n y on e (none-of-empty _ c.in-None.ensures.steps.0 y on) w

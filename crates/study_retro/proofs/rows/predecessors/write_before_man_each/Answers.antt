@@ -8,16 +8,16 @@ use Rattle.study_retro.proofs.SquaresKept.{first-as}
 use Rattle.study_retro.proofs.rows.predecessors.write_before_man_each.Goals as goal
 
 pub loop-square-init : goal.loop-square-init
-loop-square-init c = record { size = c.requires.cells; set = set-none _ _ _ _ _ _ c.into_iter-square-iterator.ensures.into_iter_gives }
+loop-square-init g c = record { size = c.requires.cells; set = set-none _ _ _ _ _ _ c.into_iter-square-iterator.ensures.into_iter_gives }
 
 pub write_before_man-more-requires-clause-numbered : goal.write_before_man-more-requires-clause-numbered
-write_before_man-more-requires-clause-numbered c =
+write_before_man-more-requires-clause-numbered g c =
     let y = c.from.result in
     let f = first-as _ _ _ y c.in-Some.ensures.steps (c.from.ensures ∙ c.number.ensures.value) in
     c.requires.numbered y f.inside (c.loop-square.invariant.set.among y f.inside f.there)
 
 pub write_before_man-more-requires-clause-man : goal.write_before_man-more-requires-clause-man
-write_before_man-more-requires-clause-man c =
+write_before_man-more-requires-clause-man g c =
     let row = c.args.row.now in
     let y = c.from.result in
     let f = first-as _ _ _ y c.in-Some.ensures.steps (c.from.ensures ∙ c.number.ensures.value) in
@@ -25,13 +25,13 @@ write_before_man-more-requires-clause-man c =
     (Contains-append_left row.others.items (on_square row.last y ∷ []) c.args.man.now c.requires.man)
 
 pub loop-square-preserved : goal.loop-square-preserved
-loop-square-preserved c =
+loop-square-preserved g c =
     let f = first-as _ _ _ c.from.result c.in-Some.ensures.steps (c.from.ensures ∙ c.number.ensures.value) in
     let inv = c.loop-square.invariant in
     record {
-      size = c.write_before_man-more.auto.cells ∙ inv.size;
+      size = c.write_before_man-more.ensures.size ∙ inv.size;
       set = set-more _ _ _ _ _ _ _ f c.requires.cell _ _ _ inv.set c.write_before_man-more.ensures.rise c.write_before_man-more.ensures.done;
     }
 
 pub returns-clause-done : goal.returns-clause-done
-returns-clause-done c = λ n y on e w. c.loop-square.invariant.set.done n y on e (none-of-empty _ c.in-None.ensures.steps.0 y on) w
+returns-clause-done g c = λ n y on e w. c.loop-square.invariant.set.done n y on e (none-of-empty _ c.in-None.ensures.steps.0 y on) w

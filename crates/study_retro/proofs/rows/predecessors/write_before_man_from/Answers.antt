@@ -18,10 +18,10 @@ use Rattle.study_retro.proofs.RowSets.{ForSome, set-none, set-more}
 use Rattle.study_retro.proofs.rows.predecessors.write_before_man_from.Goals as goal
 
 pub loop-origin-init : goal.loop-origin-init
-loop-origin-init c = record { size = c.requires.cells; set = set-none _ _ _ _ _ _ refl }
+loop-origin-init g c = record { size = c.requires.cells; set = set-none _ _ _ _ _ _ refl }
 
 pub squares_allowing_unmove-requires-clause-comes : goal.squares_allowing_unmove-requires-clause-comes
-squares_allowing_unmove-requires-clause-comes c =
+squares_allowing_unmove-requires-clause-comes g c =
     let f = first-of _ _ _ c.in-Some.ensures.steps in
     let a = c.in-Some.origin in
     let there : has c.into_iter-origin-iterator.result a ≡ true = c.loop-origin.invariant.set.among a f.inside f.there in
@@ -31,7 +31,7 @@ squares_allowing_unmove-requires-clause-comes c =
     ∙ there
 
 pub write_predecessors-requires-clause-numbered : goal.write_predecessors-requires-clause-numbered
-write_predecessors-requires-clause-numbered c = λ y on e.
+write_predecessors-requires-clause-numbered g c = λ y on e.
     let row = c.args.row.now in
     let both = and_parts _ _ (sym (c.intersection-led.ensures y) ∙ e) in
     let q = c.requires.numbered y on both.0 in (
@@ -41,7 +41,7 @@ write_predecessors-requires-clause-numbered c = λ y on e.
     )
 
 pub write_predecessors-requires-clause-led : goal.write_predecessors-requires-clause-led
-write_predecessors-requires-clause-led c = λ y q on e at.
+write_predecessors-requires-clause-led g c = λ y q on e at.
     let row = c.args.row.now in
     let man = c.args.man.now in
     let f = first-of _ _ _ c.in-Some.ensures.steps in
@@ -58,7 +58,7 @@ write_predecessors-requires-clause-led c = λ y q on e at.
     (c.squares_allowing_unmove.ensures y on)) both.1
 
 pub loop-origin-preserved : goal.loop-origin-preserved
-loop-origin-preserved c =
+loop-origin-preserved g c =
     let row = c.args.row.now in
     let man = c.args.man.now in
     let f = first-of _ _ _ c.in-Some.ensures.steps in
@@ -93,12 +93,12 @@ loop-origin-preserved c =
     let apart = row_apart row.class (64 * number + y) y q.0 q.1 row.others.items row.last row.to_move (row.encoded y on) in
     c.write_predecessors.ensures.done n y on (c.intersection-led.ensures y ∙ rw (e, word apart ∙ came.1) refl) (of_row y n b) in
     record {
-      size = c.write_predecessors.auto.cells ∙ inv.size;
+      size = c.write_predecessors.ensures.size ∙ inv.size;
       set = set-more _ _ _ _ _ _ _ f c.requires.cell _ _ _ inv.set more (λ n w. led n w.0 w.1 w.2 w.3);
     }
 
 pub returns-clause-rise : goal.returns-clause-rise
-returns-clause-rise c =
+returns-clause-rise g c =
     let row = c.args.row.now in
     let From : ℕ → ℕ → Type 0 = λ a n. IsBeforeRowFrom row.class row.number c.args.decided c.args.man.now a n in
     set-why c.args.change.cell c.args.change.over (ForSome c.into_iter-origin-iterator.result From c.args.change.cell c.args.change.over)
@@ -106,7 +106,7 @@ returns-clause-rise c =
     (λ n w. (w.3.0, w.3.1, w.3.2, (w.0, w.1, w.3.3))) c.loop-origin.invariant.set.rise
 
 pub returns-clause-done : goal.returns-clause-done
-returns-clause-done c = λ n y on e b.
+returns-clause-done g c = λ n y on e b.
     let row = c.args.row.now in
     let q = c.requires.numbered y on e in
     let came = row_came row.class (64 * row.number + y) y q.0 q.1 row.others.items row.last row.to_move (row.encoded y on)

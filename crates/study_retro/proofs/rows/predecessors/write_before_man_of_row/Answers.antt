@@ -8,7 +8,7 @@ use Rattle.study_retro.proofs.rows.predecessors.write_before_man_of_row.Goals as
 
 -- no man of the other side has moved
 pub returns-then-ne-clause-done : goal.returns-then-ne-clause-done
-returns-then-ne-clause-done c = λ n y on e b.
+returns-then-ne-clause-done g c = λ n y on e b.
     let row = c.args.row.now in
     let q = c.requires.numbered y on e in
     let came = row_came row.class (64 * row.number + y) y q.0 q.1 row.others.items row.last row.to_move (row.encoded y on) c.args.man.now c.requires.man
@@ -17,5 +17,5 @@ returns-then-ne-clause-done c = λ n y on e b.
     ∙ ap (λ (s : Side). same_side c.args.man.now.side s) c.other.ensures ∙ came.0))
 
 pub write_before_man_from-requires-clause-side : goal.write_before_man_from-requires-clause-side
-write_before_man_from-requires-clause-side c =
+write_before_man_from-requires-clause-side g c =
     sym (ap (λ (s : Side). same_side c.args.man.now.side s) c.other.ensures) ∙ sym (side_same _ _) ∙ not-false _ (sym c.ne.ensures ∙ c.if-ne.false)

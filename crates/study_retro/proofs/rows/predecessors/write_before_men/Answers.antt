@@ -13,22 +13,22 @@ use Rattle.study_retro.proofs.BackLemmas.{set-then, set-kept, set-why, before_fo
 use Rattle.study_retro.proofs.rows.predecessors.write_before_men.Goals as goal
 
 pub loop-slot-init : goal.loop-slot-init
-loop-slot-init c = record {
-  size = c.write_before_last-count.auto.cells ∙ c.requires.cells;
+loop-slot-init g c = record {
+  size = c.write_before_last-count.ensures.size ∙ c.requires.cells;
   rise = c.write_before_last-count.ensures.rise;
   last = c.write_before_last-count.ensures.done;
   done = λ m i. absurd (let l = i.1 in omega (arith, l));
 }
 
 pub write_before_man_of_row-more-requires-clause-man : goal.write_before_man_of_row-more-requires-clause-man
-write_before_man_of_row-more-requires-clause-man c =
+write_before_man_of_row-more-requires-clause-man g c =
     let men = c.as_slice-man-items.result.now in
     let there : Contains men c.man-item.result = subst (λ (x : Man). Contains men x) (sym c.man-item.is)
     (Contains-get_or men c.loop-slot.slot _ c.loop-slot-test.true) in
     subst (λ (xs : List Man). Contains xs c.man-item.result) c.as_slice-man-items.ensures.value there
 
 pub loop-slot-preserved : goal.loop-slot-preserved
-loop-slot-preserved c =
+loop-slot-preserved g c =
     let row = c.args.row.now in
     let inv = c.loop-slot.invariant in
     let m = c.man-item.result in
@@ -44,7 +44,7 @@ loop-slot-preserved c =
     set-why cell over (IsBeforeRowBy row.class row.number c.args.decided m) Why mid new (λ n w. (w.0, w.1, w.2, (m, w.3)))
     c.write_before_man_of_row-more.ensures.rise in
     record {
-      size = c.write_before_man_of_row-more.auto.cells ∙ inv.size;
+      size = c.write_before_man_of_row-more.ensures.size ∙ inv.size;
       rise = set-then cell over Why c.args.cells.now mid new inv.rise more;
       last = λ n y on e b. set-kept cell over Why mid new more c.requires.cell n (inv.last n y on e b);
       done = each-more Q men c.loop-slot.slot m c.loop-slot-test.true
@@ -53,7 +53,7 @@ loop-slot-preserved c =
     }
 
 pub returns-clause-done : goal.returns-clause-done
-returns-clause-done c = λ n y on e b.
+returns-clause-done g c = λ n y on e b.
     let row = c.args.row.now in
     let men = c.as_slice-man-items.result.now in
     let inv = c.loop-slot.invariant in

@@ -7,11 +7,11 @@ use Rattle.study_index.proofs.ComputedIndex.{decoded_of_numbered}
 use Rattle.study_retro.proofs.rows.predecessors.write_before_row.Goals as goal
 
 pub returns-then-is_empty-clause-done : goal.returns-then-is_empty-clause-done
-returns-then-is_empty-clause-done c = λ n y on e b.
+returns-then-is_empty-clause-done g c = λ n y on e b.
     absurd (false≢true (sym (has-zero y) ∙ ap (λ (s : ℕ). has s y) (sym (c.is_empty.ensures.0 c.if-is_empty.true)) ∙ e))
 
 pub new-requires-clause-cell : goal.new-requires-clause-cell
-new-requires-clause-cell c =
+new-requires-clause-cell g c =
     let f = c.first-square.ensures in
     let y = c.first-square.result in
     let number = 64 * c.args.row + y in

@@ -8,7 +8,7 @@ use Rattle.study_retro.proofs.RowBackLemmas.{fit_before, fit_below}
 use Rattle.study_retro.proofs.rows.predecessors.write_predecessors.Goals as goal
 
 pub write_row-requires-clause-numbers : goal.write_row-requires-clause-numbers
-write_row-requires-clause-numbers c = λ y on e.
+write_row-requires-clause-numbers g c = λ y on e.
     let class = c.args.departure.now.class in
     let man = c.args.man.now in
     let a = c.args.origin in
@@ -21,7 +21,7 @@ write_row-requires-clause-numbers c = λ y on e.
     fit_below class number q.0 q.1 low man a k (c.may_allow_en_passant.ensures c.if-may_allow_en_passant.false) fits (c.requires.led y q.0 on e q.1)
 
 pub returns-in-Some-clause-rise : goal.returns-in-Some-clause-rise
-returns-in-Some-clause-rise c =
+returns-in-Some-clause-rise g c =
     let class = c.args.departure.now.class in
     let row = c.args.departure.now.row in
     let man = c.args.man.now in
@@ -46,7 +46,7 @@ returns-in-Some-clause-rise c =
     c.write_row.ensures.rise
 
 pub returns-in-Some-clause-done : goal.returns-in-Some-clause-done
-returns-in-Some-clause-done c = λ n y on e b.
+returns-in-Some-clause-done g c = λ n y on e b.
     let class = c.args.departure.now.class in
     let man = c.args.man.now in
     let a = c.args.origin in

@@ -9,13 +9,13 @@ use Rattle.study_retro.proofs.BackLemmas.{set-then, set-kept, set-why}
 use Rattle.study_retro.proofs.rows.predecessors.write_with_twin.Goals as goal
 
 pub write_cell-requires-then-has_en_passant-clause-number : goal.write_cell-requires-then-has_en_passant-clause-number
-write_cell-requires-then-has_en_passant-clause-number c =
+write_cell-requires-then-has_en_passant-clause-number g c =
     let p = c.has_en_passant.ensures.0 c.if-has_en_passant.true in
-    subst (λ (m : ℕ). c.args.number + 16777216 < m) (sym (c.write_cell.auto.cells ∙ c.requires.cells))
+    subst (λ (m : ℕ). c.args.number + 16777216 < m) (sym (c.write_cell.ensures.size ∙ c.requires.cells))
     (below c.args.class (c.args.number + 16777216) p.0 (decoded_of_numbered c.args.class (c.args.number + 16777216) p.0 p.1))
 
 pub returns-then-has_en_passant-clause-rise : goal.returns-then-has_en_passant-clause-rise
-returns-then-has_en_passant-clause-rise c =
+returns-then-has_en_passant-clause-rise g c =
     let cell = c.args.change.cell in
     let over = c.args.change.over in
     let k = c.args.number in
@@ -30,12 +30,12 @@ returns-then-has_en_passant-clause-rise c =
     (λ i e. inr (e, (p.0, subst (λ (m : ℕ). position_numbered class m ≡ Some p.0) (sym e) p.1))) c.write_cell-then-has_en_passant.ensures.rise)
 
 pub returns-else-has_en_passant-clause-rise : goal.returns-else-has_en_passant-clause-rise
-returns-else-has_en_passant-clause-rise c =
+returns-else-has_en_passant-clause-rise g c =
     set-why c.args.change.cell c.args.change.over (λ i. i ≡ c.args.number) (IsItOrTwin c.args.class c.args.number) c.args.cells.now c.write_cell.new.cells
     (λ i e. inl e) c.write_cell.ensures.rise
 
 pub returns-then-has_en_passant-clause-done : goal.returns-then-has_en_passant-clause-done
-returns-then-has_en_passant-clause-done c = λ n w.
+returns-then-has_en_passant-clause-done g c = λ n w.
     let cell = c.args.change.cell in
     let over = c.args.change.over in
     let k = c.args.number in
@@ -48,7 +48,7 @@ returns-then-has_en_passant-clause-done c = λ n w.
     ]
 
 pub returns-else-has_en_passant-clause-done : goal.returns-else-has_en_passant-clause-done
-returns-else-has_en_passant-clause-done c = λ n w. elim w [
+returns-else-has_en_passant-clause-done g c = λ n w. elim w [
   | inl e ↦ subst (λ (x : ℕ). IsSetWhere c.args.change.cell c.args.change.over c.write_cell.new.cells x) (sym e) c.write_cell.ensures.done
   | inr s ↦ absurd (false≢true (sym c.if-has_en_passant.false
       ∙ c.has_en_passant.ensures.1 (s.1.0, subst (λ (x : ℕ). position_numbered c.args.class x ≡ Some s.1.0) s.0 s.1.1)))
