@@ -14,8 +14,9 @@ pub struct NoFiles<P: PageSource> {
 
 impl<P: PageSource> NoFiles<P> {
     /// A store without a file of any class.
-    /// No contract: the statements of its trait are true of each value of the type.
-    pub fn new() -> Self {
+    pub fn new() -> Self
+        ensures { result.source ≡ None }
+    {
         NoFiles { source: None }
     }
 }
