@@ -37,7 +37,7 @@ pub struct Options<'a> {
     pub pages: u16,
     /// The form of the report.
     pub form: Form,
-    /// Whether the number of studies printed is written to standard error, after every ten.
+    /// Whether the number of entries is written to standard error, after every ten.
     pub progress: bool,
     /// Whether the script is one of version 1.7, whose remarks of an import begin with `#` alone.
     pub old_remarks: bool,
@@ -73,18 +73,47 @@ pub fn read_words<'a>(alloc: Global, words: &'a [String]) -> Result<Options<'a>,
 }
 
 fn command<'a>(alloc: Global) -> Result<Command<'a>, Error> {
-    let tables = Arg::new(alloc, "tables")
+    let command = Command::new(alloc, "studyreport")
+        .version(VERSION)
+        .about(ABOUT)
+        .after_help(LINES)
+        .arg(tables_option(alloc))?
+        .arg(pages_option(alloc))?;
+    let command = with_forms(alloc, command)?;
+    let progress = flag(
+        alloc,
+        "progress",
+        "Writes to standard error, after every ten entries, how many there are; nothing for the other forms",
+    );
+    let old_remarks = flag(
+        alloc,
+        "old-remarks",
+        "Reads the remarks of a script that studyimport 1.7 wrote, which begin with '#' and not with '#!'",
+    );
+    let command = command.arg(progress)?.arg(old_remarks)?;
+    Ok(command)
+}
+
+fn tables_option<'a>(alloc: Global) -> Arg<'a> {
+    Arg::new(alloc, "tables")
         .long("tables")
         .value_name("DIR")
         .action(ArgAction::Set)
         .value_parser(ValueParser::NonEmptyString)
-        .help("The folder of the files of tables, as KQK.dtm [default: .]");
-    let pages = Arg::new(alloc, "pages")
+        .help("The folder of the files of tables, as KQK.dtm [default: .]")
+}
+
+fn pages_option<'a>(alloc: Global) -> Arg<'a> {
+    Arg::new(alloc, "pages")
         .long("pages")
         .value_name("N")
         .action(ArgAction::Set)
         .value_parser(value_parser!(u16).range(1..=4096))
-        .help("Keeps N pages of 4,096 cells, 1 to 4096 [default: 1024]");
+        .help("Keeps N pages of 4,096 cells, 1 to 4096 [default: 1024]")
+}
+
+/// The command with the forms of a report, of which it takes one.
+fn with_forms<'a>(alloc: Global, command: Command<'a>) -> Result<Command<'a>, Error> {
     let lines = flag(
         alloc,
         "lines",
@@ -100,27 +129,10 @@ fn command<'a>(alloc: Global) -> Result<Command<'a>, Error> {
         "list",
         "Writes comma-separated values: number, title, author, FEN, stipulation and verdict of each study",
     );
-    let progress = flag(
-        alloc,
-        "progress",
-        "Writes to standard error, after every ten pages, how many studies were printed; nothing for the other forms",
-    );
-    let old_remarks = flag(
-        alloc,
-        "old-remarks",
-        "Reads the remarks of a script that studyimport 1.7 wrote, which begin with '#' and not with '#!'",
-    );
-    let command = Command::new(alloc, "studyreport")
-        .version(VERSION)
-        .about(ABOUT)
-        .after_help(LINES)
-        .arg(tables)?
-        .arg(pages)?
+    let command = command
         .arg(lines)?
         .arg(sheet.conflicts_with("lines")?)?
-        .arg(list.conflicts_with("lines")?.conflicts_with("sheet")?)?
-        .arg(progress)?
-        .arg(old_remarks)?;
+        .arg(list.conflicts_with("lines")?.conflicts_with("sheet")?)?;
     Ok(command)
 }
 
