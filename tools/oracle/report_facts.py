@@ -601,20 +601,20 @@ def page(study, number):
                   + cards(study) + tries(study) + zugzwang_rows(study) + defences(study) + ends(study) + inside("footer", FOOT), f'id="e{number}"')
 
 
-def left_out_row(line):
-    """The row of a game without a block, from its comment: its place among the games, and why."""
+def left_out_row(line, number):
+    """The row of a game without a block, from its comment: its number, its place among the games, and why."""
     place, _, why = line[3:].partition(":")
-    return inside("tr", inside("td", "") + inside("td", say(place)) + inside("td", "") + inside("td", "") + inside("td", say(why[1:] + meaning(line))))
+    return inside("tr", inside("td", str(number)) + inside("td", say(place)) + inside("td", "") + inside("td", "")
+                  + inside("td", say(why[1:] + meaning(line))))
 
 
 def summary(entries):
     """The list of entries: studies, and comments on games without a block."""
-    rows, number = "", 0
-    for study in entries:
+    rows = ""
+    for number, study in enumerate(entries, 1):
         if isinstance(study, str):
-            rows += left_out_row(study)
+            rows += left_out_row(study, number)
             continue
-        number += 1
         event = study.tags["Event"] if study.tags["Event"] != "?" else "Untitled"
         white = study.tags["White"] if study.tags["White"] != "?" else ""
         rows += inside("tr", inside("td", str(number)) + inside("td", inside("a", say(event), f'href="#e{number}"')) + inside("td", say(white))
@@ -703,20 +703,27 @@ def in_its_letters(text):
 
 def is_left_out(line):
     """Whether a line is the comment of studyimport on a game without a block."""
-    return bool(re.match(r"#! game \d*, line ", line)) and not re.match(r"[^:]*: stipulated by ", line)
+    return bool(re.match(r"#! game \d*, line ", line)) and not re.match(r"[^:]*: (stipulated by |not read: )", line)
+
+
+def is_not_read(line):
+    """Whether a line is the comment of studyimport on a game whose block has only what stands before its first fault."""
+    return bool(re.match(r"#! game \d*, line [^:]*: not read: ", line))
 
 
 def meaning(line):
     """What the fault means that the comment names, if it names one."""
-    why = re.match(r"[^:]*: (.*)", line)[1]
+    why = re.match(r"[^:]*: (?:not read: )?(.*)", line)[1]
     return "" if why.startswith("left out: ") else ": " + {**REASONS, **GAME_REASONS}[why.split()[0]]
 
 
-def remark(line):
-    """The paragraph of a comment of studyimport: a game without a block, the original text of a tag, or what a block does not have. Other comments have
-    none."""
+def remark(line, number):
+    """The paragraph of a comment of studyimport: a game without a block, which is the entry with this number, one that was read only up to a fault, the
+    original text of a tag, or what a block does not have. Other comments have none."""
     if is_left_out(line):
-        return inside("p", say("No page for " + line[3:] + meaning(line)), 'class="warn"')
+        return inside("p", say(f"No page for entry {number}: {line[3:]}{meaning(line)}"), 'class="warn"')
+    if is_not_read(line):
+        return inside("p", say(f"The game is read only up to here: {line[3:].replace(': not read', '', 1)}{meaning(line)}"), 'class="warn"')
     if re.match(r"#! ((Event|Site|Date|Round|White|Black) was: |(not taken over|behind the result|a tail): |the stipulation )", line):
         return inside("p", in_its_letters(line[3:]), 'class="note"')
     return ""
@@ -747,24 +754,34 @@ def studies_in(name):
 QUESTIONS = "mark moves fen solve pgn build load save verify".split()
 
 
+ALL_READ = (None, None, False)
+
+
 def unread_after(unread, number, line, refused):
-    """The first line of a study that was refused, after this line; questions and lines of tables are none of it."""
+    """The line for which the study in the document is not read, that for which the next one is not, and whether the study was reported, after this line:
+    questions and lines of tables are of no study."""
+    own, ahead, reported = unread
     word = (line.split() or [""])[0]
+    if refused and word == "pgn":
+        return own, None, reported
     if refused:
-        return unread or (None if word in QUESTIONS else number)
-    return None if word == "position" else unread
+        return unread if word in QUESTIONS else (own or number, (ahead or number) if reported else ahead, reported)
+    if is_not_read(line):
+        return own, ahead or number, reported
+    return {"position": (ahead, None, False), "pgn": (own, None, True)}.get(word, unread)
 
 
-def part(studies, number, script, refused, tags):
-    """What the lines of a script add to the pages: studies come from the list, refused lines by their numbers, and remarks. With each study come the
-    comments on games without a block since the one before."""
+def part(studies, number, script, refused, tags, count):
+    """What the lines of a script add to the pages, after so many entries: studies come from the list, refused lines by their numbers, and remarks. With
+    each study come its number and the comments on games without a block since the one before."""
     out, games = "", []
     for n, line in enumerate(script, 1):
-        tags["unread"] = unread_after(tags.get("unread"), n + number, line, n in refused)
+        tags["unread"] = unread_after(tags.get("unread", ALL_READ), n + number, line, n in refused)
         if n in refused:
             out += refusal(n + number, line, refused[n])
         elif line.startswith("#"):
-            out += remark(line)
+            count += is_left_out(line)
+            out += remark(line, count)
             games += [line] if is_left_out(line) else []
         elif line.startswith("tag "):
             _, name, *words = line.split(" ", 2)
@@ -772,10 +789,11 @@ def part(studies, number, script, refused, tags):
         elif line == "pgn":
             study = studies.pop(0)
             study.tags.update(tags)
-            study.unread = tags["unread"]
-            yield study, out, games
+            study.unread = tags["unread"][0]
+            count += 1
+            yield study, count, out, games
             out, games = "", []
-    yield None, out, games
+    yield None, count, out, games
 
 
 def expected_file(names, more=()):
@@ -792,23 +810,22 @@ def file_of(texts, more=()):
     for script, lines, replies in texts:
         refused = {int(l.split(" ", 2)[1]): l.split(" ", 2)[2] for l in lines.splitlines() if l.startswith("refused ")}
         script = script.split("\n")[:-1]
-        for study, text, games in part(studies_by(lines, replies), number, script, refused, tags):
+        for study, count, text, games in part(studies_by(lines, replies), number, script, refused, tags, count):
             body += text
             entries += games
             if study:
-                count += 1
                 body += page(study, count)
                 studies.append(study)
                 entries.append(study)
         number += len(script)
-    unread = tags.get("unread")
+    unread = tags.get("unread", ALL_READ)
     for line, name in more:
         number += 1
         unread = unread_after(unread, number, line, name not in (None, "again"))
         if name == "again":  # the last study once more, with the tags that were set since
             count += 1
             again = copy.copy(studies[-1])
-            again.unread = unread
+            again.unread = unread[0]
             again.tags = {**again.tags, **dict(line.split(" ", 2)[1:] for line, fault in more if fault is None and line.startswith("tag "))}
             studies.append(again)
             entries.append(again)
@@ -816,7 +833,8 @@ def file_of(texts, more=()):
         elif name:
             body += refusal(number, line, name)
         else:
-            body += remark(line)
+            count += is_left_out(line)
+            body += remark(line, count)
             entries += [line] if is_left_out(line) else []
     return opening() + body + (summary(entries) if len(entries) > 1 else "") + "</body></html>\n"
 

@@ -177,7 +177,7 @@ def main():
 
     # progress and the command line
     many = SCRIPT + b"pgn\n" * 24
-    expect("progress", (0, "10 studies\n20 studies\n", run(many, "--tables", tables)[2]), run(many, "--tables", tables, "--progress"))
+    expect("progress", (0, "10 entries\n20 entries\n", run(many, "--tables", tables)[2]), run(many, "--tables", tables, "--progress"))
     expect("no progress of lines", (0, ""), run(many, "--tables", tables, "--progress", "--lines")[:2])
     expect("no script", (0, "", report_facts.opening() + end), run(b"", "--tables", tables))
     for words in (("--pages", "0"), ("--pages", "4097"), ("--pages", "x"), ("--pages",), ("--bad",), ("a.script",), ("--tables", "")):

@@ -1,5 +1,5 @@
 -- The list of a script's studies as comma-separated values.
-use Rattle.std.specs.Prelude.{◌≡◌, ◌⊎◌, ℕ, List, [], ◌++◌, Option, Some, Result, Err, if◌then◌else◌, codes}
+use Rattle.std.specs.Prelude.{◌≡◌, ◌⊎◌, ℕ, List, [], ◌++◌, Option, Some, Result, Err, if◌then◌else◌, codes, decimal}
 use Rattle.std.specs.Io.KnownBytes.{Appends}
 use Rattle.study_text.specs.Taken.{TakesPrefix}
 use Rattle.study_script.specs.declared.running.Summary.{Summary}
@@ -17,13 +17,14 @@ use Rattle.study_print.specs.Refusals.{refusal_name}
 abbrev pub refusal_record : ℕ → List ℕ → List ℕ → List ℕ
 refusal_record number line reply = refused_record number line (refusal_name reply)
 
--- a game that was left out: its place among the games in place of a title, and the reason in place of a verdict
-unfoldable pub left_out_record : List ℕ → List ℕ
-left_out_record line = codes "," ++ (quoted_text (subject line) ++ (codes ",,,," ++ (quoted_text (statement line) ++ codes "\r\n")))
+-- a game that was left out: its number, its place among the games in place of a title, and the reason in place of a verdict
+unfoldable pub left_out_record : ℕ → List ℕ → List ℕ
+left_out_record number line =
+    decimal number ++ (codes "," ++ (quoted_text (subject line) ++ (codes ",,,," ++ (quoted_text (statement line) ++ codes "\r\n"))))
 
--- an original text has no record
-abbrev pub remark_record : List ℕ → List ℕ
-remark_record line = if is_left_out line then left_out_record line else []
+-- another remark has no record
+abbrev pub remark_record : ℕ → List ℕ → List ℕ
+remark_record number line = if is_left_out line then left_out_record number line else []
 
 -- the writer fails in the head, before the first line is read
 abbrev pub IsHeadCut : List ℕ → Option (List ℕ) → Option (List ℕ) → Option (List ℕ) → Result Summary RunFault → Type 0

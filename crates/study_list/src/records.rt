@@ -24,7 +24,7 @@ impl Report for Records {
 
     ghost refusal = { λ number line reply. refusal_record number line reply };
 
-    ghost remark = { λ line. remark_record line };
+    ghost remark = { λ number line. remark_record number line };
 
     // Nothing is kept.
     ghost lists = { λ records reported. Unit {0} };
@@ -55,9 +55,10 @@ impl Report for Records {
     fn add_remark<'a, A: Allocator, W: Write>(
         &mut self,
         alloc: &'a A,
+        number: u32,
         line: &[u8],
         out: &mut W,
     ) -> Result<(), WriteFault> {
-        write_remark(alloc, line, out)
+        write_remark(alloc, number, line, out)
     }
 }

@@ -35,21 +35,21 @@ entries_after entries count next rows new x (same, are) (row, is, e) f g h = (
 )
 
 -- with the game that was left out
-pub game_after : (entries : List Entry) (count next : EntryCount) (rows new line : List ℕ) → is_left_out line ≡ true → AreEntries count rows entries
-    → new ≡ rows ++ left_out_row line
+pub game_after : (entries : List Entry) (count next : EntryCount) (number : ℕ) (rows new line : List ℕ) → is_left_out line ≡ true
+    → AreEntries count rows entries → new ≡ rows ++ left_out_row number line
     → (count ≡ Nothing → next ≡ One) → (count ≡ One → next ≡ Several) → (count ≡ Several → next ≡ Several)
-    → AreEntries next new (entries ++ games_in line)
-game_after entries count next rows new line out are e f g h =
-    subst (λ (b : Bool). AreEntries next new (entries ++ (if b then game_entry line ∷ [] else []))) (sym out)
-    (entries_after entries count next rows new (game_entry line) are (left_out_row line, refl, e) f g h)
+    → AreEntries next new (entries ++ games_in number line)
+game_after entries count next number rows new line out are e f g h =
+    subst (λ (b : Bool). AreEntries next new (entries ++ (if b then game_entry line number ∷ [] else []))) (sym out)
+    (entries_after entries count next rows new (game_entry line number) are (left_out_row number line, refl, e) f g h)
 
 pub on-ok : {A E : Type 0} (r : Result A E) (P : Type 0) → P → OnOk r P
 on-ok (Ok x) P h = h
 on-ok (Err e) P h = tt
 
 -- another remark is no entry
-pub no_game_after : (entries : List Entry) (count : EntryCount) (rows line : List ℕ) → is_left_out line ≡ false → AreEntries count rows entries
-    → AreEntries count rows (entries ++ games_in line)
-no_game_after entries count rows line out are =
-    subst (λ (b : Bool). AreEntries count rows (entries ++ (if b then game_entry line ∷ [] else []))) (sym out)
+pub no_game_after : (entries : List Entry) (count : EntryCount) (number : ℕ) (rows line : List ℕ) → is_left_out line ≡ false
+    → AreEntries count rows entries → AreEntries count rows (entries ++ games_in number line)
+no_game_after entries count number rows line out are =
+    subst (λ (b : Bool). AreEntries count rows (entries ++ (if b then game_entry line number ∷ [] else []))) (sym out)
     (subst (AreEntries count rows) (sym (append-nil entries)) are)

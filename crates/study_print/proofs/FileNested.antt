@@ -11,8 +11,8 @@ use Rattle.study_script.specs.declared.running.RunFault.TheVariants.{ReadDevice,
 use Rattle.study_script.specs.Written.{Piece}
 use Rattle.study_report.specs.declared.line_kind.LineKind.{LineKind}
 use Rattle.study_report.specs.declared.line_kind.LineKind.TheVariants.{Remark, PassedOver, NoClass, Study, Checked}
-use Rattle.study_report.specs.Reported.{line_kind, study_count}
-use Rattle.study_report.specs.Remarks.{begins, statement, is_left_out}
+use Rattle.study_report.specs.Reported.{line_kind, entry_count}
+use Rattle.study_report.specs.Remarks.{begins, statement, is_left_out, is_not_read}
 use Rattle.study_command.specs.Documents.{Document, empty}
 use Rattle.study_report.specs.Parts.{Part, nothing_part, refused_part, remark_part, parts_text, IsPartAs, AreParts, AreWritten, Fits}
 use Rattle.study_html.specs.declared.element.Element.{Element}
@@ -27,7 +27,7 @@ use Rattle.study_page.specs.Page.{IsEntry}
 use Rattle.study_page.specs.Lists.{refusal_part, summary_part, two_heads, three_heads}
 use Rattle.study_print.specs.declared.pages.EntryCount.{EntryCount}
 use Rattle.study_print.specs.declared.pages.EntryCount.TheVariants.{Nothing, One, Several}
-use Rattle.study_print.specs.Remarks.{left_out_words, left_out_part, original_part, remark_text}
+use Rattle.study_print.specs.Remarks.{left_out_words, left_out_part, fault_words, not_read_words, not_read_part, original_part, remark_text}
 use Rattle.study_print.specs.Pages.{refusal_text, summary_text, end_text, writer_failed, IsEndedIf, IsEnded, IsBody, IsWholeFile, IsWholeUnlessCut}
 use Rattle.study_print.proofs.BodyGrows.{none_body, both_bodies, nested_body, original_body}
 
@@ -52,14 +52,22 @@ explained_nested : (own : Bool) (reason : List ℕ) → IsWellNested (if own the
 explained_nested true reason = none_nested
 explained_nested false reason = both_nested _ _ (word _) (word _)
 
-left_out_nested : (line : List ℕ) → IsWellNested (left_out_part line)
+left_out_nested : (number : ℕ) (line : List ℕ) → IsWellNested (left_out_part number line)
 unfolding left_out_part left_out_words
-left_out_nested line =
+left_out_nested number line =
     within Warning _ (both_nested _ _ (word _) (both_nested _ _ (word _) (explained_nested (begins (statement line) (codes "left out: ")) _)))
 
-remark_body : (line : List ℕ) (left_out : Bool) → IsBody (if left_out then left_out_part line else original_part line)
-remark_body line true = nested_body _ (left_out_nested line)
-remark_body line false = original_body line
+not_read_nested : (line : List ℕ) → IsWellNested (not_read_part line)
+unfolding not_read_part not_read_words
+not_read_nested line =
+    within Warning _ (both_nested _ _ (word _) (both_nested _ _ (word _) (both_nested _ _ (word _) (both_nested _ _ (word _)
+    (explained_nested (begins (fault_words line) (codes "left out: ")) _)))))
+
+remark_body : (number : ℕ) (line : List ℕ) (left_out not_read : Bool)
+    → IsBody (if left_out then left_out_part number line else (if not_read then not_read_part line else original_part line))
+remark_body number line true not_read = nested_body _ (left_out_nested number line)
+remark_body number line false true = nested_body _ (not_read_nested line)
+remark_body number line false false = original_body line
 
 body_of : (part whole : Part) → part ≡ whole → IsBody whole.text → IsBody part.text
 body_of part whole e h = subst (λ (p : Part). IsBody p.text) (sym e) h
@@ -75,21 +83,21 @@ checked_nested number line piece false = none_nested
 part_nested : (kind : LineKind) (number next : ℕ) (here : Document) (line : List ℕ) (part : Part)
     → IsPartAs (λ plain. IsEntry) refusal_text remark_text kind number next here line part → IsBody part.text
 part_nested Remark number next here line part h =
-    body_of part (remark_part (λ plain. IsEntry) refusal_text remark_text line) h (remark_body line (is_left_out line))
+    body_of part (remark_part (λ plain. IsEntry) refusal_text remark_text next line) h (remark_body next line (is_left_out line) (is_not_read line))
 part_nested PassedOver number next here line part h = text_nested part nothing_part h none_nested
 part_nested NoClass number next here line part h = text_nested part _ h (refusal_nested number line _ _)
 part_nested Study number next here line part (inl h) = text_nested part _ h.1 (refusal_nested number line _ _)
 part_nested Study number next here line part (inr (plain, text, at, entry, is)) = text_nested part _ is (entry_nested next text entry)
 part_nested Checked number next here line part h = text_nested part _ h.2 (checked_nested number line h.0 h.0.refused)
 
-parts_nested : (lines studies : ℕ) (here there : Document) (texts : List (List ℕ)) (parts : List Part)
-    → AreParts (λ plain. IsEntry) refusal_text remark_text lines studies here texts parts there → IsBody (parts_text parts)
-parts_nested lines studies here there [] [] h = none_body
-parts_nested lines studies here there [] (part ∷ parts) h = absurd h
-parts_nested lines studies here there (line ∷ more) [] h = absurd h
-parts_nested lines studies here there (line ∷ more) (part ∷ parts) (is, (next, goes, are)) =
-    both_bodies part.text (parts_text parts) (part_nested (line_kind line) (suc lines) (suc studies) here line part is)
-    (parts_nested (suc lines) (studies + study_count part.reported) next there more parts are)
+parts_nested : (lines entries : ℕ) (here there : Document) (texts : List (List ℕ)) (parts : List Part)
+    → AreParts (λ plain. IsEntry) refusal_text remark_text lines entries here texts parts there → IsBody (parts_text parts)
+parts_nested lines entries here there [] [] h = none_body
+parts_nested lines entries here there [] (part ∷ parts) h = absurd h
+parts_nested lines entries here there (line ∷ more) [] h = absurd h
+parts_nested lines entries here there (line ∷ more) (part ∷ parts) (is, (next, goes, are)) =
+    both_bodies part.text (parts_text parts) (part_nested (line_kind line) (suc lines) (suc entries) here line part is)
+    (parts_nested (suc lines) (entries + entry_count part.reported) next there more parts are)
 
 -- ---- the list of all entries
 

@@ -1,5 +1,5 @@
 -- The entries of a report, listed at its end.
-use Rattle.std.specs.Prelude.{◌≡◌, ℕ, List, [], ◌∷◌, ◌++◌}
+use Rattle.std.specs.Prelude.{◌≡◌, ℕ, List, [], ◌∷◌, ◌++◌, decimal}
 use Rattle.study_marks.specs.declared.mark.Mark.{Mark}
 use Rattle.study_marks.specs.Study.{Study, plain_study}
 use Rattle.study_marks.specs.Annotated.{IsAnnotated}
@@ -23,16 +23,16 @@ count_of (x ∷ y ∷ more) = Several
 abbrev pub left_out_words : List ℕ → List ℕ
 left_out_words why = escaped_text why ++ explanation why
 
--- a game that was left out: its place among the games in place of a title, and the reason in place of a verdict
-unfoldable pub left_out_row : List ℕ → List ℕ
-left_out_row line =
-    element_text Row (element_text Cell [] ++ (element_text Cell (escaped_text (subject line)) ++ (element_text Cell [] ++ (element_text Cell []
-    ++ element_text Cell (left_out_words (statement line))))))
+-- a game that was left out: its number, its place among the games in place of a title, and the reason in place of a verdict
+unfoldable pub left_out_row : ℕ → List ℕ → List ℕ
+left_out_row number line =
+    element_text Row (element_text Cell (escaped_text (decimal number)) ++ (element_text Cell (escaped_text (subject line))
+    ++ (element_text Cell [] ++ (element_text Cell [] ++ element_text Cell (left_out_words (statement line))))))
 
 -- the row of a study is that of its annotation
 abbrev pub IsRowOf : Entry → List ℕ → Type 0
 IsRowOf (study_entry plain info) row = (s : Study Mark) × (plain_study s ≡ plain) × IsAnnotated s × IsRow s info row
-IsRowOf (game_entry line) row = row ≡ left_out_row line
+IsRowOf (game_entry line number) row = row ≡ left_out_row number line
 
 -- a row for each entry, in order
 abbrev pub AreRows : List Entry → List ℕ → Type 0

@@ -1,6 +1,7 @@
 //! The rows of games that were left out.
-ghost use Rattle.std.specs.Prelude.{◌≡◌, ◌++◌, OnOk, IfOk, IfErr};
+ghost use Rattle.std.specs.Prelude.{◌≡◌, ◌++◌, OnOk, IfOk, IfErr, decimal};
 ghost use Rattle.study_html.specs.Elements.{element_text};
+ghost use Rattle.study_html.specs.Escape.{escaped_text};
 ghost use Rattle.study_html.specs.declared.element.Element.TheVariants.{Cell};
 ghost use Rattle.study_print.specs.Entries.{left_out_words, left_out_row};
 
@@ -8,6 +9,20 @@ use crate::left_out::say_explanation;
 use std::alloc::{AllocError, Allocator};
 use study_html::{Element, Html, put_words};
 use study_report::{WriteFault, statement, subject};
+use study_text::Text;
+
+/// Puts a cell with the number of an entry.
+fn put_number<'a, A: Allocator>(
+    alloc: &'a A,
+    row: &mut Html<'_, A>,
+    number: u32,
+) -> Result<(), AllocError>
+    ensures { OnOk result (row.new ≡ row.old ++ element_text Cell (escaped_text (decimal number))) }
+{
+    let mut digits = Text::new(alloc);
+    digits.add_number(number)?;
+    put_words(alloc, row, Element::Cell, digits.as_slice())
+}
 
 /// Puts a cell with the reason why a game was left out.
 fn put_reason<'a, A: Allocator>(
@@ -23,15 +38,19 @@ fn put_reason<'a, A: Allocator>(
     row.put(Element::Cell, &words)
 }
 
-/// The row of a game that was left out.
+/// The row of a game that was left out, as the entry with this number.
 #[tactic(auto, unfolding(crate::specs::Entries::left_out_row))]
-fn left_out_row<'a, A: Allocator>(alloc: &'a A, line: &[u8]) -> Result<Html<'a, A>, AllocError>
-    ensures { IfOk result (λ html. html ≡ left_out_row line.now) }
+fn left_out_row<'a, A: Allocator>(
+    alloc: &'a A,
+    number: u32,
+    line: &[u8],
+) -> Result<Html<'a, A>, AllocError>
+    ensures { IfOk result (λ html. html ≡ left_out_row number line.now) }
 {
     let mut html = Html::new(alloc);
     let mut row = Html::new(alloc);
     let nothing = Html::new(alloc);
-    row.put(Element::Cell, &nothing)?;
+    put_number(alloc, &mut row, number)?;
     put_words(alloc, &mut row, Element::Cell, subject(line))?;
     row.put(Element::Cell, &nothing)?;
     row.put(Element::Cell, &nothing)?;
@@ -44,12 +63,13 @@ fn left_out_row<'a, A: Allocator>(alloc: &'a A, line: &[u8]) -> Result<Html<'a, 
 fn rows_with<'s, S: Allocator>(
     alloc: &'s S,
     rows: &Html<'_, S>,
+    number: u32,
     line: &[u8],
 ) -> Result<Html<'s, S>, AllocError>
-    ensures { IfOk result (λ more. more ≡ rows.now ++ left_out_row line.now) }
+    ensures { IfOk result (λ more. more ≡ rows.now ++ left_out_row number line.now) }
 {
     let mut more = Html::new(alloc);
-    let row = left_out_row(alloc, line)?;
+    let row = left_out_row(alloc, number, line)?;
     more.append(rows)?;
     more.append(&row)?;
     Ok(more)
@@ -59,12 +79,13 @@ fn rows_with<'s, S: Allocator>(
 pub fn with_left_out<'s, S: Allocator>(
     alloc: &'s S,
     rows: &Html<'_, S>,
+    number: u32,
     line: &[u8],
 ) -> Result<Html<'s, S>, WriteFault>
-    ensures ok { IfOk result (λ more. more ≡ rows.now ++ left_out_row line.now) }
+    ensures ok { IfOk result (λ more. more ≡ rows.now ++ left_out_row number line.now) }
     ensures err { IfErr result (λ e. e ≡ WriteFault.OutOfMemory) }
 {
-    match rows_with(alloc, rows, line) {
+    match rows_with(alloc, rows, number, line) {
         Ok(more) => Ok(more),
         Err(_) => Err(WriteFault::OutOfMemory),
     }

@@ -38,7 +38,7 @@ impl EntryCount {
 }
 
 /// A page for each study, a line for each refused one, and a paragraph for each remark. For each printed study, and for each game that was left out, its
-/// row of the list at the end is kept.
+/// row of the list at the end is kept, with its number.
 #[derive(Drop)]
 pub struct Pages<'s, S: Allocator, N: Watch> {
     alloc: &'s S,
@@ -75,7 +75,7 @@ impl<'s, S: Allocator, N: Watch> Report for Pages<'s, S, N> {
 
     ghost refusal = { λ number line reply. refusal_text number line reply };
 
-    ghost remark = { λ line. remark_text line };
+    ghost remark = { λ number line. remark_text number line };
 
     ghost lists = { λ pages entries. AreEntries pages.count pages.rows entries };
 
@@ -112,16 +112,18 @@ impl<'s, S: Allocator, N: Watch> Report for Pages<'s, S, N> {
     fn add_remark<'a, A: Allocator, W: Write>(
         &mut self,
         alloc: &'a A,
+        number: u32,
         line: &[u8],
         out: &mut W,
     ) -> Result<(), WriteFault> {
         if !is_left_out(line) {
-            return write_remark(alloc, line, out);
+            return write_remark(alloc, number, line, out);
         }
-        let more = with_left_out(self.alloc, &self.rows, line)?;
-        write_remark(alloc, line, out)?;
+        let more = with_left_out(self.alloc, &self.rows, number, line)?;
+        write_remark(alloc, number, line, out)?;
         self.rows = more;
         self.count = self.count.next();
+        self.watch.report(number);
         Ok(())
     }
 }

@@ -1,10 +1,10 @@
 //! Watching the progress of a report.
 
-/// Receives after each printed study the number of studies so far.
+/// Receives after each entry, a printed study or a game that was left out, its number.
 ///
 /// No contract: it may do anything with the number.
 pub trait Watch: Drop {
-    fn report(&mut self, count: u32);
+    fn report(&mut self, number: u32);
 }
 
 /// A watcher that does nothing.
@@ -12,5 +12,5 @@ pub trait Watch: Drop {
 pub struct Unwatched;
 
 impl Watch for Unwatched {
-    fn report(&mut self, _count: u32) {}
+    fn report(&mut self, _number: u32) {}
 }

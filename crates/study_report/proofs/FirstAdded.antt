@@ -18,12 +18,12 @@ use Rattle.study_script.specs.Outcome.{AreShort}
 use Rattle.study_script.proofs.FirstLines.{Gone, gone_write}
 use Rattle.study_text.specs.Taken.{TakesPrefix}
 use Rattle.study_report.specs.declared.line_outcome.LineOutcome.{LineOutcome}
-use Rattle.study_report.specs.declared.line_outcome.LineOutcome.TheVariants.{Nothing, Study as AStudy, Refusal as ARefusal}
+use Rattle.study_report.specs.declared.line_outcome.LineOutcome.TheVariants.{Nothing, Study as AStudy, LeftOut, NotRead, Refusal as ARefusal}
 use Rattle.study_reply.specs.declared.refusal.Refusal.TheVariants.{NotAClass}
 use Rattle.study_script.specs.Replies.{Reply, refused_reply}
 use Rattle.study_report.specs.declared.line_kind.LineKind.{LineKind}
 use Rattle.study_report.specs.declared.line_kind.LineKind.TheVariants.{Remark, PassedOver, NoClass, Study, Checked}
-use Rattle.study_report.specs.Reported.{Point, Added, IsAdded, IsAddedAs, IsPgnAfter, IsCheckedAfter, line_kind, refusal_count, study_count}
+use Rattle.study_report.specs.Reported.{Point, Added, IsAdded, IsAddedAs, IsPgnAfter, IsCheckedAfter, line_kind, refusal_count, entry_count}
 use Rattle.study_facts.specs.declared.entry.EntryInfo.{EntryInfo}
 use Rattle.study_report.specs.declared.unread_line.Unread.{Unread}
 use Rattle.study_report.specs.Unread.{unread_after}
@@ -69,15 +69,18 @@ text-more : (added : List Added) (a : Added) → report_text (added ++ a ∷ [])
 text-more [] a = append-nil a.text
 text-more (x ∷ added) a = ap (λ (t : List ℕ). x.text ++ t) (text-more added a) ∙ sym (append_assoc x.text (report_text added) a.text)
 
--- the study that a line reported is the one in the document, and has the number after the others
-listed-same : (line : List ℕ) (t u : LineOutcome) (b c : Document) (i j : EntryInfo) → t ≡ u → b ≡ c → (study_count u ≡ 1 → i ≡ j)
+-- the study that a line reported is the one in the document, and an entry has the number after the others
+listed-same : (line : List ℕ) (t u : LineOutcome) (b c : Document) (i j : EntryInfo) → t ≡ u → b ≡ c → (entry_count u ≡ 1 → i ≡ j)
     → listed_in line t b i ≡ listed_in line u c j
 listed-same line t Nothing b c i j e f n = ap (λ (x : LineOutcome). listed_in line x b i) e
+listed-same line t NotRead b c i j e f n = ap (λ (x : LineOutcome). listed_in line x b i) e
 listed-same line t ARefusal b c i j e f n = ap (λ (x : LineOutcome). listed_in line x b i) e
+listed-same line t LeftOut b c i j e f n =
+    ap (λ (x : LineOutcome). listed_in line x b i) e ∙ ap (λ (x : EntryInfo). listed_in line LeftOut c x) (n refl)
 listed-same line t AStudy b c i j e f n =
     ap (λ (x : LineOutcome). listed_in line x b i) e ∙ ap (λ (x : Document). studies_on x i) f ∙ ap (studies_on c) (n refl)
 
-module _ (tells : PlainStudy → EntryInfo → List ℕ → Type 0) (refusal : ℕ → List ℕ → List ℕ → List ℕ) (remark : List ℕ → List ℕ) where
+module _ (tells : PlainStudy → EntryInfo → List ℕ → Type 0) (refusal : ℕ → List ℕ → List ℕ → List ℕ) (remark : ℕ → List ℕ → List ℕ) where
   are-more : (p : Point) (lines : List (List ℕ)) (added : List Added) (line : List ℕ) (a : Added)
       → AreAdded tells refusal remark p lines added → IsAdded tells refusal remark (point_after p added) line a
       → AreAdded tells refusal remark p (lines ++ line ∷ []) (added ++ a ∷ [])
@@ -379,28 +382,28 @@ module _ (tells : PlainStudy → EntryInfo → List ℕ → Type 0) (refusal : �
 
   -- the lines so far are reported, the session has their state, and the counts are theirs
   pub record ReportedOn (holds : State → Type 0) (Lists : List Entry → Type 0) (script now old new : Option (List ℕ)) (first : State)
-      (n refused studies : ℕ) (unread : Unread) : Type 0 where
+      (n refused entries : ℕ) (unread : Unread) : Type 0 where
     pub point : Point
     pub reported : HasReported Lists script now old new first point n refused
     pub held : holds point.state
     pub lines_are : n ≡ point.lines
-    pub studies_are : studies ≡ point.studies
+    pub entries_are : entries ≡ point.entries
     pub unread_is : unread ≡ point.unread
 
-  -- a line counts as one more, its study as one more, and what was not read is what it leaves
+  -- a line counts as one more, its entry as one more, and what was not read is what it leaves
   abbrev Counts : Point → List ℕ → Added → Type 0
-  Counts p line a = (a.after.lines ≡ suc p.lines) × (a.after.studies ≡ p.studies + study_count a.reported)
+  Counts p line a = (a.after.lines ≡ suc p.lines) × (a.after.entries ≡ p.entries + entry_count a.reported)
       × (a.after.unread ≡ unread_after p.unread (suc p.lines) line a.reported)
 
   counts-nothing : (p : Point) (line : List ℕ) (s : State) (a : Added) → a ≡ nothing_added p line s → Counts p line a
-  counts-nothing p line s a e = subst (Counts p line) (sym e) (refl, omega arith, refl)
+  counts-nothing p line s a e = subst (Counts p line) (sym e) (refl, refl, refl)
 
   counts-refusal : (p : Point) (line : List ℕ) (reply : Reply) (a : Added) → a ≡ refusal_added tells refusal remark p line reply → Counts p line a
-  counts-refusal p line reply a e = subst (Counts p line) (sym e) (refl, omega arith, refl)
+  counts-refusal p line reply a e = subst (Counts p line) (sym e) (refl, refl, refl)
 
   counts-pgn : (p : Point) (line : List ℕ) (reply : Reply) (a : Added) (b : Bool) → IsPgnAfter tells refusal remark p line reply b a → Counts p line a
   counts-pgn p line reply a true e = counts-refusal p line reply a e
-  counts-pgn p line reply a false (inl (plain, text, b, t, e)) = subst (Counts p line) (sym e) (refl, omega arith, refl)
+  counts-pgn p line reply a false (inl (plain, text, b, t, e)) = subst (Counts p line) (sym e) (refl, refl, refl)
   counts-pgn p line reply a false (inr (plain, why, d, l, e)) = counts-refusal p line (refused_reply reply.state why) a e
 
   counts-checked : (p : Point) (line : List ℕ) (reply : Reply) (a : Added) (b : Bool) → IsCheckedAfter tells refusal remark p line reply b a → Counts p line a
@@ -408,34 +411,36 @@ module _ (tells : PlainStudy → EntryInfo → List ℕ → Type 0) (refusal : �
   counts-checked p line reply a false e = counts-nothing p line reply.state a e
 
   counts-more : (p : Point) (line : List ℕ) (a : Added) (k : LineKind) → IsAddedAs tells refusal remark k p line a → Counts p line a
-  counts-more p line a Remark e = subst (Counts p line) (sym e) (refl, omega arith, refl)
+  counts-more p line a Remark e = subst (Counts p line) (sym e) (refl, refl, refl)
   counts-more p line a PassedOver e = counts-nothing p line p.state a e
   counts-more p line a NoClass e = counts-refusal p line (refused_reply p.state NotAClass) a e
   counts-more p line a Study (o, reply, is, after) = counts-pgn p line reply a reply.refused after
   counts-more p line a Checked (o, reply, is, after) = counts-checked p line reply a reply.refused after
 
-  -- a study that is reported leaves what was not read of it
-  study-unread : (old : Unread) (number : ℕ) (line : List ℕ) (reported : LineOutcome) → study_count reported ≡ 1
+  -- an entry leaves what was not read of the study in the document
+  entry-unread : (old : Unread) (number : ℕ) (line : List ℕ) (reported : LineOutcome) → entry_count reported ≡ 1
       → (unread_after old number line reported).own ≡ old.own
-  study-unread old number line Nothing e = absurd cc
-  study-unread old number line AStudy e = refl
-  study-unread old number line ARefusal e = absurd cc
+  entry-unread old number line Nothing e = absurd cc
+  entry-unread old number line AStudy e = refl
+  entry-unread old number line LeftOut e = refl
+  entry-unread old number line NotRead e = absurd cc
+  entry-unread old number line ARefusal e = absurd cc
 
   same-entry : (i j : ℕ) (u v : Option ℕ) → i ≡ j → u ≡ v → entry i u ≡ entry j v
   same-entry i j u v e f = ap (λ (x : ℕ). entry x u) e ∙ ap (λ (x : Option ℕ). entry j x) f
 
   pub ReportedOn-more : (holds holds' : State → Type 0) (Lists Lists' : List Entry → Type 0) (document : Document)
       (script now next old mid new : Option (List ℕ)) (first : State)
-      (line : List ℕ) (n refused refused' studies studies' : ℕ) (unread unread' : Unread) (reported : LineOutcome)
-      (r : ReportedOn holds Lists script now old mid first n refused studies unread)
+      (line : List ℕ) (n refused refused' entries entries' : ℕ) (unread unread' : Unread) (reported : LineOutcome)
+      (r : ReportedOn holds Lists script now old mid first n refused entries unread)
       → TakesLine now next true line → length line ≤ 1024
       → Adds (IsAdded tells refusal remark r.point line) holds' mid new reported
-      → refused' ≡ refused + refusal_count reported → studies' ≡ studies + study_count reported
+      → refused' ≡ refused + refusal_count reported → entries' ≡ entries + entry_count reported
       → unread' ≡ unread_after unread (n + 1) line reported
       → ((s : State) → holds' s → document ≡ s.document)
-      → ((more : List Entry) → Lists more → Lists' (more ++ listed_in line reported document (record { number = studies + 1; unread = unread.own })))
-      → ReportedOn holds' Lists' script next old new first (n + 1) refused' studies' unread'
-  ReportedOn-more holds holds' Lists Lists' document script now next old mid new first line n refused refused' studies studies' unread unread' reported r t
+      → ((more : List Entry) → Lists more → Lists' (more ++ listed_in line reported document (record { number = entries + 1; unread = unread.own })))
+      → ReportedOn holds' Lists' script next old new first (n + 1) refused' entries' unread'
+  ReportedOn-more holds holds' Lists Lists' document script now next old mid new first line n refused refused' entries entries' unread unread' reported r t
       short
       (a, is, wrote, held, same) k j u seen l =
       let counts = counts-more r.point line a (line_kind line) is in
@@ -444,18 +449,18 @@ module _ (tells : PlainStudy → EntryInfo → List ℕ → Type 0) (refusal : �
         reported = reported_more Lists Lists' script now next old mid new first r.point line a n refused refused' r.reported t short is wrote
             (k ∙ ap (λ (x : LineOutcome). refused + refusal_count x) same)
             (λ more h. subst (λ (x : List Entry). Lists' (more ++ x))
-            (listed-same line reported a.reported document a.after.state.document (record { number = studies + 1; unread = unread.own }) (last_entry a.after)
+            (listed-same line reported a.reported document a.after.state.document (record { number = entries + 1; unread = unread.own }) (last_entry a.after)
             same (seen a.after.state held)
-            (λ one. same-entry (studies + 1) a.after.studies unread.own a.after.unread.own
-            (ap (λ i. i + 1) r.studies_are ∙ ap (λ i. r.point.studies + i) (sym one) ∙ sym counts.1)
-            (ap (λ (u : Unread). u.own) r.unread_is ∙ sym (study-unread r.point.unread (suc r.point.lines) line a.reported one)
+            (λ one. same-entry (entries + 1) a.after.entries unread.own a.after.unread.own
+            (ap (λ i. i + 1) r.entries_are ∙ ap (λ i. r.point.entries + i) (sym one) ∙ sym counts.1)
+            (ap (λ (u : Unread). u.own) r.unread_is ∙ sym (entry-unread r.point.unread (suc r.point.lines) line a.reported one)
             ∙ sym (ap (λ (u : Unread). u.own) counts.2)))) (l more h));
         held = held;
         lines_are = ap (λ i. i + 1) r.lines_are ∙ omega arith ∙ sym counts.0;
         unread_is = u ∙ ap (λ (x : LineOutcome). unread_after unread (n + 1) line x) same
             ∙ ap (λ (x : Unread). unread_after x (n + 1) line a.reported) r.unread_is
             ∙ ap (λ i. unread_after r.point.unread i line a.reported) (ap (λ i. i + 1) r.lines_are ∙ omega arith) ∙ sym counts.2;
-        studies_are = j ∙ ap (λ (x : LineOutcome). studies + study_count x) same ∙ ap (λ i. i + study_count a.reported) r.studies_are ∙ sym counts.1;
+        entries_are = j ∙ ap (λ (x : LineOutcome). entries + entry_count x) same ∙ ap (λ i. i + entry_count a.reported) r.entries_are ∙ sym counts.1;
       }
 
 -- ---- whatever is reported
@@ -474,15 +479,17 @@ gone_stops script now next line n fault (inl e) r t short lt =
 gone_stops script now next line n fault (inr e) r t short lt =
     subst (λ (f : RunFault). IfSome script (λ bytes. Shape bytes next (Err f))) (sym e) (gone_memory next script now n r (omega arith))
 
--- a line counts as at most one refusal or study
-pub few-reported : (reported : LineOutcome) → (refusal_count reported ≤ 1) × (study_count reported ≤ 1)
+-- a line counts as at most one refusal or entry
+pub few-reported : (reported : LineOutcome) → (refusal_count reported ≤ 1) × (entry_count reported ≤ 1)
 few-reported Nothing = (omega arith, omega arith)
 few-reported AStudy = (omega arith, omega arith)
+few-reported LeftOut = (omega arith, omega arith)
+few-reported NotRead = (omega arith, omega arith)
 few-reported ARefusal = (omega arith, omega arith)
 
 -- there is no memory for the first line
 pub none_before : (tells : PlainStudy → EntryInfo → List ℕ → Type 0) (refusal : ℕ → List ℕ → List ℕ → List ℕ)
-    (remark : List ℕ → List ℕ) (Has : List Entry → Type 0)
+    (remark : ℕ → List ℕ → List ℕ) (Has : List Entry → Type 0)
     (reported : List Entry) (script out : Option (List ℕ)) (first : State) → Has reported
     → IfSome script (λ bytes. AreListedBefore tells refusal remark first bytes out out (λ more. Has (reported ++ more)) OutOfMemory)
 none_before tells refusal remark Has reported None out first h = tt

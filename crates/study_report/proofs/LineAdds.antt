@@ -1,6 +1,6 @@
 -- The contribution of a line, from what was written for it.
-use Rattle.std.proofs.Common.{◌≡◌, ℕ, ◌+◌, suc, Bool, true, false, List, [], ◌++◌, Option, Some, Result, Ok, Err, refl, sym, ap, subst, ◌∙◌, inl, inr, arith}
-use Rattle.std.specs.Prelude.{IfOk, IfErr}
+use Rattle.std.proofs.Common.{◌≡◌, ℕ, ◌+◌, suc, Bool, true, false, List, [], ◌∷◌, ◌++◌, Option, Some, None, Result, Ok, Err, refl, sym, ap, subst, ◌∙◌, inl, inr, arith}
+use Rattle.std.specs.Prelude.{IfOk, IfErr, if◌then◌else◌}
 use Rattle.std.specs.Io.KnownBytes.{Appends}
 use Rattle.std.proofs.KnownBytes.{Appends-nil}
 use Rattle.std.proofs.lemmas.List.{append-nil}
@@ -19,11 +19,14 @@ use Rattle.study_script.specs.Replies.{Reply, refused_reply, IsReplyIn}
 use Rattle.study_script.specs.SessionHolds.{Answered}
 use Rattle.study_report.specs.declared.line_kind.LineKind.TheVariants.{Study, Checked}
 use Rattle.study_report.specs.declared.line_outcome.LineOutcome.{LineOutcome}
-use Rattle.study_report.specs.declared.line_outcome.LineOutcome.TheVariants.{Nothing, Study as AStudy, Refusal as ARefusal}
+use Rattle.study_report.specs.declared.line_outcome.LineOutcome.TheVariants.{Nothing, Study as AStudy, LeftOut, NotRead, Refusal as ARefusal}
 use Rattle.study_facts.specs.declared.entry.EntryInfo.{EntryInfo}
 use Rattle.study_report.specs.declared.unread_line.Unread.{Unread}
 use Rattle.study_report.specs.declared.line_outcome.ReportPosition.{ReportPosition}
-use Rattle.study_report.specs.Reported.{study_count, Entry, entry_at, next_entry, IsAt, games_in, listed_in}
+use Rattle.study_remark.specs.Remarks.{Told, left_out, not_read, stipulated, doubted, not_taken_over, behind_result, original_of, latin_1, letters, tail, total}
+use Rattle.study_remark.specs.Reading.{remark_in}
+use Rattle.study_report.specs.Remarks.{says_left_out, outcome_told, remark_outcome}
+use Rattle.study_report.specs.Reported.{entry_count, Entry, game_entry, entry_at, next_entry, IsAt, games_in, listed_in}
 use Rattle.study_report.specs.Reported.{Point, Added, IsLeftOut, IsStudyReported, IsAddedAs, IsPgnAfter, IsCheckedAfter}
 use Rattle.study_report.specs.Reported.{nothing_added, study_added, refusal_added, remark_added}
 use Rattle.study_report.specs.Written.{Adds, Stops, StopsIn, IsSection, IsSectionPart, IsReplied}
@@ -33,40 +36,57 @@ entry number unread = record { number = number; unread = unread }
 
 -- the next study is the entry of the next line
 pub at-next : (p : Point) (at : ReportPosition) → IsAt p at → entry_at at ≡ next_entry p
-at-next p at (lines, studies, unread) =
-    let n : at.studies + 1 ≡ suc p.studies = omega (arith, studies) in
-    ap (λ (i : ℕ). entry i at.unread.own) n ∙ ap (λ (u : Unread). entry (suc p.studies) u.own) unread
+at-next p at (lines, entries, unread) =
+    let n : at.entries + 1 ≡ suc p.entries = omega (arith, entries) in
+    ap (λ (i : ℕ). entry i at.unread.own) n ∙ ap (λ (u : Unread). entry (suc p.entries) u.own) unread
 
 -- what holds of every text written for a refusal
 abbrev pub RefusalWritten : List ℕ → Option (List ℕ) → Option (List ℕ) → LineOutcome → Type 0
 RefusalWritten text old new reported = (reported ≡ ARefusal) × Appends old new text
 
--- a refusal is no study
+-- a refusal is no entry
 pub refusal-none : (r : Result LineOutcome RunFault) (text : List ℕ) (old new : Option (List ℕ)) → IfOk r (RefusalWritten text old new)
-    → IfOk r (λ t. study_count t ≡ 0)
+    → IfOk r (λ t. entry_count t ≡ 0)
 refusal-none r text old new h =
-    IfOk-weaker r (RefusalWritten text old new) (λ t. study_count t ≡ 0) (λ t (e, wrote). ap study_count e) h
+    IfOk-weaker r (RefusalWritten text old new) (λ t. entry_count t ≡ 0) (λ t (e, wrote). ap entry_count e) h
 
 -- what holds of every text written for a remark
-abbrev pub RemarkWritten : List ℕ → Option (List ℕ) → Option (List ℕ) → LineOutcome → Type 0
-RemarkWritten text old new reported = (reported ≡ Nothing) × Appends old new text
+abbrev pub RemarkWritten : List ℕ → List ℕ → Option (List ℕ) → Option (List ℕ) → LineOutcome → Type 0
+RemarkWritten line text old new reported = (reported ≡ remark_outcome line) × Appends old new text
 
-none-in : (line : List ℕ) (t : LineOutcome) (document : Document) (info : EntryInfo) → games_in line ≡ [] → study_count t ≡ 0
-    → listed_in line t document info ≡ []
-none-in line Nothing document info none e = none
-none-in line AStudy document info none e = absurd cc
-none-in line ARefusal document info none e = refl
+none-in : (line : List ℕ) (t : LineOutcome) (document : Document) (info : EntryInfo) → entry_count t ≡ 0 → listed_in line t document info ≡ []
+none-in line Nothing document info e = refl
+none-in line AStudy document info e = absurd cc
+none-in line LeftOut document info e = absurd cc
+none-in line NotRead document info e = refl
+none-in line ARefusal document info e = refl
+
+-- a remark is an entry if it is of a game that was left out
+game-in : (told : Option Told) (line : List ℕ) (document : Document) (info : EntryInfo)
+    → (if says_left_out told then game_entry line info.number ∷ [] else []) ≡ listed_in line (outcome_told told) document info
+game-in None line document info = refl
+game-in (Some (left_out game why)) line document info = refl
+game-in (Some (not_read game why)) line document info = refl
+game-in (Some (stipulated game by)) line document info = refl
+game-in (Some (doubted why)) line document info = refl
+game-in (Some (not_taken_over counts)) line document info = refl
+game-in (Some (behind_result at column)) line document info = refl
+game-in (Some (original_of name text)) line document info = refl
+game-in (Some (latin_1 name)) line document info = refl
+game-in (Some (letters language)) line document info = refl
+game-in (Some (tail moves)) line document info = refl
+game-in (Some (total games studies)) line document info = refl
 
 pub nothing-listed : (Lists : List Entry → Type 0) (reported : List Entry) → Lists reported → Lists (reported ++ [])
 nothing-listed Lists reported kept = subst Lists (sym (append-nil reported)) kept
 
--- if the line is no remark of a game, and no study was reported, the list is unchanged
+-- without an entry the list is unchanged
 pub none-listed : (Lists : List Entry → Type 0) (r : Result LineOutcome RunFault) (reported : List Entry) (line : List ℕ) (document : Document)
     (info : EntryInfo)
-    → games_in line ≡ [] → IfOk r (λ t. study_count t ≡ 0) → Lists reported → IfOk r (λ t. Lists (reported ++ listed_in line t document info))
-none-listed Lists r reported line document info none h kept =
-    IfOk-weaker r (λ t. study_count t ≡ 0) (λ t. Lists (reported ++ listed_in line t document info))
-    (λ t e. subst (λ (x : List Entry). Lists (reported ++ x)) (sym (none-in line t document info none e)) (nothing-listed Lists reported kept)) h
+    → IfOk r (λ t. entry_count t ≡ 0) → Lists reported → IfOk r (λ t. Lists (reported ++ listed_in line t document info))
+none-listed Lists r reported line document info h kept =
+    IfOk-weaker r (λ t. entry_count t ≡ 0) (λ t. Lists (reported ++ listed_in line t document info))
+    (λ t e. subst (λ (x : List Entry). Lists (reported ++ x)) (sym (none-in line t document info e)) (nothing-listed Lists reported kept)) h
 
 -- a refusal leaves it unchanged
 pub refusal-listed : (Lists : List Entry → Type 0) (r : Result LineOutcome RunFault) (reported : List Entry) (line : List ℕ) (document : Document)
@@ -80,10 +100,11 @@ refusal-listed Lists r reported line document info text old new h kept =
 -- a remark adds the game that was left out
 pub remark-listed : (Lists : List Entry → Type 0) (r : Result LineOutcome RunFault) (reported : List Entry) (line : List ℕ) (document : Document)
     (info : EntryInfo)
-    (text : List ℕ) (old new : Option (List ℕ)) → IfOk r (RemarkWritten text old new) → IfOk r (λ t. Lists (reported ++ games_in line))
+    (text : List ℕ) (old new : Option (List ℕ)) → IfOk r (RemarkWritten line text old new) → IfOk r (λ t. Lists (reported ++ games_in info.number line))
     → IfOk r (λ t. Lists (reported ++ listed_in line t document info))
 remark-listed Lists (Ok t) reported line document info text old new (e, wrote) kept =
-    subst (λ (x : LineOutcome). Lists (reported ++ listed_in line x document info)) (sym e) kept
+    subst (λ (x : LineOutcome). Lists (reported ++ listed_in line x document info)) (sym e)
+    (subst (λ (x : List Entry). Lists (reported ++ x)) (game-in (remark_in line) line document info) kept)
 remark-listed Lists (Err fault) reported line document info text old new h kept = tt
 
 pub adds-weaker : (I J : Added → Type 0) (H K : State → Type 0) (r : Result LineOutcome RunFault) (old new : Option (List ℕ)) → ((a : Added) → I a → J a)
@@ -111,7 +132,7 @@ stops-in I a old new ReadDevice is h = absurd h
 stops-in I a old new (LineTooLong n) is h = absurd h
 stops-in I a old new TooManyLines is h = absurd h
 
-module _ (tells : PlainStudy → EntryInfo → List ℕ → Type 0) (refusal : ℕ → List ℕ → List ℕ → List ℕ) (remark : List ℕ → List ℕ) where
+module _ (tells : PlainStudy → EntryInfo → List ℕ → Type 0) (refusal : ℕ → List ℕ → List ℕ → List ℕ) (remark : ℕ → List ℕ → List ℕ) where
   -- a refusal is written, from the number of the line and the bytes of its reply
   pub refusal-adds : (I : Added → Type 0) (H : State → Type 0) (p : Point) (line : List ℕ) (reply : Reply) (number : ℕ) (bytes : List ℕ)
       (r : Result LineOutcome RunFault) (old new : Option (List ℕ)) → number ≡ suc p.lines → bytes ≡ reply.text
@@ -134,18 +155,21 @@ module _ (tells : PlainStudy → EntryInfo → List ℕ → Type 0) (refusal : �
       (λ fault k. stops-in I (refusal_added tells refusal remark p line reply) old new fault is
       (subst (λ (t : List ℕ). StopsIn t old new fault) same k)) h
 
-  -- a remark is written
-  pub remark-adds : (I : Added → Type 0) (H : State → Type 0) (p : Point) (line : List ℕ) (r : Result LineOutcome RunFault) (old new : Option (List ℕ))
-      → I (remark_added tells refusal remark p line) → H p.state → IfOk r (RemarkWritten (remark line) old new) → IfOk r (Adds I H old new)
-  remark-adds I H p line r old new is held h =
-      IfOk-weaker r (RemarkWritten (remark line) old new) (Adds I H old new)
-      (λ reported (t, wrote). (remark_added tells refusal remark p line, is, wrote, held, t)) h
+  -- a remark is written, with the number of the next entry
+  pub remark-adds : (I : Added → Type 0) (H : State → Type 0) (p : Point) (line : List ℕ) (entries : ℕ) (r : Result LineOutcome RunFault)
+      (old new : Option (List ℕ)) → entries ≡ p.entries → I (remark_added tells refusal remark p line) → H p.state
+      → IfOk r (RemarkWritten line (remark (entries + 1) line) old new) → IfOk r (Adds I H old new)
+  remark-adds I H p line entries r old new n is held h =
+      let next : entries + 1 ≡ suc p.entries = omega (arith, n) in
+      IfOk-weaker r (RemarkWritten line (remark (entries + 1) line) old new) (Adds I H old new)
+      (λ reported (t, wrote). (remark_added tells refusal remark p line, is, subst (λ (i : ℕ). Appends old new (remark i line)) next wrote, held, t)) h
 
-  pub remark-stops : (I : Added → Type 0) (p : Point) (line : List ℕ) (r : Result LineOutcome RunFault) (old new : Option (List ℕ))
-      → I (remark_added tells refusal remark p line) → IfErr r (StopsIn (remark line) old new) → IfErr r (Stops I old new)
-  remark-stops I p line r old new is h =
-      IfErr-weaker r (StopsIn (remark line) old new) (Stops I old new)
-      (λ fault. stops-in I (remark_added tells refusal remark p line) old new fault is) h
+  pub remark-stops : (I : Added → Type 0) (p : Point) (line : List ℕ) (entries : ℕ) (r : Result LineOutcome RunFault) (old new : Option (List ℕ))
+      → entries ≡ p.entries → I (remark_added tells refusal remark p line) → IfErr r (StopsIn (remark (entries + 1) line) old new) → IfErr r (Stops I old new)
+  remark-stops I p line entries r old new n is h =
+      let next : entries + 1 ≡ suc p.entries = omega (arith, n) in
+      IfErr-weaker r (StopsIn (remark (entries + 1) line) old new) (Stops I old new)
+      (λ fault k. stops-in I (remark_added tells refusal remark p line) old new fault is (subst (λ (i : ℕ). StopsIn (remark i line) old new fault) next k)) h
 
   -- the study in the document is written
   pub section-adds : (H : State → Type 0) (p : Point) (s : State) (line : List ℕ) (info : EntryInfo) (plain : PlainStudy) (old new : Option (List ℕ))

@@ -29,10 +29,8 @@ use Rattle.study_script.specs.Replies.{Reply, accepted_reply, refused_reply, cla
 use Rattle.study_script.specs.Replies.{names_position, begins_position, without_document}
 use Rattle.study_report.specs.declared.line_kind.LineKind.{LineKind}
 use Rattle.study_report.specs.declared.line_kind.LineKind.TheVariants.{Remark, PassedOver, Study, Checked}
-use Rattle.study_remark.specs.Remarks.{Told, left_out, not_read, stipulated, doubted, not_taken_over, behind_result, original_of, latin_1, letters, tail, total}
-use Rattle.study_remark.specs.Reading.{remark_in}
-use Rattle.study_report.specs.Remarks.{is_remark, is_told, says_left_out}
-use Rattle.study_report.specs.Reported.{kind_in, line_kind, class_kind, lacks_study, game_entry, games_in}
+use Rattle.study_report.specs.Remarks.{is_remark}
+use Rattle.study_report.specs.Reported.{kind_in, line_kind, class_kind, lacks_study}
 use Rattle.study_report.specs.Written.{none_trusted}
 
 -- ---- a line that is no remark
@@ -44,25 +42,6 @@ plain-kind false k kind other e = e
 
 plain-study : (line : List ℕ) → line_kind line ≡ Study → kind_in (command_of line) ≡ Study
 plain-study line k = plain-kind (is_remark line) (kind_in (command_of line)) Study (λ e. absurd cc) k
-
--- it is not the remark of a game
-no-game : (told : Option Told) (line : List ℕ) (k kind : LineKind) → (Remark ≡ kind → ⊥) → (if is_told told then Remark else k) ≡ kind
-    → (if says_left_out told then game_entry line ∷ [] else []) ≡ []
-no-game None line k kind other e = refl
-no-game (Some (left_out game why)) line k kind other e = absurd (other e)
-no-game (Some (not_read game why)) line k kind other e = refl
-no-game (Some (stipulated game by)) line k kind other e = refl
-no-game (Some (doubted why)) line k kind other e = refl
-no-game (Some (not_taken_over counts)) line k kind other e = refl
-no-game (Some (behind_result at column)) line k kind other e = refl
-no-game (Some (original_of name text)) line k kind other e = refl
-no-game (Some (latin_1 name)) line k kind other e = refl
-no-game (Some (letters language)) line k kind other e = refl
-no-game (Some (tail moves)) line k kind other e = refl
-no-game (Some (total games studies)) line k kind other e = refl
-
-pub no-games : (line : List ℕ) (kind : LineKind) → (Remark ≡ kind → ⊥) → line_kind line ≡ kind → games_in line ≡ []
-no-games line kind other e = no-game (remark_in line) line (kind_in (command_of line)) kind other e
 
 -- ---- a line that is answered opens no file
 

@@ -28,8 +28,8 @@ use Rattle.study_report.specs.declared.line_kind.LineKind.{LineKind}
 use Rattle.study_report.specs.declared.line_kind.LineKind.TheVariants.{Remark, PassedOver, NoClass, Study, Checked}
 use Rattle.study_report.specs.declared.line_outcome.LineOutcome.{LineOutcome}
 use Rattle.study_report.specs.declared.line_outcome.LineOutcome.TheVariants.{Nothing, Study as AStudy, Refusal as ARefusal}
-use Rattle.study_report.specs.Reported.{line_kind, lacks_study, study_count, refusal_count}
-use Rattle.study_report.specs.Parts.{Part, nothing_part, study_part, parts_text, part_studies, part_refusals, WritesPart, IsReplyPiece, refused_part}
+use Rattle.study_report.specs.Reported.{line_kind, lacks_study, entry_count, refusal_count}
+use Rattle.study_report.specs.Parts.{Part, nothing_part, study_part, parts_text, part_entries, part_refusals, WritesPart, IsReplyPiece, refused_part}
 use Rattle.study_report.specs.Parts.{remark_part, checked_part, IsPartAs, IsPart, IsNextAs, IsNext, AreParts, Fits}
 use Rattle.study_report.proofs.LineAdds.{RefusalWritten, RemarkWritten}
 
@@ -62,17 +62,17 @@ pub on-err : {A E : Type 0} (r : Result A E) (P : Type 0) → P → IfErr r (λ 
 on-err (Ok x) P h = tt
 on-err (Err e) P h = h
 
-module _ (form : PlainStudy → ℕ → List ℕ → Type 0) (refusal : ℕ → List ℕ → List ℕ → List ℕ) (remark : List ℕ → List ℕ) (here : Document) where
+module _ (form : PlainStudy → ℕ → List ℕ → Type 0) (refusal : ℕ → List ℕ → List ℕ → List ℕ) (remark : ℕ → List ℕ → List ℕ) (here : Document) where
   pub passed-part : (k : LineKind) (line : List ℕ) (number next : ℕ) (out : Option (List ℕ)) → PassedOver ≡ k
       → WritesPart (IsPartAs form refusal remark k number next here line) out out Nothing
   passed-part k line number next out e =
       (nothing_part, subst (λ (x : LineKind). IsPartAs form refusal remark x number next here line nothing_part) e refl, Appends-nil out, refl)
 
   pub remark-part : {E : Type 0} (k : LineKind) (line : List ℕ) (number next : ℕ) (r : Result LineOutcome E) (old new : Option (List ℕ)) → Remark ≡ k
-      → IfOk r (RemarkWritten (remark line) old new) → IfOk r (WritesPart (IsPartAs form refusal remark k number next here line) old new)
+      → IfOk r (RemarkWritten line (remark next line) old new) → IfOk r (WritesPart (IsPartAs form refusal remark k number next here line) old new)
   remark-part k line number next r old new e h =
-      let part = remark_part form refusal remark line in
-      IfOk-weaker r (RemarkWritten (remark line) old new) (WritesPart (IsPartAs form refusal remark k number next here line) old new)
+      let part = remark_part form refusal remark next line in
+      IfOk-weaker r (RemarkWritten line (remark next line) old new) (WritesPart (IsPartAs form refusal remark k number next here line) old new)
       (λ reported (t, wrote). (part, subst (λ (x : LineKind). IsPartAs form refusal remark x number next here line part) e refl, wrote, t)) h
 
   pub no-class-part : {E : Type 0} (k : LineKind) (line : List ℕ) (number next : ℕ) (r : Result LineOutcome E) (old new : Option (List ℕ)) → NoClass ≡ k
@@ -154,12 +154,12 @@ module _ (form : PlainStudy → ℕ → List ℕ → Type 0) (refusal : ℕ → 
       subst (λ (x : Option (List ℕ)). IfOk r (WritesPart (IsPartAs form refusal remark Study number next here line) x new)) same
       (refusal-part line number next (words_of why) r mid new h)
 
-module _ (form : PlainStudy → ℕ → List ℕ → Type 0) (refusal : ℕ → List ℕ → List ℕ → List ℕ) (remark : List ℕ → List ℕ) where
+module _ (form : PlainStudy → ℕ → List ℕ → Type 0) (refusal : ℕ → List ℕ → List ℕ → List ℕ) (remark : ℕ → List ℕ → List ℕ) where
   -- ---- lines
 
   parts-more : (n k : ℕ) (here there next : Document) (lines : List (List ℕ)) (parts : List Part) (line : List ℕ) (part : Part)
       → AreParts form refusal remark n k here lines parts there
-      → IsPart form refusal remark (suc (n + length lines)) (suc (k + part_studies parts)) there line part → IsNext there line part.reported next
+      → IsPart form refusal remark (suc (n + length lines)) (suc (k + part_entries parts)) there line part → IsNext there line part.reported next
       → AreParts form refusal remark n k here (lines ++ line ∷ []) (parts ++ part ∷ []) next
   parts-more n k here there next [] [] line part h r d =
       let e : suc (n + 0) ≡ suc n = omega arith in
@@ -170,16 +170,16 @@ module _ (form : PlainStudy → ℕ → List ℕ → Type 0) (refusal : ℕ → 
   parts-more n k here there next (l ∷ lines) [] line part h r d = absurd h
   parts-more n k here there next (l ∷ lines) (x ∷ parts) line part (is, (mid, goes, are)) r d =
       let e : suc (n + length (l ∷ lines)) ≡ suc (suc n + length lines) = omega arith in
-      let split : part_studies (x ∷ parts) ≡ study_count x.reported + part_studies parts =
-      sum_by-cons (λ (p : Part). study_count p.reported) x parts in
-      let f : suc (k + part_studies (x ∷ parts)) ≡ suc ((k + study_count x.reported) + part_studies parts) = omega (arith, split) in (
+      let split : part_entries (x ∷ parts) ≡ entry_count x.reported + part_entries parts =
+      sum_by-cons (λ (p : Part). entry_count p.reported) x parts in
+      let f : suc (k + part_entries (x ∷ parts)) ≡ suc ((k + entry_count x.reported) + part_entries parts) = omega (arith, split) in (
         is,
         (
           mid,
           goes,
-          parts-more (suc n) (k + study_count x.reported) mid there next lines parts line part are
+          parts-more (suc n) (k + entry_count x.reported) mid there next lines parts line part are
               (subst (λ i. IsPart form refusal remark (suc (suc n + length lines)) i there line part) f
-              (subst (λ i. IsPart form refusal remark i (suc (k + part_studies (x ∷ parts))) there line part) e r)) d,
+              (subst (λ i. IsPart form refusal remark i (suc (k + part_entries (x ∷ parts))) there line part) e r)) d,
         ),
       )
 
@@ -187,39 +187,39 @@ module _ (form : PlainStudy → ℕ → List ℕ → Type 0) (refusal : ℕ → 
   text-more [] part = append-nil part.text
   text-more (x ∷ parts) part = ap (λ (t : List ℕ). x.text ++ t) (text-more parts part) ∙ sym (append_assoc x.text (parts_text parts) part.text)
 
-  -- n lines were read, their parts are written, and so many studies are reported and lines refused
-  pub record PartsOver (first last : Document) (all left : List (List ℕ)) (old new : Option (List ℕ)) (n refused studies : ℕ) : Type 0 where
+  -- n lines were read, their parts are written, and there are so many entries and refused lines
+  pub record PartsOver (first last : Document) (all left : List (List ℕ)) (old new : Option (List ℕ)) (n refused entries : ℕ) : Type 0 where
     pub left_is : drop n all ≡ left
     pub within : n ≤ length all
     pub parts : List Part
     pub are : AreParts form refusal remark 0 0 first (take n all) parts last
     pub written : Appends old new (parts_text parts)
     pub refused_is : refused ≡ part_refusals parts
-    pub studies_are : studies ≡ part_studies parts
+    pub entries_are : entries ≡ part_entries parts
 
   abbrev pub PartsKnown : Document → Document → Option (List ℕ) → Option (List ℕ) → Option (List ℕ) → Option (List ℕ) → ℕ → ℕ → ℕ → Type 0
-  PartsKnown first last None now old new n refused studies = Unit {0}
-  PartsKnown first last (Some bs) None old new n refused studies = ⊥
-  PartsKnown first last (Some bs) (Some rest) old new n refused studies = PartsOver first last (script_lines bs) (script_lines rest) old new n refused studies
+  PartsKnown first last None now old new n refused entries = Unit {0}
+  PartsKnown first last (Some bs) None old new n refused entries = ⊥
+  PartsKnown first last (Some bs) (Some rest) old new n refused entries = PartsOver first last (script_lines bs) (script_lines rest) old new n refused entries
 
-  pub record HasParts (first last : Document) (script now old new : Option (List ℕ)) (n refused studies : ℕ) : Type 0 where
-    pub known : PartsKnown first last script now old new n refused studies
+  pub record HasParts (first last : Document) (script now old new : Option (List ℕ)) (n refused entries : ℕ) : Type 0 where
+    pub known : PartsKnown first last script now old new n refused entries
 
   pub parts_none : (first : Document) (script out : Option (List ℕ)) → HasParts first first script script out out 0 0 0
   parts_none first None out = record { known = tt }
   parts_none first (Some bs) out = record {
-    known = record { left_is = refl; within = omega arith; parts = []; are = refl; written = Appends-nil out; refused_is = refl; studies_are = refl };
+    known = record { left_is = refl; within = omega arith; parts = []; are = refl; written = Appends-nil out; refused_is = refl; entries_are = refl };
   }
 
-  pub parts_more : (first here there : Document) (script now next old mid new : Option (List ℕ)) (line : List ℕ) (n number refused refused' studies studies' : ℕ) (reported : LineOutcome)
-      → HasParts first here script now old mid n refused studies → TakesLine now next true line → number ≡ n + 1
-      → WritesPart (IsPart form refusal remark number (studies + 1) here line) mid new reported → IsNext here line reported there
-      → refused' ≡ refused + refusal_count reported → studies' ≡ studies + study_count reported
-      → HasParts first there script next old new (n + 1) refused' studies'
-  parts_more first here there None now next old mid new line n number refused refused' studies studies' reported r t at w d k j = record { known = tt }
-  parts_more first here there (Some bs) None next old mid new line n number refused refused' studies studies' reported r t at w d k j = absurd r.known
-  parts_more first here there (Some bs) (Some rest) None old mid new line n number refused refused' studies studies' reported r t at w d k j = absurd t
-  parts_more first here there (Some bs) (Some rest) (Some rest') old mid new line n number refused refused' studies studies' reported r t at
+  pub parts_more : (first here there : Document) (script now next old mid new : Option (List ℕ)) (line : List ℕ) (n number refused refused' entries entries' : ℕ) (reported : LineOutcome)
+      → HasParts first here script now old mid n refused entries → TakesLine now next true line → number ≡ n + 1
+      → WritesPart (IsPart form refusal remark number (entries + 1) here line) mid new reported → IsNext here line reported there
+      → refused' ≡ refused + refusal_count reported → entries' ≡ entries + entry_count reported
+      → HasParts first there script next old new (n + 1) refused' entries'
+  parts_more first here there None now next old mid new line n number refused refused' entries entries' reported r t at w d k j = record { known = tt }
+  parts_more first here there (Some bs) None next old mid new line n number refused refused' entries entries' reported r t at w d k j = absurd r.known
+  parts_more first here there (Some bs) (Some rest) None old mid new line n number refused refused' entries entries' reported r t at w d k j = absurd t
+  parts_more first here there (Some bs) (Some rest) (Some rest') old mid new line n number refused refused' entries entries' reported r t at
       (part, is, wrote, same) d k j =
       let v = r.known in
       let all = script_lines bs in
@@ -230,9 +230,9 @@ module _ (form : PlainStudy → ℕ → List ℕ → Type 0) (refusal : ℕ → 
       let le = v.within in
       let len : length (take n all) ≡ n = length-take-le n all le in
       let at-line : number ≡ suc (0 + length (take n all)) = omega (arith, at, len) in
-      let at-study : studies + 1 ≡ suc (0 + part_studies v.parts) = omega (arith, v.studies_are) in
-      let at-place = subst (λ i. IsPart form refusal remark (suc (0 + length (take n all))) i here line part) at-study
-      (subst (λ i. IsPart form refusal remark i (studies + 1) here line part) at-line is) in
+      let at-entry : entries + 1 ≡ suc (0 + part_entries v.parts) = omega (arith, v.entries_are) in
+      let at-place = subst (λ i. IsPart form refusal remark (suc (0 + length (take n all))) i here line part) at-entry
+      (subst (λ i. IsPart form refusal remark i (entries + 1) here line part) at-line is) in
       record {
         known = record {
           left_is = ap (λ i. drop i all) e ∙ f.2;
@@ -242,45 +242,45 @@ module _ (form : PlainStudy → ℕ → List ℕ → Type 0) (refusal : ℕ → 
           written = rw (text-more v.parts part) (Appends-trans old mid new (parts_text v.parts) part.text v.written wrote);
           refused_is = k ∙ ap (λ (x : LineOutcome). refused + refusal_count x) same ∙ ap (λ i. i + refusal_count part.reported) v.refused_is
               ∙ sym (sum_by_push (λ (p : Part). refusal_count p.reported) v.parts part);
-          studies_are = j ∙ ap (λ (x : LineOutcome). studies + study_count x) same ∙ ap (λ i. i + study_count part.reported) v.studies_are
-              ∙ sym (sum_by_push (λ (p : Part). study_count p.reported) v.parts part);
+          entries_are = j ∙ ap (λ (x : LineOutcome). entries + entry_count x) same ∙ ap (λ i. i + entry_count part.reported) v.entries_are
+              ∙ sym (sum_by_push (λ (p : Part). entry_count p.reported) v.parts part);
         };
       }
 
   -- ---- the ends of a report
 
-  pub parts_end : (first last : Document) (left script now next old new : Option (List ℕ)) (line : List ℕ) (n refused studies : ℕ)
-      → HasParts first last script now old new n refused studies → TakesLine now next false line
+  pub parts_end : (first last : Document) (left script now next old new : Option (List ℕ)) (line : List ℕ) (n refused entries : ℕ)
+      → HasParts first last script now old new n refused entries → TakesLine now next false line
       → IfSome script (λ bytes. Fits form refusal remark first bytes left old new (Ok (record { lines = n; refused = refused })))
-  parts_end first last left None now next old new line n refused studies r t = tt
-  parts_end first last left (Some bs) None next old new line n refused studies r t = absurd r.known
-  parts_end first last left (Some bs) (Some rest) None old new line n refused studies r t = absurd t
-  parts_end first last left (Some bs) (Some rest) (Some rest') old new line n refused studies r t =
+  parts_end first last left None now next old new line n refused entries r t = tt
+  parts_end first last left (Some bs) None next old new line n refused entries r t = absurd r.known
+  parts_end first last left (Some bs) (Some rest) None old new line n refused entries r t = absurd t
+  parts_end first last left (Some bs) (Some rest) (Some rest') old new line n refused entries r t =
       let v = r.known in
       let d = none_left (script_lines bs) n v.within (v.left_is ∙ t) in
       (v.parts, last, subst (λ (ls : List (List ℕ)). AreParts form refusal remark 0 0 first ls v.parts last) d.0 v.are, v.written, v.refused_is)
 
-  pub parts_long : (first last : Document) (left script now old new : Option (List ℕ)) (n refused studies : ℕ) → HasParts first last script now old new n refused studies
+  pub parts_long : (first last : Document) (left script now old new : Option (List ℕ)) (n refused entries : ℕ) → HasParts first last script now old new n refused entries
       → IfSome script (λ bytes. Fits form refusal remark first bytes left old new (Err (LineTooLong (n + 1))))
-  parts_long first last left None now old new n refused studies r = tt
-  parts_long first last left (Some bs) None old new n refused studies r = absurd r.known
-  parts_long first last left (Some bs) (Some rest) old new n refused studies r =
+  parts_long first last left None now old new n refused entries r = tt
+  parts_long first last left (Some bs) None old new n refused entries r = absurd r.known
+  parts_long first last left (Some bs) (Some rest) old new n refused entries r =
       let v = r.known in
       let e : n + 1 - 1 ≡ n = omega arith in
       (refused, (v.parts, last, rw e v.are, v.written, v.refused_is))
 
-  pub parts_read : (first last : Document) (left script now old new : Option (List ℕ)) (n refused studies : ℕ) → HasParts first last script now old new n refused studies
+  pub parts_read : (first last : Document) (left script now old new : Option (List ℕ)) (n refused entries : ℕ) → HasParts first last script now old new n refused entries
       → GaveFeeds script left n → IfSome script (λ bytes. Fits form refusal remark first bytes left old new (Err ReadDevice))
-  parts_read first last left None now old new n refused studies r g = tt
-  parts_read first last left (Some bs) None old new n refused studies r g = absurd r.known
-  parts_read first last left (Some bs) (Some rest) old new n refused studies r g =
+  parts_read first last left None now old new n refused entries r g = tt
+  parts_read first last left (Some bs) None old new n refused entries r g = absurd r.known
+  parts_read first last left (Some bs) (Some rest) old new n refused entries r g =
       let v = r.known in (n, v.within, g, refused, (v.parts, last, v.are, v.written, v.refused_is))
 
-  pub parts_many : (first last : Document) (left script now old new : Option (List ℕ)) (refused studies : ℕ) → HasParts first last script now old new 100000 refused studies
+  pub parts_many : (first last : Document) (left script now old new : Option (List ℕ)) (refused entries : ℕ) → HasParts first last script now old new 100000 refused entries
       → IfSome script (λ bytes. Fits form refusal remark first bytes left old new (Err TooManyLines))
-  parts_many first last left None now old new refused studies r = tt
-  parts_many first last left (Some bs) None old new refused studies r = absurd r.known
-  parts_many first last left (Some bs) (Some rest) old new refused studies r =
+  parts_many first last left None now old new refused entries r = tt
+  parts_many first last left (Some bs) None old new refused entries r = absurd r.known
+  parts_many first last left (Some bs) (Some rest) old new refused entries r =
       let v = r.known in (refused, (v.parts, last, v.are, v.written, v.refused_is))
 
   -- if the writer failed, or there was no memory, nothing is claimed

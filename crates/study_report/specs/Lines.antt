@@ -17,5 +17,5 @@ abbrev pub IsReviewForm : ℕ → List ℕ → Type 0
 IsReviewForm number text = BeginsReview number text
 
 -- a report of facts shows no remark
-abbrev pub no_remark : List ℕ → List ℕ
-no_remark line = []
+abbrev pub no_remark : ℕ → List ℕ → List ℕ
+no_remark number line = []

@@ -26,9 +26,9 @@ over_tables classes paged = record {
   shelf = record { files = λ c. None; headers = λ c. None; faults = λ c f. true };
 }
 
--- before the first line: no line was read or refused, and no study was reported
+-- before the first line: no line was read or refused, and there is no entry
 abbrev pub start_point : State → Point
-start_point s = record { state = s; lines = 0; studies = 0; unread = none_unread }
+start_point s = record { state = s; lines = 0; entries = 0; unread = none_unread }
 
 -- the texts of the lines, one after the other
 abbrev pub report_text : List Added → List ℕ
@@ -43,7 +43,7 @@ abbrev pub point_after : Point → List Added → Point
 point_after p [] = p
 point_after p (a ∷ more) = point_after a.after more
 
-module _ (tells : PlainStudy → EntryInfo → List ℕ → Type 0) (refusal : ℕ → List ℕ → List ℕ → List ℕ) (remark : List ℕ → List ℕ) where
+module _ (tells : PlainStudy → EntryInfo → List ℕ → Type 0) (refusal : ℕ → List ℕ → List ℕ → List ℕ) (remark : ℕ → List ℕ → List ℕ) where
   -- the additions of lines, one for each; each line starts at the point after the one before it
   abbrev pub AreAdded : Point → List (List ℕ) → List Added → Type 0
   AreAdded p [] [] = Unit {0}

@@ -17,8 +17,9 @@ use Rattle.study_script.specs.Written.{Piece, IsPiece, error_of}
 use Rattle.study_report.specs.declared.line_kind.LineKind.{LineKind}
 use Rattle.study_report.specs.declared.line_kind.LineKind.TheVariants.{Remark, PassedOver, NoClass, Study, Checked}
 use Rattle.study_report.specs.declared.line_outcome.LineOutcome.{LineOutcome}
-use Rattle.study_report.specs.declared.line_outcome.LineOutcome.TheVariants.{Nothing, Study as AStudy, Refusal as ARefusal}
-use Rattle.study_report.specs.Reported.{line_kind, study_count, refusal_count}
+use Rattle.study_report.specs.declared.line_outcome.LineOutcome.TheVariants.{Nothing, Study as AStudy, LeftOut, NotRead, Refusal as ARefusal}
+use Rattle.study_report.specs.Remarks.{remark_outcome}
+use Rattle.study_report.specs.Reported.{line_kind, entry_count, refusal_count}
 
 -- the text written for a line, and what the line reports
 pub record Part : Type 0 where
@@ -34,9 +35,9 @@ study_part text = record { text = text; reported = AStudy }
 abbrev pub parts_text : List Part → List ℕ
 parts_text parts = flat_map (λ part. part.text) parts
 
--- the numbers of reported studies and of refused lines
-abbrev pub part_studies : List Part → ℕ
-part_studies parts = sum_by (λ part. study_count part.reported) parts
+-- the numbers of entries and of refused lines
+abbrev pub part_entries : List Part → ℕ
+part_entries parts = sum_by (λ part. entry_count part.reported) parts
 
 abbrev pub part_refusals : List Part → ℕ
 part_refusals parts = sum_by (λ part. refusal_count part.reported) parts
@@ -51,6 +52,8 @@ abbrev pub IsNextAs : LineKind → Document → List ℕ → LineOutcome → Doc
 IsNextAs Checked here line ARefusal next = next ≡ (if begins_position line then empty else here)
 IsNextAs Checked here line Nothing next = IsAfterLine here (command_of line) next
 IsNextAs Checked here line AStudy next = ⊥
+IsNextAs Checked here line LeftOut next = ⊥
+IsNextAs Checked here line NotRead next = ⊥
 IsNextAs Remark here line reported next = next ≡ here
 IsNextAs PassedOver here line reported next = next ≡ here
 IsNextAs NoClass here line reported next = next ≡ here
@@ -63,21 +66,21 @@ IsNext here line reported next = IsNextAs (line_kind line) here line reported ne
 abbrev pub IsReplyPiece : List ℕ → List ℕ → Bool → Type 0
 IsReplyPiece line bytes was_refused = (piece : Piece) × IsPiece line piece × (bytes ≡ piece.text) × (was_refused ≡ piece.refused)
 
-module _ (form : PlainStudy → ℕ → List ℕ → Type 0) (refusal : ℕ → List ℕ → List ℕ → List ℕ) (remark : List ℕ → List ℕ) where
+module _ (form : PlainStudy → ℕ → List ℕ → Type 0) (refusal : ℕ → List ℕ → List ℕ → List ℕ) (remark : ℕ → List ℕ → List ℕ) where
   abbrev pub refused_part : ℕ → List ℕ → List ℕ → Part
   refused_part number line reply = record { text = refusal number line reply; reported = ARefusal }
 
-  abbrev pub remark_part : List ℕ → Part
-  remark_part line = record { text = remark line; reported = Nothing }
+  abbrev pub remark_part : ℕ → List ℕ → Part
+  remark_part next line = record { text = remark next line; reported = remark_outcome line }
 
   -- an empty text if the script's reply is not an error
   abbrev pub checked_part : ℕ → List ℕ → Piece → Part
   checked_part number line piece = if piece.refused then refused_part number line piece.text else nothing_part
 
-  -- The text for a line of this number, if the next study to be reported has that number, and the document before the line is this one: a `pgn` line
+  -- The text for a line of this number, if the next entry has that number, and the document before the line is this one: a `pgn` line
   -- reports the study in the document, in the report's form, or is refused; a remark is shown; any other line reports nothing, or is refused.
   abbrev pub IsPartAs : LineKind → ℕ → ℕ → Document → List ℕ → Part → Type 0
-  IsPartAs Remark number next here line part = part ≡ remark_part line
+  IsPartAs Remark number next here line part = part ≡ remark_part next line
   IsPartAs PassedOver number next here line part = part ≡ nothing_part
   IsPartAs NoClass number next here line part = part ≡ refused_part number line (error_of (words_of NotAClass)).text
   IsPartAs Study number next here line part =
@@ -88,14 +91,14 @@ module _ (form : PlainStudy → ℕ → List ℕ → Type 0) (refusal : ℕ → 
   abbrev pub IsPart : ℕ → ℕ → Document → List ℕ → Part → Type 0
   IsPart number next here line part = IsPartAs (line_kind line) number next here line part
 
-  -- a part for each line, after so many lines and studies, and the documents before the first line and after the last
+  -- a part for each line, after so many lines and entries, and the documents before the first line and after the last
   abbrev pub AreParts : ℕ → ℕ → Document → List (List ℕ) → List Part → Document → Type 0
-  AreParts lines studies here [] [] there = there ≡ here
-  AreParts lines studies here [] (part ∷ parts) there = ⊥
-  AreParts lines studies here (line ∷ more) [] there = ⊥
-  AreParts lines studies here (line ∷ more) (part ∷ parts) there =
-      IsPart (suc lines) (suc studies) here line part
-      × ((next : Document) × IsNext here line part.reported next × AreParts (suc lines) (studies + study_count part.reported) next more parts there)
+  AreParts lines entries here [] [] there = there ≡ here
+  AreParts lines entries here [] (part ∷ parts) there = ⊥
+  AreParts lines entries here (line ∷ more) [] there = ⊥
+  AreParts lines entries here (line ∷ more) (part ∷ parts) there =
+      IsPart (suc lines) (suc entries) here line part
+      × ((next : Document) × IsNext here line part.reported next × AreParts (suc lines) (entries + entry_count part.reported) next more parts there)
 
   -- a part for each of these lines is written, after this document, and so many of them are refusals
   abbrev pub AreWritten : Document → List (List ℕ) → Option (List ℕ) → Option (List ℕ) → ℕ → Type 0

@@ -3,8 +3,10 @@
 use Rattle.std.specs.Prelude.{ℕ, ◌==◌, Bool, true, false, not, List, length, take, drop, Option, Some, None}
 use Rattle.std.specs.List.{prefix_len}
 use Rattle.std.specs.Str.{bytes_eq}
-use Rattle.study_remark.specs.Remarks.{Told, left_out, stipulated, total}
+use Rattle.study_remark.specs.Remarks.{Told, left_out, not_read, stipulated, total}
 use Rattle.study_remark.specs.Reading.{remark_in}
+use Rattle.study_report.specs.declared.line_outcome.LineOutcome.{LineOutcome}
+use Rattle.study_report.specs.declared.line_outcome.LineOutcome.TheVariants.{Nothing, LeftOut, NotRead}
 
 -- the text begins with the word
 abbrev pub begins : List ℕ → List ℕ → Bool
@@ -29,6 +31,23 @@ says_left_out _ = false
 
 abbrev pub is_left_out : List ℕ → Bool
 is_left_out line = says_left_out (remark_in line)
+
+-- a game whose block has only what stands before its first fault
+abbrev pub says_not_read : Option Told → Bool
+says_not_read (Some (not_read game why)) = true
+says_not_read _ = false
+
+abbrev pub is_not_read : List ℕ → Bool
+is_not_read line = says_not_read (remark_in line)
+
+-- a game that was left out is an entry; the block of one that was not read to its end comes next
+abbrev pub outcome_told : Option Told → LineOutcome
+outcome_told (Some (left_out game why)) = LeftOut
+outcome_told (Some (not_read game why)) = NotRead
+outcome_told _ = Nothing
+
+abbrev pub remark_outcome : List ℕ → LineOutcome
+remark_outcome line = outcome_told (remark_in line)
 
 -- A remark that is shown: each except the source of a stipulation and the numbers of games and studies.
 abbrev pub is_told : Option Told → Bool

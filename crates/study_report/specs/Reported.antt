@@ -18,8 +18,8 @@ use Rattle.study_report.specs.declared.line_kind.LineKind.{LineKind}
 use Rattle.study_report.specs.declared.line_kind.LineKind.TheVariants.{Remark, PassedOver, NoClass, Study, Checked}
 use Rattle.study_report.specs.declared.line_outcome.ReportPosition.{ReportPosition}
 use Rattle.study_report.specs.declared.line_outcome.LineOutcome.{LineOutcome}
-use Rattle.study_report.specs.declared.line_outcome.LineOutcome.TheVariants.{Nothing, Study as AStudy, Refusal as ARefusal}
-use Rattle.study_report.specs.Remarks.{is_remark, is_left_out}
+use Rattle.study_report.specs.declared.line_outcome.LineOutcome.TheVariants.{Nothing, Study as AStudy, LeftOut, NotRead, Refusal as ARefusal}
+use Rattle.study_report.specs.Remarks.{is_remark, is_left_out, remark_outcome}
 use Rattle.study_report.specs.declared.unread_line.Unread.{Unread}
 use Rattle.study_report.specs.Unread.{unread_after}
 use Rattle.study_facts.specs.declared.entry.EntryInfo.{EntryInfo}
@@ -42,26 +42,27 @@ line_kind line = if is_remark line then Remark else kind_in (command_of line)
 
 -- ---- what a line adds
 
--- between two lines: the state of the script, the number of lines read, the number of studies reported, and the refused edits of the study in the document
+-- Between two lines: the state of the script, the number of lines read, the number of entries, which are studies reported and games left out, and the
+-- lines for which the study in the document is not read.
 pub record Point : Type 0 where
   pub state : State
   pub lines : ℕ
-  pub studies : ℕ
+  pub entries : ℕ
   pub unread : Unread
 
 -- the place of the next line
 abbrev pub IsAt : Point → ReportPosition → Type 0
-IsAt p at = (at.line ≡ suc p.lines) × (at.studies ≡ p.studies) × (at.unread ≡ p.unread)
+IsAt p at = (at.line ≡ suc p.lines) × (at.entries ≡ p.entries) × (at.unread ≡ p.unread)
 
--- the study that was reported last, and the next one, as entries
+-- the study in the document as the last entry, and as the next one
 abbrev pub last_entry : Point → EntryInfo
-last_entry p = record { number = p.studies; unread = p.unread.own }
+last_entry p = record { number = p.entries; unread = p.unread.own }
 
 abbrev pub next_entry : Point → EntryInfo
-next_entry p = record { number = suc p.studies; unread = p.unread.own }
+next_entry p = record { number = suc p.entries; unread = p.unread.own }
 
 abbrev pub entry_at : ReportPosition → EntryInfo
-entry_at at = record { number = at.studies + 1; unread = at.unread.own }
+entry_at at = record { number = at.entries + 1; unread = at.unread.own }
 
 -- the text that a line adds, the point after it, and what it reported
 pub record Added : Type 0 where
@@ -69,32 +70,37 @@ pub record Added : Type 0 where
   pub after : Point
   pub reported : LineOutcome
 
-abbrev pub study_count : LineOutcome → ℕ
-study_count Nothing = 0
-study_count AStudy = 1
-study_count ARefusal = 0
+-- a study that is reported is an entry, and so is a game that was left out
+abbrev pub entry_count : LineOutcome → ℕ
+entry_count Nothing = 0
+entry_count AStudy = 1
+entry_count LeftOut = 1
+entry_count NotRead = 0
+entry_count ARefusal = 0
 
 abbrev pub refusal_count : LineOutcome → ℕ
 refusal_count Nothing = 0
 refusal_count AStudy = 0
+refusal_count LeftOut = 0
+refusal_count NotRead = 0
 refusal_count ARefusal = 1
 
--- the point after a line, with this state and so many studies
-abbrev pub point_behind : Point → List ℕ → LineOutcome → State → ℕ → Point
-point_behind p line reported s studies = record {
+-- the point after a line, with this state
+abbrev pub point_behind : Point → List ℕ → LineOutcome → State → Point
+point_behind p line reported s = record {
   state = s;
   lines = suc p.lines;
-  studies = studies;
+  entries = p.entries + entry_count reported;
   unread = unread_after p.unread (suc p.lines) line reported;
 }
 
 -- a further line, after which the script has this state
 abbrev pub nothing_added : Point → List ℕ → State → Added
-nothing_added p line s = record { text = []; after = point_behind p line Nothing s p.studies; reported = Nothing }
+nothing_added p line s = record { text = []; after = point_behind p line Nothing s; reported = Nothing }
 
 -- the study is reported, with the next number
 abbrev pub study_added : Point → List ℕ → State → List ℕ → Added
-study_added p line s text = record { text = text; after = point_behind p line AStudy s (suc p.studies); reported = AStudy }
+study_added p line s text = record { text = text; after = point_behind p line AStudy s; reported = AStudy }
 
 -- Why the value of a position that is reached cannot be read, given which classes are loaded, whether tables are read by pages, and how tables may fail:
 -- there is no table for a class that the position needs, or tables are read by pages and one of such a class may fail this way.
@@ -117,10 +123,10 @@ lacks_study empty = true
 lacks_study (start s) = true
 lacks_study (study plain) = false
 
--- an entry of a report: a study with its number and what of it was not read, or the remark of a game that was left out
+-- an entry of a report: a study with its number and what of it was not read, or the remark of a game that was left out, with its number
 pub data Entry : Type 0 where
   study_entry : PlainStudy → EntryInfo → Entry
-  game_entry : List ℕ → Entry
+  game_entry : List ℕ → ℕ → Entry
 
 -- the study in a document as this entry, if there is one
 abbrev pub studies_on : Document → EntryInfo → List Entry
@@ -128,14 +134,16 @@ studies_on empty info = []
 studies_on (start s) info = []
 studies_on (study plain) info = study_entry plain info ∷ []
 
--- the game that was left out, if the line is its remark
-abbrev pub games_in : List ℕ → List Entry
-games_in line = if is_left_out line then game_entry line ∷ [] else []
+-- the game that was left out, as the entry with this number, if the line is its remark
+abbrev pub games_in : ℕ → List ℕ → List Entry
+games_in number line = if is_left_out line then game_entry line number ∷ [] else []
 
--- the study that a line reported, if it is in this document; without a study or a refusal, the game that was left out
+-- the study that a line reported, if it is in this document, or the game that was left out
 abbrev pub listed_in : List ℕ → LineOutcome → Document → EntryInfo → List Entry
-listed_in line Nothing document info = games_in line
+listed_in line Nothing document info = []
 listed_in line AStudy document info = studies_on document info
+listed_in line LeftOut document info = game_entry line info.number ∷ []
+listed_in line NotRead document info = []
 listed_in line ARefusal document info = []
 
 -- the entries of lines, in their order
@@ -144,21 +152,21 @@ entries_in [] added = []
 entries_in (line ∷ lines) [] = []
 entries_in (line ∷ lines) (a ∷ more) = listed_in line a.reported a.after.state.document (last_entry a.after) ++ entries_in lines more
 
-module _ (tells : PlainStudy → EntryInfo → List ℕ → Type 0) (refusal : ℕ → List ℕ → List ℕ → List ℕ) (remark : List ℕ → List ℕ) where
-  -- the line is refused: it uses no number of a study
+module _ (tells : PlainStudy → EntryInfo → List ℕ → Type 0) (refusal : ℕ → List ℕ → List ℕ → List ℕ) (remark : ℕ → List ℕ → List ℕ) where
+  -- the line is refused: it is no entry
   abbrev pub refusal_added : Point → List ℕ → Reply → Added
   refusal_added p line reply = record {
     text = refusal (suc p.lines) line reply.text;
-    after = point_behind p line ARefusal reply.state p.studies;
+    after = point_behind p line ARefusal reply.state;
     reported = ARefusal;
   }
 
-  -- the remark is shown
+  -- the remark is shown; a game that was left out is the next entry
   abbrev pub remark_added : Point → List ℕ → Added
   remark_added p line = record {
-    text = remark line;
-    after = point_behind p line Nothing p.state p.studies;
-    reported = Nothing;
+    text = remark (suc p.entries) line;
+    after = point_behind p line (remark_outcome line) p.state;
+    reported = remark_outcome line;
   }
 
   -- the study of the state is reported, or the line is refused

@@ -1,4 +1,4 @@
--- The refused edits of a study, for which a report says that the study was not read.
+-- The lines for which a report says that a study was not read: its refused edits, and the remark that its game was read only up to a fault.
 use Rattle.std.specs.Prelude.{ℕ, Bool, true, false, List, [], ◌∷◌, Option, Some, None, if◌then◌else◌}
 use Rattle.study_text.specs.Words.{words}
 use Rattle.study_command.specs.declared.command.Keyword.{Keyword}
@@ -10,7 +10,7 @@ use Rattle.study_command.specs.Kinds.{kind_of}
 use Rattle.study_script.specs.Replies.{begins_position}
 use Rattle.study_report.specs.declared.unread_line.Unread.{Unread}
 use Rattle.study_report.specs.declared.line_outcome.LineOutcome.{LineOutcome}
-use Rattle.study_report.specs.declared.line_outcome.LineOutcome.TheVariants.{Nothing, Study as AStudy, Refusal as ARefusal}
+use Rattle.study_report.specs.declared.line_outcome.LineOutcome.TheVariants.{Nothing, Study as AStudy, LeftOut, NotRead, Refusal as ARefusal}
 
 abbrev pub is_of_edit : CommandKind → Bool
 is_of_edit Edit = true
@@ -57,8 +57,11 @@ unread_refused old number line =
     then record { own = first_of old.own number; ahead = if old.reported then first_of old.ahead number else old.ahead; reported = old.reported }
     else old)
 
--- The refused edits after a line of this number: an accepted `position` begins another study, to which those after the last report belong.
+-- The same after a line of this number: an accepted `position` begins another study, to which the refused edits after the last report belong. The remark
+-- of a game that was read only up to a fault belongs to the study of the next accepted `position`.
 abbrev pub unread_after : Unread → ℕ → List ℕ → LineOutcome → Unread
 unread_after old number line Nothing = if begins_position line then record { own = old.ahead; ahead = None; reported = false } else old
 unread_after old number line AStudy = record { own = old.own; ahead = None; reported = true }
+unread_after old number line LeftOut = old
+unread_after old number line NotRead = record { own = old.own; ahead = first_of old.ahead number; reported = old.reported }
 unread_after old number line ARefusal = unread_refused old number line

@@ -19,7 +19,7 @@ mod unread_line;
 pub use line_kind::{LineKind, kind_of};
 pub use lines::Lines;
 pub use no_files::NoFiles;
-pub use remarks::{begins, behind, is_left_out, statement, subject};
+pub use remarks::{begins, behind, is_left_out, is_not_read, statement, subject};
 pub use report::Report;
 pub use script_report::{report_session, write_report, write_report_over};
 pub use study_facts::{ReviewFault, WriteFault};

@@ -1,14 +1,14 @@
 //! The position in a report, and the outcome of one line.
 ghost use Rattle.std.specs.Prelude.{◌≡◌};
-ghost use Rattle.study_report.specs.Reported.{study_count, refusal_count};
+ghost use Rattle.study_report.specs.Reported.{entry_count, refusal_count};
 
 use crate::unread_line::Unread;
 
-/// The number of a line, the number of studies reported before it, and the refused edits of the study in the document.
+/// The number of a line, the number of entries before it, and the lines for which the study in the document is not read.
 #[derive(Clone, Copy, Debug)]
 pub struct ReportPosition {
     pub line: u32,
-    pub studies: u32,
+    pub entries: u32,
     pub unread: Unread,
 }
 
@@ -16,18 +16,23 @@ pub struct ReportPosition {
 #[derive(Clone, Copy, Debug, PartialEq, Eq)]
 pub enum LineOutcome {
     Nothing,
+    /// A study is reported.
     Study,
+    /// It is the remark of a game that was left out.
+    LeftOut,
+    /// It is the remark of a game that was read only up to a fault, whose block comes next.
+    NotRead,
     Refusal,
 }
 
 impl LineOutcome {
-    /// The number of studies reported: one or zero.
-    pub fn studies(self) -> u32
-        ensures { result ≡ study_count self }
+    /// The number of entries: one for a study or a game that was left out, else zero.
+    pub fn entries(self) -> u32
+        ensures { result ≡ entry_count self }
     {
         match self {
-            LineOutcome::Study => 1,
-            LineOutcome::Nothing | LineOutcome::Refusal => 0,
+            LineOutcome::Study | LineOutcome::LeftOut => 1,
+            LineOutcome::Nothing | LineOutcome::NotRead | LineOutcome::Refusal => 0,
         }
     }
 
@@ -37,7 +42,10 @@ impl LineOutcome {
     {
         match self {
             LineOutcome::Refusal => 1,
-            LineOutcome::Nothing | LineOutcome::Study => 0,
+            LineOutcome::Nothing
+            | LineOutcome::Study
+            | LineOutcome::LeftOut
+            | LineOutcome::NotRead => 0,
         }
     }
 }

@@ -30,7 +30,7 @@ impl Report for Lines {
 
     ghost refusal = { λ number line reply. refusal_line number reply };
 
-    ghost remark = { λ line. no_remark line };
+    ghost remark = { λ number line. no_remark number line };
 
     // Nothing is kept.
     ghost lists = { λ lines reported. Unit {0} };
@@ -61,6 +61,7 @@ impl Report for Lines {
     fn add_remark<'a, A: Allocator, W: Write>(
         &mut self,
         _alloc: &'a A,
+        _number: u32,
         _line: &[u8],
         _out: &mut W,
     ) -> Result<(), WriteFault> {

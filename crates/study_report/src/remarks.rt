@@ -1,7 +1,8 @@
 //! Comments of an imported script that a report shows.
 ghost use Rattle.std.specs.Prelude.{◌≡◌, ◌≤◌, length, drop};
-ghost use Rattle.study_report.specs.Remarks.{begins, colon_in, subject, statement, is_left_out, is_remark};
+ghost use Rattle.study_report.specs.Remarks.{begins, colon_in, subject, statement, is_left_out, is_not_read, is_remark, remark_outcome};
 
+use crate::line_outcome::LineOutcome;
 use study_remark::{Remark, read_remark};
 
 /// Whether the text begins with the word.
@@ -50,6 +51,27 @@ pub fn is_left_out(line: &[u8]) -> bool
     match read_remark(line) {
         Some(Remark::LeftOut(_, _)) => true,
         _ => false,
+    }
+}
+
+/// Whether the line is the remark of a game that was read only up to a fault.
+pub fn is_not_read(line: &[u8]) -> bool
+    ensures { result ≡ is_not_read line.now }
+{
+    match read_remark(line) {
+        Some(Remark::NotRead(_, _)) => true,
+        _ => false,
+    }
+}
+
+/// The outcome of a remark.
+pub fn remark_outcome(line: &[u8]) -> LineOutcome
+    ensures { result ≡ remark_outcome line.now }
+{
+    match read_remark(line) {
+        Some(Remark::LeftOut(_, _)) => LineOutcome::LeftOut,
+        Some(Remark::NotRead(_, _)) => LineOutcome::NotRead,
+        _ => LineOutcome::Nothing,
     }
 }
 

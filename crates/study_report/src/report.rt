@@ -30,11 +30,11 @@ pub trait Report {
     /// The report of a refused line: its number among all lines, its bytes, and the script's reply to it.
     ghost refusal: { ℕ → List ℕ → List ℕ → List ℕ };
 
-    /// The report of a remark.
-    ghost remark: { List ℕ → List ℕ };
+    /// The report of a remark: the number that an entry has in its place, and its bytes.
+    ghost remark: { ℕ → List ℕ → List ℕ };
 
-    /// The summary that the report keeps for its end lists these entries: studies, each with its number, and games that were left out, in the order
-    /// in which they were reported.
+    /// The summary that the report keeps for its end lists these entries: studies and games that were left out, each with its number, in the order in
+    /// which they were reported.
     ghost lists: { Self → List Entry → Type 0 };
 
     /// Reports the study as this entry. Nothing is written before its last value was probed.
@@ -88,20 +88,22 @@ pub trait Report {
         ensures listed { (reported : List Entry) → lists self.old reported
             → lists self.new reported };
 
-    /// Reports a remark: a comment that says why a game is left out, or that has the original text of a tag.
+    /// Reports a remark: a comment that says why a game is left out, or that has the original text of a tag. A game that is left out is the entry with
+    /// this number.
     fn add_remark<'a, A: Allocator, W: Write>(
         &mut self,
         alloc: &'a A,
+        number: u32,
         line: &[u8],
         out: &mut W,
     ) -> Result<(), WriteFault>
         ensures reported { OnOk result
-            (Appends (W.contents out.old) (W.contents out.new) (remark line.now)) }
+            (Appends (W.contents out.old) (W.contents out.new) (remark number line.now)) }
         ensures device { result ≡ Err WriteFault.Device
-            → TakesPrefix (W.contents out.old) (W.contents out.new) (remark line.now) }
+            → TakesPrefix (W.contents out.old) (W.contents out.new) (remark number line.now) }
         ensures memory { result ≡ Err WriteFault.OutOfMemory → out.new ≡ out.old }
         ensures listed { (reported : List Entry) → lists self.old reported
-            → OnOk result (lists self.new (reported ++ games_in line.now)) }
+            → OnOk result (lists self.new (reported ++ games_in number line.now)) }
         ensures unlisted { (reported : List Entry) → lists self.old reported
             → OnErr result (lists self.new reported) };
 }

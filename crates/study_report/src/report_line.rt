@@ -11,13 +11,15 @@ ghost use Rattle.study_script.specs.State.{State};
 ghost use Rattle.study_script.specs.SessionHolds.{Holds, document_seen};
 ghost use Rattle.study_script.specs.Session.{SessionHolds};
 ghost use Rattle.study_script.specs.Stores.{HonestOn, IsTrusted};
-ghost use Rattle.study_report.specs.Reported.{Point, line_kind, IsAdded, IsAddedAs, IsAt, IsStudyReported, lacks_study, study_count};
+ghost use Rattle.study_report.specs.Reported.{Point, line_kind, IsAdded, IsAddedAs, IsAt, IsStudyReported, lacks_study, entry_count};
+ghost use Rattle.study_report.specs.Remarks.{remark_outcome};
 ghost use Rattle.study_report.specs.Reported.{Entry, entry_at, games_in, listed_in};
 ghost use Rattle.study_report.specs.Written.{none_trusted, Adds, StopsIn, Stops};
 ghost use Rattle.study_report.specs.Parts.{IsPart, IsPartAs, WritesPart, IsNext, IsNextAs};
 
 use crate::line_kind::{LineKind, kind_of};
 use crate::line_outcome::{LineOutcome, ReportPosition};
+use crate::remarks::remark_outcome;
 use crate::report::Report;
 use crate::section::{add_section, lacks_study};
 use std::alloc::Allocator;
@@ -76,25 +78,26 @@ fn refuse_line<'a, A: Allocator, W: Write, T: Report>(
     add_refusal(alloc, report, number, line, &refused, out)
 }
 
-/// Shows a remark.
+/// Shows a remark; a game that is left out is the entry with this number.
 fn add_remark<'a, A: Allocator, W: Write, T: Report>(
     alloc: &'a A,
     report: &mut T,
+    number: u32,
     line: &[u8],
     out: &mut W,
 ) -> Result<LineOutcome, RunFault>
-    ensures ok { IfOk result (λ reported. (reported ≡ LineOutcome.Nothing)
-        × Appends (W.contents out.old) (W.contents out.new) (T.remark line.now)) }
+    ensures ok { IfOk result (λ reported. (reported ≡ remark_outcome line.now)
+        × Appends (W.contents out.old) (W.contents out.new) (T.remark number line.now)) }
     ensures err { IfErr result
-        (StopsIn (T.remark line.now) (W.contents out.old) (W.contents out.new)) }
+        (StopsIn (T.remark number line.now) (W.contents out.old) (W.contents out.new)) }
     ensures listed { (reported : List Entry) → T.lists report.old reported
-        → IfOk result (λ t. T.lists report.new (reported ++ games_in line.now)) }
+        → IfOk result (λ t. T.lists report.new (reported ++ games_in number line.now)) }
     ensures unlisted { (reported : List Entry) → T.lists report.old reported
         → IfErr result (λ e. T.lists report.new reported) }
     ensures stops { IfErr result (λ e. (e ≡ WriteDevice) ⊎ (e ≡ OutOfMemory)) }
 {
-    match report.add_remark(alloc, line, out) {
-        Ok(()) => Ok(LineOutcome::Nothing),
+    match report.add_remark(alloc, number, line, out) {
+        Ok(()) => Ok(remark_outcome(line)),
         Err(WriteFault::OutOfMemory) => Err(RunFault::OutOfMemory),
         Err(WriteFault::Device) => Err(RunFault::WriteDevice),
     }
@@ -128,7 +131,7 @@ fn answer_silently<'a, 's, S: TableStore, A: Allocator, W: Write, T: Report>(
         (W.contents out.old) (W.contents out.new)) }
     ensures listed { (reported : List Entry) → T.lists report.old reported
         → T.lists report.new reported }
-    ensures none_reported { IfOk result (λ t. study_count t ≡ 0) }
+    ensures none_reported { IfOk result (λ t. entry_count t ≡ 0) }
     ensures written { (next : ℕ)
         → IfOk result
         (WritesPart (IsPartAs T.form T.refusal T.remark LineKind.Checked number next
@@ -145,7 +148,7 @@ fn answer_silently<'a, 's, S: TableStore, A: Allocator, W: Write, T: Report>(
     }
 }
 
-/// Reports the study in the document, after so many studies; if that cannot be done, the line is refused. No PGN is made.
+/// Reports the study in the document, after so many entries; if that cannot be done, the line is refused. No PGN is made.
 fn report_study<'a, P: PageSource, A: Allocator, W: Write, T: Report>(
     alloc: &'a A,
     document: &Document<'a, A>,
@@ -155,7 +158,7 @@ fn report_study<'a, P: PageSource, A: Allocator, W: Write, T: Report>(
     line: &[u8],
     out: &mut W,
 ) -> Result<LineOutcome, RunFault>
-    requires few { at.studies < 100000 }
+    requires few { at.entries < 100000 }
     requires here { lacks_study (document_seen document.now) ≡ false }
     ensures ok { (p : Point) (s : State) (plain : PlainStudy)
         → Holds P.honest P.gives document.now tables.old s → s.document ≡ study plain
@@ -177,13 +180,13 @@ fn report_study<'a, P: PageSource, A: Allocator, W: Write, T: Report>(
         → IfErr result (λ e. T.lists report.new reported) }
     ensures written { IfOk result
         (WritesPart
-        (IsPartAs T.form T.refusal T.remark LineKind.Study at.line (at.studies + 1)
+        (IsPartAs T.form T.refusal T.remark LineKind.Study at.line (at.entries + 1)
         (document_seen document.now) line.now)
         (W.contents out.old) (W.contents out.new)) }
     ensures stops { IfErr result (λ e. (e ≡ WriteDevice) ⊎ (e ≡ OutOfMemory)) }
 {
     let info = EntryInfo {
-        number: at.studies + 1,
+        number: at.entries + 1,
         unread: at.unread.own,
     };
     match add_section(alloc, document, tables, report, info, out) {
@@ -198,7 +201,7 @@ fn report_study<'a, P: PageSource, A: Allocator, W: Write, T: Report>(
     }
 }
 
-/// Answers a line that reports the study if it is accepted, after so many studies.
+/// Answers a line that reports the study if it is accepted, after so many entries.
 fn add_pgn<'a, 's, S: TableStore, A: Allocator, W: Write, T: Report>(
     session: &mut Session<'a, 's, S, A>,
     report: &mut T,
@@ -206,7 +209,7 @@ fn add_pgn<'a, 's, S: TableStore, A: Allocator, W: Write, T: Report>(
     line: &[u8],
     out: &mut W,
 ) -> Result<LineOutcome, RunFault>
-    requires few { at.studies < 100000 }
+    requires few { at.entries < 100000 }
     ensures ok { (p : Point) → line_kind line.now ≡ LineKind.Study →
         SessionHolds S.Pages.honest S.Pages.gives
         (HonestOn none_trusted S.honest) S.files S.headers S.faults
@@ -237,7 +240,7 @@ fn add_pgn<'a, 's, S: TableStore, A: Allocator, W: Write, T: Report>(
         → IfErr result (λ e. T.lists report.new reported) }
     ensures written { IfOk result
         (WritesPart
-        (IsPartAs T.form T.refusal T.remark LineKind.Study at.line (at.studies + 1)
+        (IsPartAs T.form T.refusal T.remark LineKind.Study at.line (at.entries + 1)
         (document_seen session.old.document) line.now)
         (W.contents out.old) (W.contents out.new)) }
     ensures document { session.new.document ≡ session.old.document }
@@ -265,7 +268,7 @@ pub fn add_line<'a, 's, S: TableStore, A: Allocator, W: Write, T: Report>(
     line: &[u8],
     out: &mut W,
 ) -> Result<LineOutcome, RunFault>
-    requires few { at.studies < 100000 }
+    requires few { at.entries < 100000 }
     ensures ok { (p : Point) →
         SessionHolds S.Pages.honest S.Pages.gives
         (HonestOn none_trusted S.honest) S.files S.headers S.faults
@@ -295,7 +298,7 @@ pub fn add_line<'a, 's, S: TableStore, A: Allocator, W: Write, T: Report>(
     ensures unlisted { (reported : List Entry) → T.lists report.old reported
         → IfErr result (λ e. T.lists report.new reported) }
     ensures written { IfOk result
-        (WritesPart (IsPart T.form T.refusal T.remark at.line (at.studies + 1)
+        (WritesPart (IsPart T.form T.refusal T.remark at.line (at.entries + 1)
         (document_seen session.old.document) line.now)
         (W.contents out.old) (W.contents out.new)) }
     ensures document { IfOk result (λ t.
@@ -304,7 +307,7 @@ pub fn add_line<'a, 's, S: TableStore, A: Allocator, W: Write, T: Report>(
     ensures stops { IfErr result (λ e. (e ≡ WriteDevice) ⊎ (e ≡ OutOfMemory)) }
 {
     match kind_of(line) {
-        LineKind::Remark => add_remark(session.alloc, report, line, out),
+        LineKind::Remark => add_remark(session.alloc, report, at.entries + 1, line, out),
         LineKind::PassedOver => Ok(LineOutcome::Nothing),
         LineKind::NoClass => refuse_line(
             session.alloc,

@@ -76,7 +76,7 @@ pub fn report_session<'a, 's, R: Read, W: Write, S: TableStore, A: Allocator, T:
         (W.contents out.old) (W.contents out.new) result) }
 {
     let mut refused = 0u32;
-    let mut studies = 0u32;
+    let mut entries = 0u32;
     let mut unread = Unread::none();
     for n in 0..100_000u32 {
         match line.read(script) {
@@ -87,13 +87,13 @@ pub fn report_session<'a, 's, R: Read, W: Write, S: TableStore, A: Allocator, T:
         }
         let at = ReportPosition {
             line: n + 1,
-            studies,
+            entries,
             unread,
         };
         match add_line(session, report, at, line.as_slice(), out) {
             Err(fault) => return Err(fault),
             Ok(reported) => {
-                studies += reported.studies();
+                entries += reported.entries();
                 refused += reported.refusals();
                 unread = unread_after(unread, n + 1, line.as_slice(), reported);
             }

@@ -1,4 +1,4 @@
-//! The line of a study that was not read.
+//! The line for which a study is not read.
 ghost use Rattle.std.specs.Prelude.{◌≡◌};
 ghost use Rattle.study_report.specs.Unread.{is_edit, is_pgn, first_of, none_unread, unread_after, unread_refused};
 
@@ -7,12 +7,13 @@ use study_command::{CommandKind, Keyword, read_keyword};
 use study_script::begins_position;
 use study_text::next_word;
 
-/// The refused edits of the study in the document, and of the one after it.
+/// The lines for which the study in the document is not read, and the one after it: refused edits, and remarks of games that were read only up to a
+/// fault.
 #[derive(Clone, Copy, Debug, PartialEq, Eq)]
 pub struct Unread {
-    /// The line of the first refused edit of the study in the document.
+    /// The first line for which the study in the document is not read.
     pub own: Option<u32>,
-    /// That of the first refused edit after the study was reported: it may belong to the next study.
+    /// That of the next study: a remark, or a refused edit after the study was reported, which may belong to the next one.
     pub ahead: Option<u32>,
     /// Whether the study was reported.
     pub reported: bool,
@@ -90,7 +91,7 @@ fn after_refusal(old: Unread, number: u32, line: &[u8]) -> Unread
     }
 }
 
-/// The refused edits after the line of this number.
+/// The lines for which studies are not read, after the line of this number.
 pub fn unread_after(old: Unread, number: u32, line: &[u8], outcome: LineOutcome) -> Unread
     ensures { result ≡ unread_after old number line.now outcome }
 {
@@ -110,6 +111,12 @@ pub fn unread_after(old: Unread, number: u32, line: &[u8], outcome: LineOutcome)
             own: old.own,
             ahead: None,
             reported: true,
+        },
+        LineOutcome::LeftOut => old,
+        LineOutcome::NotRead => Unread {
+            own: old.own,
+            ahead: first_of(old.ahead, number),
+            reported: old.reported,
         },
         LineOutcome::Refusal => after_refusal(old, number, line),
     }

@@ -14,4 +14,4 @@ pub use old_remarks::{LinePart, OldRemarks};
 pub use options::{Form, Options, read_words};
 pub use program::{report_script, studyreport};
 pub use progress::Progress;
-pub use status::{put_old_remarks, put_stop, put_studies};
+pub use status::{put_entries, put_old_remarks, put_stop};

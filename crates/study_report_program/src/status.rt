@@ -64,16 +64,16 @@ fn put_line<W: Write>(out: &mut W, front: &[u8], back: &[u8]) -> Result<(), Devi
     write_text(out, b"\n")
 }
 
-/// Reports how many studies were printed, in a line of its own: `30 studies`.
-pub fn put_studies<W: Write>(out: &mut W, count: u32) -> Result<(), DeviceFailed>
+/// Reports how many entries there are so far, in a line of its own: `30 entries`.
+pub fn put_entries<W: Write>(out: &mut W, count: u32) -> Result<(), DeviceFailed>
     ensures ok { OnOk result
-        (Appends (W.contents out.old) (W.contents out.new) (decimal count ++ codes " studies\n")) }
+        (Appends (W.contents out.old) (W.contents out.new) (decimal count ++ codes " entries\n")) }
     ensures err { OnErr result
         (TakesPrefix (W.contents out.old) (W.contents out.new)
-        (decimal count ++ codes " studies\n")) }
+        (decimal count ++ codes " entries\n")) }
 {
     let mut buffer = Buffer::new();
-    put_both(out, buffer.format(count).as_bytes(), b" studies\n")
+    put_both(out, buffer.format(count).as_bytes(), b" entries\n")
 }
 
 fn put_both<W: Write>(out: &mut W, front: &[u8], back: &[u8]) -> Result<(), DeviceFailed>

@@ -25,7 +25,7 @@ impl Report for Sheet {
 
     ghost refusal = { λ number line reply. refusal_text number line reply };
 
-    ghost remark = { λ line. no_remark line };
+    ghost remark = { λ number line. no_remark number line };
 
     // Nothing is kept.
     ghost lists = { λ sheet reported. Unit {0} };
@@ -60,6 +60,7 @@ impl Report for Sheet {
     fn add_remark<'a, A: Allocator, W: Write>(
         &mut self,
         _alloc: &'a A,
+        _number: u32,
         _line: &[u8],
         _out: &mut W,
     ) -> Result<(), WriteFault> {

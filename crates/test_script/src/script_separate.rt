@@ -106,7 +106,7 @@ fn each_refused_position_leaves_nothing(rt: HostRuntime) {
     check(&rt, &rt.alloc(), true, REFUSED);
 }
 
-/// The lines of `APART` without those of tables, and with a `pgn` line after each study.
+/// The lines of `APART` without those of tables, with a `pgn` line after each study, and with a game that was left out before the last one.
 const REPORTED: &[u8] = b"position k7/8/8/8/8/8/8/K7 w - - 0 1
 stipulate white draw
 tag Event First
@@ -117,20 +117,22 @@ stipulate white win
 tag Event Second
 insert root Kb2
 pgn
+#! game 3, line 31: left out: 7 men
 position 7k/8/8/8/8/8/8/7K w - - 0 1
 stipulate black draw
 tag Event Third
 pgn
 ";
 
-/// The line of each study and of each refusal in a report: two studies, and not the first once more for the second.
+/// The line of each study and of each refusal in a report: two studies, and not the first once more for the second. The game that was left out is the
+/// second entry.
 const ENTRIES: &str = "study 1 k7/8/8/8/8/8/8/K7 w - - 0 1
 refused 6 NoTable KRK
 refused 7 NoPosition
 refused 8 NoStudy
 refused 9 NoStudy
 refused 10 NoStudy
-study 2 7k/8/8/8/8/8/8/7K w - - 0 1
+study 3 7k/8/8/8/8/8/8/7K w - - 0 1
 ";
 
 /// A report without the facts of the studies.
@@ -175,7 +177,7 @@ fn a_report_has_no_study_under_another_name(rt: HostRuntime) -> Result<(), Fail>
     let entries = entries_of(&rt, alloc, text.as_slice());
     assert!(rt; entries.as_slice() == ENTRIES.as_bytes());
     let wanted = Summary {
-        lines: 14,
+        lines: 15,
         refused: 5,
     };
     assert_eq!(rt; answer, Ok(wanted));

@@ -9,6 +9,8 @@ mod kings;
 #[cfg(test)]
 mod list;
 #[cfg(test)]
+mod numbers;
+#[cfg(test)]
 mod old_remarks;
 #[cfg(test)]
 mod remarks;

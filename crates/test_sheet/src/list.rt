@@ -32,8 +32,8 @@ const LIST: &str = "Number,Title,Author,FEN,Stipulation,Verdict\r
 1,\"He said \"\"mate\"\", twice\",R & D,k7/8/8/8/8/8/8/K7 w - - 0 1,White to draw,holds\r
 ,\"line 6: mark 7, please\",,,,refused: BadArguments\r
 2,,,k7/8/8/8/8/8/8/K7 b - - 0 5,White to win,wrong\r
-,\"game 3, line 31 (Kasparyan, G.)\",,,,\"left out: 7 men\"\r
-,\"game 4, line 52, column 17\",,,,\"NoSuchMove at \"\"Kb6\"\"\"\r
+3,\"game 3, line 31 (Kasparyan, G.)\",,,,\"left out: 7 men\"\r
+4,\"game 4, line 52, column 17\",,,,\"NoSuchMove at \"\"Kb6\"\"\"\r
 ";
 
 /// Studies of which a question, a move, a tag, a line of a table and an unknown command are refused, and one whose tag is refused before its position.
@@ -68,8 +68,8 @@ const NOT_READ_LIST: &str = "Number,Title,Author,FEN,Stipulation,Verdict\r
 5,,,k7/8/8/8/8/8/8/K7 w - - 0 1,White to draw,not read: line 13\r
 ";
 
-/// The list that is written to this writer, and the result.
-fn list_to<'a>(
+/// The list of a script that is written to this writer, and the result.
+pub fn list_to<'a>(
     rt: &impl Abort,
     alloc: &'a Global,
     script: &str,

@@ -39,16 +39,16 @@ const REMARKS: &str =
 <p class=\"note\">White was: Réti, Richard</p><p class=\"note\">Event was: &lt;b&gt; &amp; &quot;Ж&quot;</p>\
 <p class=\"note\">the stipulation differs from its tag Result</p>\
 <p class=\"warn\">Line 11 was refused: <code>delete 7</code> <b>NoStudy</b>: no stipulation yet</p>\
-<p class=\"warn\">No page for game 2, line 31: left out: 7 men</p>\
-<p class=\"warn\">No page for game 3, line 52, column 17: NoSuchMove at Kb6: no legal move of this position</p>\
-<p class=\"warn\">No page for game 4, line 60: StipulationUnread at its comment: a stipulation that is not understood</p>\
-<p class=\"warn\">No page for game 5, line 71: TagTwice at White: a second tag of this name, so perhaps two games that run together</p>\
+<p class=\"warn\">No page for entry 1: game 2, line 31: left out: 7 men</p>\
+<p class=\"warn\">No page for entry 2: game 3, line 52, column 17: NoSuchMove at Kb6: no legal move of this position</p>\
+<p class=\"warn\">No page for entry 3: game 4, line 60: StipulationUnread at its comment: a stipulation that is not understood</p>\
+<p class=\"warn\">No page for entry 4: game 5, line 71: TagTwice at White: a second tag of this name, so perhaps two games that run together</p>\
 <article class=\"sum\"><header><h1>Entries and verdicts</h1></header><table><thead><tr><th>No.</th><th>Title</th><th>Author</th>\
 <th>Stipulation</th><th>Verdict</th></tr></thead><tbody>\
-<tr><td></td><td>game 2, line 31</td><td></td><td></td><td>left out: 7 men</td></tr>\
-<tr><td></td><td>game 3, line 52, column 17</td><td></td><td></td><td>NoSuchMove at Kb6: no legal move of this position</td></tr>\
-<tr><td></td><td>game 4, line 60</td><td></td><td></td><td>StipulationUnread at its comment: a stipulation that is not understood</td></tr>\
-<tr><td></td><td>game 5, line 71</td><td></td><td></td><td>TagTwice at White: a second tag of this name, so perhaps two games that run together</td></tr>\
+<tr><td>1</td><td>game 2, line 31</td><td></td><td></td><td>left out: 7 men</td></tr>\
+<tr><td>2</td><td>game 3, line 52, column 17</td><td></td><td></td><td>NoSuchMove at Kb6: no legal move of this position</td></tr>\
+<tr><td>3</td><td>game 4, line 60</td><td></td><td></td><td>StipulationUnread at its comment: a stipulation that is not understood</td></tr>\
+<tr><td>4</td><td>game 5, line 71</td><td></td><td></td><td>TagTwice at White: a second tag of this name, so perhaps two games that run together</td></tr>\
 </tbody></table></article></body></html>\n";
 
 /// A script of version 1.7.

@@ -45,15 +45,16 @@ const PLACES: &str =
 <use class=\"b\" href=\"#mK\" x=\"0\" y=\"0\" width=\"45\" height=\"45\"/></svg>\
 <figcaption><b>3. White to draw</b>, Black to move<br></figcaption></figure></body></html>\n";
 
-/// The text that a sheet over the table of two kings writes to this writer, and the result.
-fn sheet_to<'a>(
+/// The text that the sheet of a script over the table of two kings writes to this writer, and the result.
+pub fn sheet_to<'a>(
     rt: &impl Abort,
     alloc: &'a Global,
+    script: &str,
     mut writer: MemoryWriter<'a, Global>,
 ) -> (Vec<u8, &'a Global>, Result<Summary, RunFault>) {
     let answer = write_sheet(
         alloc,
-        &mut MemoryReader::new(SCRIPT.as_bytes()),
+        &mut MemoryReader::new(script.as_bytes()),
         &mut writer,
         two_kings(rt, alloc),
     );
@@ -63,7 +64,7 @@ fn sheet_to<'a>(
 #[test]
 fn each_study_has_its_place(rt: HostRuntime) -> Result<(), Fail> {
     let alloc = rt.alloc();
-    let (text, answer) = sheet_to(&rt, &alloc, MemoryWriter::new(&alloc));
+    let (text, answer) = sheet_to(&rt, &alloc, SCRIPT, MemoryWriter::new(&alloc));
     let text = std::str::from_utf8(text.as_slice()).unwrap_or("no text");
     let (head, places) = text.split_once("</defs></svg>\n").unwrap_or(("", ""));
     assert!(rt; head.contains("<!DOCTYPE html>"));
@@ -81,11 +82,11 @@ fn each_study_has_its_place(rt: HostRuntime) -> Result<(), Fail> {
 #[test]
 fn a_full_writer_has_the_front_of_the_sheet(rt: HostRuntime) -> Result<(), Fail> {
     let alloc = rt.alloc();
-    let (whole, _) = sheet_to(&rt, &alloc, MemoryWriter::new(&alloc));
+    let (whole, _) = sheet_to(&rt, &alloc, SCRIPT, MemoryWriter::new(&alloc));
     for left in [whole.len().saturating_sub(3), 700, 1] {
         let room = whole.len().saturating_sub(left);
         let writer = MemoryWriter::with_room(&alloc, room, WhenFull::Fail);
-        let (text, answer) = sheet_to(&rt, &alloc, writer);
+        let (text, answer) = sheet_to(&rt, &alloc, SCRIPT, writer);
         assert!(rt; answer == Err(RunFault::WriteDevice));
         assert!(rt; text.len() == room);
         assert!(rt; whole.as_slice().starts_with(text.as_slice()));

@@ -23,7 +23,7 @@ impl Report for Refusals {
 
     ghost refusal = { λ number line reply. refusal_line number reply };
 
-    ghost remark = { λ line. no_remark line };
+    ghost remark = { λ number line. no_remark number line };
 
     // Nothing is kept.
     ghost lists = { λ refusals reported. Unit {0} };
@@ -53,6 +53,7 @@ impl Report for Refusals {
     fn add_remark<'a, A: Allocator, W: Write>(
         &mut self,
         _alloc: &'a A,
+        _number: u32,
         _line: &[u8],
         _out: &mut W,
     ) -> Result<(), WriteFault> {

@@ -1,4 +1,4 @@
-use Rattle.std.proofs.Common.{◌≡◌, ◌+◌, List, ◌++◌, refl, sym, subst, ◌∙◌}
+use Rattle.std.proofs.Common.{◌≡◌, ◌+◌, refl, sym, subst, ◌∙◌}
 use Rattle.std.specs.Prelude.{codes}
 use Rattle.std.proofs.KnownBytes.{Appends-nil}
 use Rattle.study_reply.specs.Names.{words_of}
@@ -11,10 +11,10 @@ use Rattle.study_script.specs.SessionHolds.{document_seen}
 use Rattle.study_script.specs.Session.{SessionHolds}
 use Rattle.study_script.specs.Stores.{HonestOn}
 use Rattle.study_report.specs.Written.{none_trusted}
-use Rattle.study_report.specs.Reported.{line_kind, Entry, entry_at, IsAdded, IsAddedAs, nothing_added, refusal_added, remark_added}
+use Rattle.study_report.specs.Reported.{line_kind, entry_at, IsAdded, IsAddedAs, nothing_added, refusal_added, remark_added}
 use Rattle.study_report.specs.declared.line_outcome.LineOutcome.TheVariants.{Nothing}
 use Rattle.study_report.specs.Parts.{IsNextAs}
-use Rattle.study_report.proofs.LineKinds.{trusted-checked, no-games}
+use Rattle.study_report.proofs.LineKinds.{trusted-checked}
 use Rattle.study_report.proofs.LineAdds.{remark-adds, remark-stops, remark-listed, refusal-adds, refusal-stops}
 use Rattle.study_report.proofs.LineAdds.{adds-weaker, stops-weaker, none-listed, nothing-listed, refusal-listed}
 use Rattle.study_report.proofs.PartsWritten.{on-err, remark-part, passed-part, no-class-part, part-of-kind, next-same, next-of-kind}
@@ -27,7 +27,7 @@ returns-in-Remark-clause-ok g c = λ p held at.
     (IsAdded g.T.Report.tells g.T.Report.refusal g.T.Report.remark p c.args.line.now)
     (SessionHolds g.S.Pages.PageSource.honest g.S.Pages.PageSource.gives (HonestOn none_trusted g.S.TableStore.honest) g.S.TableStore.files
     g.S.TableStore.headers g.S.TableStore.faults c.args.session.now.document c.args.session.now.tables c.args.session.now.store.now)
-    p c.args.line.now c.add_remark.result (g.W.Write.contents c.args.out.now) (g.W.Write.contents c.add_remark.new.out)
+    p c.args.line.now c.args.at.entries c.add_remark.result (g.W.Write.contents c.args.out.now) (g.W.Write.contents c.add_remark.new.out) at.1
     (subst (λ (k : LineKind). IsAddedAs g.T.Report.tells g.T.Report.refusal g.T.Report.remark k p c.args.line.now
     (remark_added g.T.Report.tells g.T.Report.refusal g.T.Report.remark p c.args.line.now)) kind refl) held c.add_remark.ensures.ok
 
@@ -36,7 +36,7 @@ returns-in-Remark-clause-err g c = λ p held at.
     let kind : Remark ≡ line_kind c.args.line.now = sym c.in-Remark.is ∙ c.kind_of.ensures in
     remark-stops g.T.Report.tells g.T.Report.refusal g.T.Report.remark
     (IsAdded g.T.Report.tells g.T.Report.refusal g.T.Report.remark p c.args.line.now)
-    p c.args.line.now c.add_remark.result (g.W.Write.contents c.args.out.now) (g.W.Write.contents c.add_remark.new.out)
+    p c.args.line.now c.args.at.entries c.add_remark.result (g.W.Write.contents c.args.out.now) (g.W.Write.contents c.add_remark.new.out) at.1
     (subst (λ (k : LineKind). IsAddedAs g.T.Report.tells g.T.Report.refusal g.T.Report.remark k p c.args.line.now
     (remark_added g.T.Report.tells g.T.Report.refusal g.T.Report.remark p c.args.line.now)) kind refl) c.add_remark.ensures.err
 
@@ -49,7 +49,7 @@ returns-in-Remark-clause-listed g c = λ p reported held kept.
 pub returns-in-Remark-clause-written : goal.returns-in-Remark-clause-written
 returns-in-Remark-clause-written g c =
     remark-part g.T.Report.form g.T.Report.refusal g.T.Report.remark (document_seen c.args.session.now.document)
-    (line_kind c.args.line.now) c.args.line.now c.args.at.line (c.args.at.studies + 1)
+    (line_kind c.args.line.now) c.args.line.now c.args.at.line (c.args.at.entries + 1)
     c.add_remark.result (g.W.Write.contents c.args.out.now) (g.W.Write.contents c.add_remark.new.out) (sym c.in-Remark.is ∙ c.kind_of.ensures)
     c.add_remark.ensures.ok
 
@@ -133,10 +133,7 @@ returns-in-Checked-clause-err g c = λ p held at.
     (c.answer_silently.ensures.err p (trusted-checked c.args.line.now (sym kind)) held at.0)
 
 pub returns-in-PassedOver-clause-listed : goal.returns-in-PassedOver-clause-listed
-returns-in-PassedOver-clause-listed g c = λ p reported held kept.
-    let kind : line_kind c.args.line.now ≡ PassedOver = sym (sym c.in-PassedOver.is ∙ c.kind_of.ensures) in
-    subst (λ (x : List Entry). g.T.Report.lists c.args.report.now (reported ++ x)) (sym (no-games c.args.line.now PassedOver (λ e. absurd cc) kind))
-    (nothing-listed (g.T.Report.lists c.args.report.now) reported kept)
+returns-in-PassedOver-clause-listed g c = λ p reported held kept. nothing-listed (g.T.Report.lists c.args.report.now) reported kept
 
 pub returns-in-NoClass-clause-listed : goal.returns-in-NoClass-clause-listed
 returns-in-NoClass-clause-listed g c = λ p reported held kept.
@@ -151,38 +148,37 @@ returns-in-Study-clause-listed g c = λ p reported held kept.
 
 pub returns-in-Checked-clause-listed : goal.returns-in-Checked-clause-listed
 returns-in-Checked-clause-listed g c = λ p reported held kept.
-    let kind : line_kind c.args.line.now ≡ Checked = sym (sym c.in-Checked.is ∙ c.kind_of.ensures) in
     none-listed (g.T.Report.lists c.answer_silently.new.report) c.answer_silently.result reported c.args.line.now
     (document_seen c.answer_silently.new.session.document)
-    (entry_at c.args.at) (no-games c.args.line.now Checked (λ e. absurd cc) kind)
+    (entry_at c.args.at)
     c.answer_silently.ensures.none_reported (c.answer_silently.ensures.listed reported kept)
 
 pub returns-in-PassedOver-clause-written : goal.returns-in-PassedOver-clause-written
 returns-in-PassedOver-clause-written g c =
     passed-part g.T.Report.form g.T.Report.refusal g.T.Report.remark (document_seen c.args.session.now.document)
-    (line_kind c.args.line.now) c.args.line.now c.args.at.line (c.args.at.studies + 1)
+    (line_kind c.args.line.now) c.args.line.now c.args.at.line (c.args.at.entries + 1)
     (g.W.Write.contents c.args.out.now) (sym c.in-PassedOver.is ∙ c.kind_of.ensures)
 
 pub returns-in-NoClass-clause-written : goal.returns-in-NoClass-clause-written
 returns-in-NoClass-clause-written g c =
     no-class-part g.T.Report.form g.T.Report.refusal g.T.Report.remark (document_seen c.args.session.now.document)
-    (line_kind c.args.line.now) c.args.line.now c.args.at.line (c.args.at.studies + 1)
+    (line_kind c.args.line.now) c.args.line.now c.args.at.line (c.args.at.entries + 1)
     c.refuse_line.result (g.W.Write.contents c.args.out.now) (g.W.Write.contents c.refuse_line.new.out) (sym c.in-NoClass.is ∙ c.kind_of.ensures)
     c.refuse_line.ensures.ok
 
 pub returns-in-Study-clause-written : goal.returns-in-Study-clause-written
 returns-in-Study-clause-written g c =
     part-of-kind g.T.Report.form g.T.Report.refusal g.T.Report.remark (document_seen c.args.session.now.document)
-    Study (line_kind c.args.line.now) c.args.line.now c.args.at.line (c.args.at.studies + 1)
+    Study (line_kind c.args.line.now) c.args.line.now c.args.at.line (c.args.at.entries + 1)
     c.add_pgn.result (g.W.Write.contents c.args.out.now) (g.W.Write.contents c.add_pgn.new.out) (sym c.in-Study.is ∙ c.kind_of.ensures)
     c.add_pgn.ensures.written
 
 pub returns-in-Checked-clause-written : goal.returns-in-Checked-clause-written
 returns-in-Checked-clause-written g c =
     part-of-kind g.T.Report.form g.T.Report.refusal g.T.Report.remark (document_seen c.args.session.now.document)
-    Checked (line_kind c.args.line.now) c.args.line.now c.args.at.line (c.args.at.studies + 1)
+    Checked (line_kind c.args.line.now) c.args.line.now c.args.at.line (c.args.at.entries + 1)
     c.answer_silently.result (g.W.Write.contents c.args.out.now) (g.W.Write.contents c.answer_silently.new.out) (sym c.in-Checked.is ∙ c.kind_of.ensures)
-    (c.answer_silently.ensures.written (c.args.at.studies + 1))
+    (c.answer_silently.ensures.written (c.args.at.entries + 1))
 
 pub returns-in-NoClass-clause-unlisted : goal.returns-in-NoClass-clause-unlisted
 returns-in-NoClass-clause-unlisted g c = λ reported kept. on-err c.refuse_line.result _ (c.refuse_line.ensures.listed reported kept)

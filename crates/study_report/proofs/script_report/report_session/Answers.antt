@@ -138,7 +138,7 @@ returns-in-Err-clause-outcome g c = λ first h.
     let some = rw c.in-Ok-true.field-0-test at c.in-Ok-true.ensures.line in
     let stop : Stops (IsAdded g.T.Report.tells g.T.Report.refusal g.T.Report.remark on.point c.read.new.self) (g.W.Write.contents c.loop-n.out)
     (g.W.Write.contents c.add_line.new.out) c.in-Err.fault =
-    rw c.as_slice.ensures at (c.in-Err.ensures.err on.point on.held (omega (arith, on.lines_are), on.studies_are, on.unread_is)) in
+    rw c.as_slice.ensures at (c.in-Err.ensures.err on.point on.held (omega (arith, on.lines_are), on.entries_are, on.unread_is)) in
     (reported_stops g.T.Report.tells g.T.Report.refusal g.T.Report.remark (g.R.Read.remaining c.args.script.now) (g.R.Read.remaining c.loop-n.script)
     (g.R.Read.remaining c.read.new.script) (g.W.Write.contents c.args.out.now) (g.W.Write.contents c.loop-n.out) (g.W.Write.contents c.add_line.new.out)
     first on.point c.read.new.self c.loop-n.n c.loop-n.refused c.in-Err.fault on.reported some c.in-Ok-true.ensures.short c.loop-n-test.true
@@ -202,7 +202,7 @@ loop-n-init g c = (
         (g.R.Read.remaining c.args.script.now) (g.W.Write.contents c.args.out.now) first;
     held = h;
     lines_are = refl;
-    studies_are = refl;
+    entries_are = refl;
     unread_is = c.none-unread.ensures;
   },
   omega arith,
@@ -223,14 +223,14 @@ loop-n-preserved g c =
     let some-more = few.0 in
     let one-more = few.1 in
     let counted = c.refusals-refused.ensures in
-    let numbered = c.studies-studies.ensures in (
+    let numbered = c.entries-entries.ensures in (
       λ first h.
           let on = c.loop-n.invariant.0 first h in
           let said : Adds (IsAdded g.T.Report.tells g.T.Report.refusal g.T.Report.remark on.point line)
           (SessionHolds g.S.Pages.PageSource.honest g.S.Pages.PageSource.gives (HonestOn none_trusted g.S.TableStore.honest) g.S.TableStore.files
           g.S.TableStore.headers g.S.TableStore.faults c.add_line.new.session.document c.add_line.new.session.tables c.add_line.new.session.store.now)
           mid new reported =
-          rw c.as_slice.ensures at (c.in-Ok.ensures.ok on.point on.held (omega (arith, on.lines_are), on.studies_are, on.unread_is)) in
+          rw c.as_slice.ensures at (c.in-Ok.ensures.ok on.point on.held (omega (arith, on.lines_are), on.entries_are, on.unread_is)) in
           ReportedOn-more g.T.Report.tells g.T.Report.refusal g.T.Report.remark
           (SessionHolds g.S.Pages.PageSource.honest g.S.Pages.PageSource.gives (HonestOn none_trusted g.S.TableStore.honest) g.S.TableStore.files
           g.S.TableStore.headers g.S.TableStore.faults c.loop-n.session.document c.loop-n.session.tables c.loop-n.session.store.now)
@@ -240,14 +240,14 @@ loop-n-preserved g c =
           (λ more. (reported : List Entry) → g.T.Report.lists c.args.report.now reported → g.T.Report.lists c.add_line.new.report (reported ++ more))
           (document_seen c.add_line.new.session.document)
           (g.R.Read.remaining c.args.script.now) (g.R.Read.remaining c.loop-n.script) (g.R.Read.remaining c.read.new.script)
-          (g.W.Write.contents c.args.out.now) mid new first line c.loop-n.n c.loop-n.refused _ c.loop-n.studies _ c.loop-n.unread _ reported on some
-          c.in-Ok-true.ensures.short said (ap (λ i. c.loop-n.refused + i) counted) (ap (λ i. c.loop-n.studies + i) numbered)
+          (g.W.Write.contents c.args.out.now) mid new first line c.loop-n.n c.loop-n.refused _ c.loop-n.entries _ c.loop-n.unread _ reported on some
+          c.in-Ok-true.ensures.short said (ap (λ i. c.loop-n.refused + i) counted) (ap (λ i. c.loop-n.entries + i) numbered)
           (rw c.as_slice-in-Ok.ensures at c.unread_after-unread.ensures)
           (λ s after. after.held.document)
           (λ more kept before have.
           subst (λ (l : List Entry). g.T.Report.lists c.add_line.new.report l)
           (append_assoc before more (listed_in line reported (document_seen c.add_line.new.session.document)
-          (record { number = c.loop-n.studies + 1; unread = c.loop-n.unread.own })))
+          (record { number = c.loop-n.entries + 1; unread = c.loop-n.unread.own })))
           (rw c.as_slice.ensures at (c.in-Ok.ensures.listed on.point (before ++ more) on.held (kept before have)))),
       omega (arith, counted, some-more),
       omega (arith, numbered, one-more),
@@ -258,9 +258,9 @@ loop-n-preserved g c =
       parts_more g.T.Report.form g.T.Report.refusal g.T.Report.remark (document_seen c.args.session.now.document)
           (document_seen c.loop-n.session.document) (document_seen c.add_line.new.session.document) (g.R.Read.remaining c.args.script.now) (g.R.Read.remaining c.loop-n.script)
           (g.R.Read.remaining c.read.new.script) (g.W.Write.contents c.args.out.now) mid new line c.loop-n.n (c.loop-n.n + 1)
-          c.loop-n.refused _ c.loop-n.studies _ reported c.loop-n.invariant.5 some refl
+          c.loop-n.refused _ c.loop-n.entries _ reported c.loop-n.invariant.5 some refl
           (rw c.as_slice.ensures at c.in-Ok.ensures.written) (rw c.as_slice.ensures at c.in-Ok.ensures.document)
-          (ap (λ i. c.loop-n.refused + i) counted) (ap (λ i. c.loop-n.studies + i) numbered),
+          (ap (λ i. c.loop-n.refused + i) counted) (ap (λ i. c.loop-n.entries + i) numbered),
     )
 
 -- ---- what is written, whatever the tables say
@@ -270,7 +270,7 @@ returns-in-Err-TooLong-clause-fits g c =
     parts_long g.T.Report.form g.T.Report.refusal g.T.Report.remark (document_seen c.args.session.now.document)
     (document_seen c.loop-n.session.document) (g.R.Read.remaining c.read.new.script) (g.R.Read.remaining c.args.script.now)
     (g.R.Read.remaining c.loop-n.script) (g.W.Write.contents c.args.out.now) (g.W.Write.contents c.loop-n.out) c.loop-n.n c.loop-n.refused
-    c.loop-n.studies c.loop-n.invariant.5
+    c.loop-n.entries c.loop-n.invariant.5
 
 pub returns-in-Ok-false-clause-fits : goal.returns-in-Ok-false-clause-fits
 returns-in-Ok-false-clause-fits g c =
@@ -278,7 +278,7 @@ returns-in-Ok-false-clause-fits g c =
     parts_end g.T.Report.form g.T.Report.refusal g.T.Report.remark (document_seen c.args.session.now.document)
     (document_seen c.loop-n.session.document) (g.R.Read.remaining c.read.new.script) (g.R.Read.remaining c.args.script.now)
     (g.R.Read.remaining c.loop-n.script) (g.R.Read.remaining c.read.new.script) (g.W.Write.contents c.args.out.now)
-    (g.W.Write.contents c.loop-n.out) c.read.new.self c.loop-n.n c.loop-n.refused c.loop-n.studies c.loop-n.invariant.5 none
+    (g.W.Write.contents c.loop-n.out) c.read.new.self c.loop-n.n c.loop-n.refused c.loop-n.entries c.loop-n.invariant.5 none
 
 pub returns-in-Err-clause-fits : goal.returns-in-Err-clause-fits
 returns-in-Err-clause-fits g c =
@@ -293,12 +293,12 @@ returns-in-Ok-None-clause-fits g c =
     let old = g.W.Write.contents c.args.out.now in
     let new = g.W.Write.contents c.loop-n.out in
     let at : c.loop-n.n ≡ 100000 = omega arith in
-    let parts = subst (λ k. HasParts g.T.Report.form g.T.Report.refusal g.T.Report.remark (document_seen c.args.session.now.document) (document_seen c.loop-n.session.document) script now old new k c.loop-n.refused c.loop-n.studies) at
+    let parts = subst (λ k. HasParts g.T.Report.form g.T.Report.refusal g.T.Report.remark (document_seen c.args.session.now.document) (document_seen c.loop-n.session.document) script now old new k c.loop-n.refused c.loop-n.entries) at
     c.loop-n.invariant.5 in
     parts_end g.T.Report.form g.T.Report.refusal g.T.Report.remark (document_seen c.args.session.now.document)
     (document_seen c.loop-n.session.document) (g.R.Read.remaining c.read_byte.new.script) script now (g.R.Read.remaining
     c.read_byte.new.script)
-    old new [] 100000 c.loop-n.refused c.loop-n.studies parts (has_none now (g.R.Read.remaining c.read_byte.new.script) end.0 end.1)
+    old new [] 100000 c.loop-n.refused c.loop-n.entries parts (has_none now (g.R.Read.remaining c.read_byte.new.script) end.0 end.1)
 
 pub returns-in-Ok-Some-clause-fits : goal.returns-in-Ok-Some-clause-fits
 returns-in-Ok-Some-clause-fits g c =
@@ -307,11 +307,11 @@ returns-in-Ok-Some-clause-fits g c =
     let old = g.W.Write.contents c.args.out.now in
     let new = g.W.Write.contents c.loop-n.out in
     let at : c.loop-n.n ≡ 100000 = omega arith in
-    let parts = subst (λ k. HasParts g.T.Report.form g.T.Report.refusal g.T.Report.remark (document_seen c.args.session.now.document) (document_seen c.loop-n.session.document) script now old new k c.loop-n.refused c.loop-n.studies) at
+    let parts = subst (λ k. HasParts g.T.Report.form g.T.Report.refusal g.T.Report.remark (document_seen c.args.session.now.document) (document_seen c.loop-n.session.document) script now old new k c.loop-n.refused c.loop-n.entries) at
     c.loop-n.invariant.5 in
     parts_many g.T.Report.form g.T.Report.refusal g.T.Report.remark (document_seen c.args.session.now.document)
     (document_seen c.loop-n.session.document) (g.R.Read.remaining c.read_byte.new.script) script now old new c.loop-n.refused
-    c.loop-n.studies parts
+    c.loop-n.entries parts
 
 pub returns-in-Err-Device-clause-fits : goal.returns-in-Err-Device-clause-fits
 returns-in-Err-Device-clause-fits g c =
@@ -320,7 +320,7 @@ returns-in-Err-Device-clause-fits g c =
     let left = g.R.Read.remaining c.read.new.script in
     parts_read g.T.Report.form g.T.Report.refusal g.T.Report.remark (document_seen c.args.session.now.document)
     (document_seen c.loop-n.session.document) left script now (g.W.Write.contents c.args.out.now) (g.W.Write.contents c.loop-n.out)
-    c.loop-n.n c.loop-n.refused c.loop-n.studies c.loop-n.invariant.5
+    c.loop-n.n c.loop-n.refused c.loop-n.entries c.loop-n.invariant.5
     (gave-same script now left c.loop-n.n c.loop-n.invariant.3 (c.in-Err-Device.ensures.no_feed cc))
 
 pub returns-in-Err-read_byte-clause-fits : goal.returns-in-Err-read_byte-clause-fits
@@ -331,7 +331,7 @@ returns-in-Err-read_byte-clause-fits g c =
     let kept : GaveFeeds now left 0 = ([], Consumes-kept now now left [] (Consumes-nil now) c.in-Err-read_byte.ensures.err, omega arith) in
     parts_read g.T.Report.form g.T.Report.refusal g.T.Report.remark (document_seen c.args.session.now.document)
     (document_seen c.loop-n.session.document) left script now (g.W.Write.contents c.args.out.now) (g.W.Write.contents c.loop-n.out)
-    c.loop-n.n c.loop-n.refused c.loop-n.studies c.loop-n.invariant.5 (gave-same script now left c.loop-n.n c.loop-n.invariant.3 kept)
+    c.loop-n.n c.loop-n.refused c.loop-n.entries c.loop-n.invariant.5 (gave-same script now left c.loop-n.n c.loop-n.invariant.3 kept)
 
 -- ---- the list of a run that stopped
 
@@ -374,7 +374,7 @@ returns-in-Err-clause-listed_before g c = λ first before h kept.
     let some = rw c.in-Ok-true.field-0-test at c.in-Ok-true.ensures.line in
     let stop : Stops (IsAdded g.T.Report.tells g.T.Report.refusal g.T.Report.remark on.point c.read.new.self) (g.W.Write.contents c.loop-n.out)
     (g.W.Write.contents c.add_line.new.out) c.in-Err.fault =
-    rw c.as_slice.ensures at (c.in-Err.ensures.err on.point on.held (omega (arith, on.lines_are), on.studies_are, on.unread_is)) in
+    rw c.as_slice.ensures at (c.in-Err.ensures.err on.point on.held (omega (arith, on.lines_are), on.entries_are, on.unread_is)) in
     reported_before_stop g.T.Report.tells g.T.Report.refusal g.T.Report.remark (λ more. g.T.Report.lists c.add_line.new.report (before ++ more))
     (g.R.Read.remaining c.args.script.now) (g.R.Read.remaining c.loop-n.script) (g.R.Read.remaining c.read.new.script)
     (g.W.Write.contents c.args.out.now) (g.W.Write.contents c.loop-n.out) (g.W.Write.contents c.add_line.new.out) first on.point c.read.new.self

@@ -22,9 +22,9 @@ invariant-loop-n g l =
     l.session.document l.session.tables l.session.store.now)
     (λ more. (reported : List Entry) → g.T.Report.lists l.fn.report reported → g.T.Report.lists l.report (reported ++ more))
     (g.R.Read.remaining l.fn.script) (g.R.Read.remaining l.script)
-    (g.W.Write.contents l.fn.out) (g.W.Write.contents l.out) first l.n l.refused l.studies l.unread)
-    × (l.refused ≤ l.n) × (l.studies ≤ l.n) × GaveFeeds (g.R.Read.remaining l.fn.script) (g.R.Read.remaining l.script) l.n
+    (g.W.Write.contents l.fn.out) (g.W.Write.contents l.out) first l.n l.refused l.entries l.unread)
+    × (l.refused ≤ l.n) × (l.entries ≤ l.n) × GaveFeeds (g.R.Read.remaining l.fn.script) (g.R.Read.remaining l.script) l.n
     × Gone (g.R.Read.remaining l.fn.script) (g.R.Read.remaining l.script) l.n
     × HasParts g.T.Report.form g.T.Report.refusal g.T.Report.remark (document_seen l.fn.session.document) (document_seen l.session.document)
     (g.R.Read.remaining l.fn.script) (g.R.Read.remaining l.script)
-    (g.W.Write.contents l.fn.out) (g.W.Write.contents l.out) l.n l.refused l.studies
+    (g.W.Write.contents l.fn.out) (g.W.Write.contents l.out) l.n l.refused l.entries
