@@ -740,7 +740,7 @@ def games_in(replies):
 
 def studies_by(lines, replies):
     """The studies of a script, by the lines of a report over it and the replies of studybench to it."""
-    parts = re.split(r"^(?=study )", "\n".join(l for l in lines.splitlines() if not l.startswith("refused ")) + "\n", flags=re.M)[1:]
+    parts = re.split(r"^(?=study )", "\n".join(l for l in lines.splitlines() if not l.startswith(("refused ", "unread "))) + "\n", flags=re.M)[1:]
     games = games_in(replies)
     assert len(games) == len(parts), (len(games), len(parts))
     return [Study(game, facts.splitlines()) for game, facts in zip(games, parts)]
@@ -944,8 +944,8 @@ if __name__ == "__main__":
     elif words == ["facts"]:
         for name in gallery():
             lines, studies = read(EXAMPLES, name + ".lines"), studies_in(name)
-            parts = re.split(r"^(?=study |refused )", lines, flags=re.M)[1:]
-            text = "".join(part if part.startswith("refused ") else "\n".join(with_facts(studies.pop(0), part.splitlines())) + "\n" for part in parts)
+            parts = re.split(r"^(?=study |refused |unread )", lines, flags=re.M)[1:]
+            text = "".join(part if part.startswith(("refused ", "unread ")) else "\n".join(with_facts(studies.pop(0), part.splitlines())) + "\n" for part in parts)
             if text != lines:
                 print(name)
                 with open(os.path.join(EXAMPLES, name + ".lines"), "w", encoding="latin-1") as file:

@@ -1,8 +1,9 @@
 -- A report in lines of plain text.
-use Rattle.std.specs.Prelude.{ℕ, List, [], ◌++◌, drop, codes, decimal}
+use Rattle.std.specs.Prelude.{ℕ, List, [], ◌++◌, drop, codes, decimal, if◌then◌else◌}
 use Rattle.study_facts.specs.declared.entry.EntryInfo.{EntryInfo}
 use Rattle.study_marks.specs.Edits.{PlainStudy}
 use Rattle.study_review.specs.Review.{BeginsReview, IsReviewOf}
+use Rattle.study_report.specs.Remarks.{is_not_read}
 
 -- `refused 7 NoTable KRK`: the number of the line, and the script's reply without `error `
 abbrev pub refusal_line : ℕ → List ℕ → List ℕ
@@ -16,6 +17,14 @@ IsReviewAs plain info text = IsReviewOf plain info.number text
 abbrev pub IsReviewForm : ℕ → List ℕ → Type 0
 IsReviewForm number text = BeginsReview number text
 
--- a report of facts shows no remark
+-- no remark is shown
 abbrev pub no_remark : ℕ → List ℕ → List ℕ
 no_remark number line = []
+
+-- `unread game 3, line 45, column 12: not read: NoSuchMove at Kb6`
+abbrev pub unread_line : List ℕ → List ℕ
+unread_line line = codes "unread " ++ (drop 3 line ++ codes "\n")
+
+-- before a review that a game was read only up to a fault; no other remark
+abbrev pub review_remark : ℕ → List ℕ → List ℕ
+review_remark number line = if is_not_read line then unread_line line else []

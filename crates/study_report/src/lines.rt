@@ -3,8 +3,9 @@ ghost use Rattle.std.specs.Prelude.{◌++◌, ◌∷◌, [], OnOk, OnErr};
 ghost use Rattle.std.specs.Io.KnownBytes.{Appends};
 ghost use Rattle.study_text.specs.Taken.{TakesPrefix};
 ghost use Rattle.study_reply.specs.Replied.{refused_words, error_text};
-ghost use Rattle.study_report.specs.Lines.{refusal_line, no_remark};
+ghost use Rattle.study_report.specs.Lines.{refusal_line, unread_line, review_remark};
 
+use crate::remarks::{behind, is_not_read};
 use crate::report::Report;
 use itoa::Buffer;
 use std::alloc::Allocator;
@@ -16,7 +17,7 @@ use study_review::write_review;
 use study_text::{DeviceFailed, write_text};
 use study_values::Values;
 
-/// Studies as their reviews, and refused lines as `refused 7 NoTable KRK`.
+/// Studies as their reviews, refused lines as `refused 7 NoTable KRK`, and a game that was read only up to a fault as `unread game 3, ..`.
 #[derive(Clone, Copy, Debug, PartialEq, Eq)]
 pub struct Lines;
 
@@ -30,7 +31,7 @@ impl Report for Lines {
 
     ghost refusal = { λ number line reply. refusal_line number reply };
 
-    ghost remark = { λ number line. no_remark number line };
+    ghost remark = { λ number line. review_remark number line };
 
     // Nothing is kept.
     ghost lists = { λ lines reported. Unit {0} };
@@ -62,11 +63,26 @@ impl Report for Lines {
         &mut self,
         _alloc: &'a A,
         _number: u32,
-        _line: &[u8],
-        _out: &mut W,
+        line: &[u8],
+        out: &mut W,
     ) -> Result<(), WriteFault> {
+        if is_not_read(line) {
+            put_unread(out, line)?;
+        }
         Ok(())
     }
+}
+
+/// Writes `unread game 3, line 45, column 12: not read: NoSuchMove at Kb6`.
+fn put_unread<W: Write>(out: &mut W, line: &[u8]) -> Result<(), DeviceFailed>
+    ensures ok { OnOk result
+        (Appends (W.contents out.old) (W.contents out.new) (unread_line line.now)) }
+    ensures err { OnErr result
+        (TakesPrefix (W.contents out.old) (W.contents out.new) (unread_line line.now)) }
+{
+    write_text(out, b"unread ")?;
+    write_text(out, behind(line, 3))?;
+    write_text(out, b"\n")
 }
 
 /// Writes `refused 7 NoTable KRK`.

@@ -6,7 +6,7 @@ use Rattle.study_script.specs.declared.running.RunFault.TheVariants.{OutOfMemory
 use Rattle.study_script.specs.Outcome.{Outcome, Shape as RunShape}
 use Rattle.study_script.specs.Written.{Fits}
 use Rattle.study_script.specs.State.{State}
-use Rattle.study_report.specs.Lines.{no_remark}
+use Rattle.study_report.specs.Lines.{review_remark}
 use Rattle.study_report.specs.Outcome.{Outcome as ReportOutcome, Shape}
 use Rattle.study_report.specs.Lines.{IsReviewAs}
 use Rattle.study_web.specs.Answers.{IsOwn, IsUnread}
@@ -46,9 +46,9 @@ own_outcome first script text written left ran reported is (inl (same, ended)) =
 own_outcome first script text written left ran reported is (inr (none, ended)) = rw (none, ended) (Some script, (refl, refl))
 
 pub own_review : (first : State) (script text written : List ℕ) (left : Option (List ℕ)) (ran reported : Result Summary RunFault)
-    → ReportOutcome IsReviewAs refused_line no_remark first script left (Some []) (Some written) ran
+    → ReportOutcome IsReviewAs refused_line review_remark first script left (Some []) (Some written) ran
     → ((text ≡ written) × (reported ≡ ran)) ⊎ ((text ≡ []) × (reported ≡ Err OutOfMemory))
-    → (left : Option (List ℕ)) × ReportOutcome IsReviewAs refused_line no_remark first script left (Some []) (Some text) reported
+    → (left : Option (List ℕ)) × ReportOutcome IsReviewAs refused_line review_remark first script left (Some []) (Some text) reported
 own_review first script text written left ran reported is (inl (same, ended)) = (left, rw (same, ended) is)
 own_review first script text written left ran reported is (inr (none, ended)) =
     rw (none, ended) (None, (0, omega arith, omega arith, (tt, [], tt, refl)))

@@ -16,7 +16,7 @@ use Rattle.study_script.specs.Outcome.{Outcome, initial_state, Shape as RunShape
 use Rattle.study_script.specs.Written.{Fits as RunFits}
 use Rattle.study_script.specs.State.{StoreKnowledge}
 use Rattle.study_script.specs.Stores.{AreTrusted}
-use Rattle.study_report.specs.Lines.{no_remark}
+use Rattle.study_report.specs.Lines.{review_remark}
 use Rattle.study_report.specs.Outcome.{Outcome as ReportOutcome, Shape}
 use Rattle.study_report.specs.Lines.{IsReviewAs}
 use Rattle.study_print.specs.Pages.{IsFile}
@@ -145,7 +145,7 @@ IsViewed spans bytes script steps =
 -- the review of the script's studies
 abbrev pub IsReviewOver : List ℕ → List ℕ → Result Summary RunFault → List Class → StoreKnowledge → Type 0
 IsReviewOver script text summary classes shelf =
-    (left : Option (List ℕ)) × ReportOutcome IsReviewAs refused_line no_remark (over_files classes shelf) script left (Some []) (Some text) summary
+    (left : Option (List ℕ)) × ReportOutcome IsReviewAs refused_line review_remark (over_files classes shelf) script left (Some []) (Some text) summary
 
 -- the same over right files; or the request is refused for one of the files, or there is no memory
 abbrev pub IsReviewedTo : List FileSpan → List ℕ → List ℕ → List ℕ → Result Summary RunFault → Type 0

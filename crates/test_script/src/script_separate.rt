@@ -106,7 +106,8 @@ fn each_refused_position_leaves_nothing(rt: HostRuntime) {
     check(&rt, &rt.alloc(), true, REFUSED);
 }
 
-/// The lines of `APART` without those of tables, with a `pgn` line after each study, and with a game that was left out before the last one.
+/// The lines of `APART` without those of tables, with a `pgn` line after each study, and with a game that was left out before the last one,
+/// which was read only up to a fault.
 const REPORTED: &[u8] = b"position k7/8/8/8/8/8/8/K7 w - - 0 1
 stipulate white draw
 tag Event First
@@ -118,13 +119,14 @@ tag Event Second
 insert root Kb2
 pgn
 #! game 3, line 31: left out: 7 men
+#! game 4, line 40: not read: NotSan at Kx
 position 7k/8/8/8/8/8/8/7K w - - 0 1
 stipulate black draw
 tag Event Third
 pgn
 ";
 
-/// The line of each study and of each refusal in a report: two studies, and not the first once more for the second. The game that was left out is the
+/// The line of each study, refusal and fault of a game in a report: two studies, and not the first once more for the second. The game that was left out is the
 /// second entry.
 const ENTRIES: &str = "study 1 k7/8/8/8/8/8/8/K7 w - - 0 1
 refused 6 NoTable KRK
@@ -132,6 +134,7 @@ refused 7 NoPosition
 refused 8 NoStudy
 refused 9 NoStudy
 refused 10 NoStudy
+unread game 4, line 40: not read: NotSan at Kx
 study 3 7k/8/8/8/8/8/8/7K w - - 0 1
 ";
 
@@ -140,7 +143,10 @@ fn entries_of(rt: &impl Abort, alloc: Global, text: &[u8]) -> Vec<u8> {
     let mut entries = Vec::new(alloc);
     let text = std::str::from_utf8(text).unwrap_or("no text");
     for line in text.lines() {
-        if line.starts_with("study ") || line.starts_with("refused ") {
+        if line.starts_with("study ")
+            || line.starts_with("refused ")
+            || line.starts_with("unread ")
+        {
             assert!(rt; entries.extend_from_slice(line.as_bytes()).is_ok());
             assert!(rt; entries.push(b'\n').is_ok());
         }
@@ -177,7 +183,7 @@ fn a_report_has_no_study_under_another_name(rt: HostRuntime) -> Result<(), Fail>
     let entries = entries_of(&rt, alloc, text.as_slice());
     assert!(rt; entries.as_slice() == ENTRIES.as_bytes());
     let wanted = Summary {
-        lines: 15,
+        lines: 16,
         refused: 5,
     };
     assert_eq!(rt; answer, Ok(wanted));
