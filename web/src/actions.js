@@ -109,6 +109,7 @@ async function changeOnce(make, where) {
   if (!first) return false;
   cancelPrefetch();
   try {
+    if (first.lines !== doc().lines) readable(first.lines);
     const lacking = first.lines === doc().lines ? [] : await services.tables.lacking(fensOf(first.lines));
     if (lacking.length && (first.lenient || !doc().judged)) {
       await work(() => showUnmarked(make), where);

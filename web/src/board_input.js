@@ -8,6 +8,7 @@ import {change} from './actions.js';
 import {app, doc, services, say} from './state.js';
 import {insertMoves} from './edits.js';
 import {draftFen, moveDraft, placeAt, removeAt} from './setup.js';
+import {overTree} from './tree_room.js';
 /** @typedef {import('./types.js').Move} Move */
 
 // ---- fingers
@@ -109,14 +110,21 @@ export function listen() {
 
 // ---- moves
 /**
+ * Moves are put in below a node, if the tree has room for them.
  * @param {string} path
  * @param {string[]} sans
- * @param {string} where
  */
-export const insert = (path, sans, where = 'board') => change(now => {
-  const s = now.studies[now.at];
-  return s && app.view ? insertMoves(now.lines, s, app.view.root, path, sans) : null;
-}, where);
+export function insert(path, sans) {
+  const over = app.view ? overTree(app.view.root, path, sans) : '';
+  if (!over)
+    return change(now => {
+      const s = now.studies[now.at];
+      return s && app.view ? insertMoves(now.lines, s, app.view.root, path, sans) : null;
+    });
+  say('board', over);
+  services.show();
+  return Promise.resolve(false);
+}
 /**
  * Plays the move between two squares, if there is one; asks which man where a pawn promotes.
  * @param {number} from

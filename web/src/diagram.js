@@ -1,6 +1,7 @@
 // @ts-check
-// The position that is shown as a picture of its own, and as a FEN to copy.
+// The position that is shown as a picture of its own.
 import {$, download, h, smallButton} from './dom.js';
+import {copyFen} from './copying.js';
 import {services, say} from './state.js';
 import {shownFen} from './board.js';
 
@@ -54,12 +55,6 @@ async function save(kind) {
     say('board', `No picture: ${/** @type {Error} */ (fault).message}.`);
     services.show();
   }
-}
-async function copyFen() {
-  const fen = shownFen();
-  const copied = await navigator.clipboard?.writeText(fen).then(() => true, () => false);
-  say('board', copied ? `Copied: ${fen}` : `The browser does not let this page copy. The FEN: ${fen}`, Boolean(copied));
-  services.show();
 }
 /** What can be done with the position that is shown. */
 export const diagramView = () => [smallButton('Copy FEN', 'the position that is shown', copyFen, {id: 'copyFen'}),

@@ -5,8 +5,8 @@ import {originalsIn, restated} from './imported.js';
 import {isCutLine, withoutCut} from './left_out.js';
 import {aimWords} from './words.js';
 import {TAGS, isEdit, isGame, oneGame, wordsOf} from './script.js';
-import {squareName} from './fen.js';
-import {nodeAt, allNodes} from './parse_answers.js';
+import {allNodes} from './parse_answers.js';
+import {insertions} from './tree_room.js';
 /** @typedef {import('./types.js').Study} Study @typedef {import('./types.js').Change} Change */
 /** @typedef {import('./types.js').TreeNode} TreeNode */
 
@@ -24,16 +24,6 @@ const splice = (lines, at, gone, ...more) => [...lines.slice(0, at), ...more, ..
  */
 const append = (lines, study, ...more) => splice(lines, study.last + 1, 0, ...more);
 
-/** @param {string} san */
-const plain = san => san.replace(/[+#!?=x]/g, '');
-/**
- * Whether a text means a move of the tree: its own text, or both of its squares, as `c6c7` and `Kb6b7`.
- * @param {TreeNode} node
- * @param {string} text
- */
-const isMove = (node, text) => plain(node.san) === plain(text) ||
-  (node.from >= 0 &&
-    squareName(node.from) + squareName(node.to) + node.promoted === plain(text).replace(/^[KQRBN]/, ''));
 /**
  * Several lines of moves, each one below the other, from a node on; what is there already is walked. What stands in
  * brackets begins where the move before it does.
@@ -45,32 +35,7 @@ const isMove = (node, text) => plain(node.san) === plain(text) ||
  * @returns {Change}
  */
 export function insertLines(lines, study, root, path, lists) {
-  const more = /** @type {string[]} */ ([]), made = /** @type {Map<string, string[]>} */ (new Map());
-  let end = path;
-  for (const sans of lists) {
-    const outer = /** @type {[string, string][]} */ ([]);
-    let at = path, before = path;
-    for (const san of sans) {
-      if (san === '(') {
-        outer.push([at, before]);
-        at = before;
-        continue;
-      }
-      if (san === ')') {
-        [at, before] = outer.pop() || [at, before];
-        continue;
-      }
-      const node = nodeAt(root, at), old = node ? node.children : [], fresh = made.get(at) || [];
-      const there = old.findIndex(c => isMove(c, san)), again = fresh.findIndex(text => plain(text) === plain(san));
-      const place = there >= 0 ? there : old.length + (again >= 0 ? again : fresh.length);
-      if (there < 0 && again < 0) {
-        more.push(`insert ${at} ${san}`);
-        made.set(at, [...fresh, san]);
-      }
-      [before, at] = [at, at === 'root' ? `${place}` : `${at}.${place}`];
-    }
-    end = at;
-  }
+  const {more, path: end} = insertions(root, path, lists);
   return {lines: more.length ? append(lines, study, ...more) : lines, path: end};
 }
 /**

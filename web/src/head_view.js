@@ -2,11 +2,12 @@
 // The head of a study: title, stipulation, tags.
 import {$, h} from './dom.js';
 import {change} from './actions.js';
-import {app, doc, services, say} from './state.js';
+import {app, doc, services, say, study} from './state.js';
 import {isDate, isKnown, setTag, stipulate, wholeDate} from './edits.js';
 import {isAimCarried, isCarried, nameOf, numbersOf} from './entries.js';
 import {againstText, sourceText} from './imported.js';
 import {knownEntries} from './list_facts.js';
+import {refuseLong} from './limits.js';
 import {plainText} from './opening.js';
 import {guess} from './setup.js';
 import {typedOr} from './node_view.js';
@@ -139,6 +140,8 @@ const tagView = (name, text) => [h('label', { for: 'tag' + name
  * @param {string} typed
  */
 async function changeTag(name, typed) {
+  const s = study();
+  if (s && refuseLong({id: 'tag' + name, value: nameOf(s, name)}, typed)) return;
   const before = app.history, plain = await plainText(typed), text = name === 'Date' ? wholeDate(plain) : plain;
   if (name === 'Date' && text && !isDate(text)) {
     say('head', `${typed}: a date is a year, or a year, a month and a day, as 1921 or 1921.05.12.`);

@@ -9,6 +9,7 @@ import {showBoard} from './board.js';
 import {listen} from './board_input.js';
 import {firstDocument, holdLock, keep, local} from './documents.js';
 import {close, openDocuments} from './documents_view.js';
+import {listenToDoors, openHash} from './doors.js';
 import {close as closeEarlier} from './earlier_view.js';
 import {close as closeFinding, openFinding, startFinding} from './finding_view.js';
 import {makeCore} from './engine.js';
@@ -23,7 +24,7 @@ import {makeTables} from './tables.js';
 import {showLeftOut} from './list_view.js';
 import {show, showFacts, showJudged, showProgress, watch} from './show.js';
 import {makeStore} from './store.js';
-import {openFile, openText} from './opening.js';
+import {openFile} from './opening.js';
 import {counted, reason} from './words.js';
 import {refusalIn} from './parse_answers.js';
 
@@ -196,36 +197,12 @@ function theme(dark, kept = true) {
     } catch { /* for this visit */
     }
 }
-onDocument('dragover', e => {
-  e.preventDefault();
-  document.body.classList.add('dropping');
-});
-onDocument('dragleave', () => document.body.classList.remove('dropping'));
-onDocument('drop', e => {
-  e.preventDefault();
-  document.body.classList.remove('dropping');
-  const files = e.dataTransfer ? [...e.dataTransfer.files] : [], tables = files.filter(f => /\.dtm$/i.test(f.name));
-  if (tables.length) openTables(tables);
-  else if (files.length) openFile(files[0]);
-});
-
 // ---- the beginning
-async function openHash() {
-  const m = /[#&]script=([^&]*)/.exec(location.hash);
-  if (!m) return false;
-  history.replaceState(null, '', location.pathname + location.search);
-  let text = m[1];
-  try {
-    text = decodeURIComponent(m[1].replace(/\+/g, ' '));
-  } catch { /* as it stands */
-  }
-  await openText(text, 'board');
-  return true;
-}
 async function start() {
   holdLock();
   listen();
   listenToKeys();
+  listenToDoors(openTables);
   watch();
   const dark = local.getItem('studyboardDark');
   theme(dark === null ? matchMedia('(prefers-color-scheme: dark)').matches : dark === '1', false);
@@ -241,6 +218,5 @@ async function start() {
   show();
   if (!await openHash() && !doc().lines.length && !app.setup) openSetup(true);
 }
-window.addEventListener('hashchange', openHash);
 /** @type {any} */ (window).studyboard = makeApi(spawn);
 track(start());

@@ -5,6 +5,7 @@ import {asGame, cutBlock, cutOf, leftOutText, textIn, upTo} from './cut_game.js'
 import {documentOf} from './imported.js';
 import {freshId} from './keep.js';
 import {canBeCut, isCutLine, leftOut, whyLeftOut, withoutCut} from './left_out.js';
+import {refuseLong} from './limits.js';
 import {checkedName, importPgn, withRemarks} from './opening.js';
 import {app, doc, say, services, study} from './state.js';
 import {aimWords} from './words.js';
@@ -119,8 +120,8 @@ const replaceStudy = (s, block) => change(now => (now.studies[now.at] === s ? {
  * @param {string} text
  */
 export const readAgain = text => track((async () => {
-  const s = study(), aim = chosenAim(doc().studies), typed = text.replace(/\s*$/, '\n');
-  if (!s) return;
+  const s = study(), aim = chosenAim(doc().studies), typed = `${text.trimEnd()}\n`;
+  if (!s || refuseLong({id: 'cutText', value: text}, text)) return;
   let got = /** @type {{lines: string[], out: LeftOut | null}} */ ({lines: [], out: null});
   await work(async () => {
     got = await read(typed, s.origin, aim);

@@ -8,6 +8,7 @@ import {flip} from './board.js';
 import {insert} from './board_input.js';
 import {earlierButton} from './earlier_view.js';
 import {promoteNode, removeNode} from './edits.js';
+import {refuseLong} from './limits.js';
 import {nodeAt} from './parse_answers.js';
 import {openSetup} from './setup.js';
 import {typedMoves as movesIn} from './typed.js';
@@ -67,6 +68,7 @@ export function navView(n) {
 const squares = san => (san || '').replace(/^[KQRBN]|[+#!?=x]/g, '');
 /** @param {string} text */
 async function typedMoves(text) {
+  if (refuseLong({id: 'san', value: ''}, text)) return;
   const sans = movesIn(text), [first] = sans,
         named =
           app.view && app.view.moves.find(m => squareName(m.from) + squareName(m.to) + m.promoted === squares(first));

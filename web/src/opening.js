@@ -4,16 +4,19 @@ import {$, h, smallButton} from './dom.js';
 import {change, track, sayOpened, work} from './actions.js';
 import {learn} from './answer_cache.js';
 import {app, doc, services, say} from './state.js';
-import {decode, documentOf, plainBytes, importNote, looksLikePgn, notKept, withoutAim} from './imported.js';
+import {decode, documentOf, plainBytes, importNote, notKept, withoutAim} from './imported.js';
 import {freshId} from './keep.js';
+import {lookOf} from './looks.js';
 import {gamesIn, namesOf, remarksOf} from './notes.js';
 import {replace} from './history.js';
 import {foreignGames, foreignText, inUtf8} from './code_pages.js';
 import {cutOf, textRemarks} from './cut_game.js';
 import {canBeCut, leftOut, leftOutBy} from './left_out.js';
+import {refuseLong} from './limits.js';
 import {remarkOf} from './remarks.js';
 import {savedGames} from './saved_games.js';
 import {isCommand, isSilent, linesOf} from './script.js';
+import {setUpText} from './setup.js';
 import {aimText, counted, endedReason, readAim} from './words.js';
 
 /**
@@ -146,20 +149,33 @@ export async function openPgn(bytes, where, name, how = {
   checkWhole();
 }
 /**
- * A script or a PGN takes the place of the document; undo brings the old one back.
+ * A script or a PGN takes the place of the document, which undo brings back; a position is set up.
  * @param {string} text
  * @param {string} where
  * @param {string} name      of its file
  */
-export const openText = (text, where = 'script', name = '') =>
-  track(looksLikePgn(text) ? openPgn(new TextEncoder().encode(text), where, name) : openScript(text, where, name));
+export async function openText(text, where = 'script', name = '') {
+  if (where === 'script' && refuseLong({id: 'script', value: text}, text)) return;
+  await track(openByLook(text, new TextEncoder().encode(text), where, name));
+}
+/**
+ * @param {string} text
+ * @param {Uint8Array} bytes      that it was read from
+ * @param {string} where
+ * @param {string} name
+ */
+async function openByLook(text, bytes, where, name) {
+  const look = lookOf(text);
+  if (look === 'position') return setUpText(text);
+  return look === 'pgn' ? openPgn(bytes, where, name) : openScript(text, where, name);
+}
 /**
  * A file, in whatever letters it is written.
  * @param {File} file
  */
 export const openFile = file => track(file.arrayBuffer().then(buffer => {
-  const bytes = plainBytes(new Uint8Array(buffer)), text = decode(bytes);
-  return looksLikePgn(text) ? openPgn(bytes, 'board', file.name) : openScript(text, 'board', file.name);
+  const bytes = plainBytes(new Uint8Array(buffer));
+  return openByLook(decode(bytes), bytes, 'board', file.name);
 }));
 /**
  * @param {string} text
@@ -169,7 +185,7 @@ export const openFile = file => track(file.arrayBuffer().then(buffer => {
 async function openScript(text, where, name) {
   const lines = linesOf(text);
   if (!lines.some(isCommand) && (name || !lines.every(isSilent))) {
-    say(where, 'This is neither a script nor a PGN. Nothing was changed.');
+    say(where, 'This is neither a FEN, a list of men, a PGN nor a script. Nothing was changed.');
     if (where === 'script') Object.assign(app.say || {}, {field: 'script', typed: text});
     return services.show();
   }

@@ -1,12 +1,13 @@
 // @ts-check
 // Which table is built next: several at a time, in order, whoever wants them. A table that needs another first says so,
-// and waits until one more is made. How long that will take; and which table is read next.
+// and waits until one more is made. And which table is read next.
 
 /** @typedef {{left: Set<string>, ok: () => void, no: (why: any) => void}} Want */
 /**
  * @param {number} most      how many at a time
  * @param {(name: string) => Promise<boolean>} make      false where a table that it needs is not there yet
- * @param {(running: string[], waiting: string[], made: number) => void} report      both are empty once all is made
+ * @param {(builds: {running: string[], waiting: string[], made: number}) => void} report      both lists are empty once
+ *     all is made
  */
 export function makeBuilds(most, make, report) {
   const running = /** @type {Set<string>} */ (new Set()), tried = /** @type {Map<string, number>} */ (new Map());
@@ -55,7 +56,7 @@ export function makeBuilds(most, make, report) {
       for (const name of [...waiting])
         if (running.size < most && tried.get(name) !== made) start(name);
     if (!failed && !running.size && waiting.length) fail(new Error(`the table ${waiting[0]} could not be built`));
-    report([...running], [...waiting], made);
+    report({running: [...running], waiting: [...waiting], made});
     if (!running.size) begin();
   }
   return {
@@ -75,39 +76,6 @@ export function makeBuilds(most, make, report) {
     /** @param {string[]} names */
     isComing: names => names.every(name => running.has(name) || waiting.includes(name)),
   };
-}
-
-/**
- * The seconds that builds still take: each of those that run, and those that wait one after the other where a place is
- * free first.
- * @param {number[]} running      what is left of each
- * @param {number[]} waiting      what each takes
- * @param {number} most
- */
-export function secondsLeft(running, waiting, most) {
-  const places = [...running, ...Array(Math.max(0, most - running.length)).fill(0)];
-  for (const seconds of waiting) {
-    places.sort((x, y) => x - y);
-    places[0] += seconds;
-  }
-  return Math.max(0, ...places);
-}
-
-/**
- * The words for builds that are under way.
- * @param {string[]} running
- * @param {number} made
- * @param {number} all
- * @param {number} seconds
- * @param {number} left
- */
-export function progressText(running, made, all, seconds, left) {
-  const more = left >= 90 ? `about ${Math.round(left / 60)} minutes left`
-    : left >= 1 ? `about ${Math.max(5, Math.round(left / 5) * 5)} s left`
-                : 'almost done';
-  const names = `table${running.length > 1 ? 's' : ''} ${running.join(', ')}`,
-        at = `${Math.min(made + 1, all)} of ${all}`;
-  return `Building the ${names} · ${at} · ${Math.round(seconds)} s, ${more}. It is done once, and kept.`;
 }
 
 /**

@@ -1,7 +1,7 @@
 // @ts-check
 // How long each class takes to be built alone by the module, in seconds: of two and three men and of the five classes
 // that KRKP needs as they were measured in node beside other work, of the others reckoned from the native program's.
-// The page scales them by what the first builds take.
+// The page scales them by what builds take there.
 /** @type {Record<string, number>} */
 export const SECONDS = {
   KK: 0.1,

@@ -6,6 +6,7 @@ import {viewOf} from './answer_cache.js';
 import {app, services, say, clearMessage, study} from './state.js';
 import {Stopped} from './engine.js';
 import {freshId} from './keep.js';
+import {refuseLong} from './limits.js';
 import {aimText, aimWords, counted, holds, movesTo, reason} from './words.js';
 import {isTurn, turnedAim, turnedFen} from './turning.js';
 /** @typedef {import('./fen.js').Men} Men */
@@ -205,6 +206,7 @@ export function turnDraft(turn) {
 }
 /** @param {string} text */
 export function setTypedFen(text) {
+  if (refuseLong({id: 'fen', value: draftFen()}, text)) return;
   const d = /** @type {Draft} */ (app.setup), read = typedFen(text, d.mover);
   if ('bad' in read) {
     say('fen', read.bad);
@@ -214,6 +216,18 @@ export function setTypedFen(text) {
   const fields = read.fen.split(' ');
   clearMessage();
   changeDraft({men: menOf(read.fen), mover: fields[1] === 'b' ? 'b' : 'w', tail: fields.slice(2).join(' '), man: null});
+}
+/**
+ * A position that comes in is set up: in the set-up that is open, else in a new one.
+ * @param {string} text
+ */
+export function setUpText(text) {
+  const back = !app.setup && Boolean(study());
+  if (!app.setup) openSetup(true);
+  setTypedFen(text);
+  if (!back || app.say) return;
+  say('board', 'The position is set up for a new study; Cancel goes back to the one before.', true);
+  services.show();
 }
 
 let judging = 0;

@@ -220,8 +220,8 @@ function welcomeView() {
     keptList,
     h('p', {class: 'note keys'},
       'Keys: ← → ↑ ↓ Home End walk the tree, Delete takes a move away, Ctrl-Z and Ctrl-Y undo and redo, f turns ' +
-        'the board, m goes to the field for a move, Escape leaves it. Nothing leaves this computer; the page works ' +
-        'offline.'),
+        'the board, m goes to the field for a move, Escape leaves it; Ctrl-V takes a FEN, men, a PGN or a script. ' +
+        'Nothing leaves this computer; the page works offline.'),
     keyView()
   ];
 }

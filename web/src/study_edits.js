@@ -52,6 +52,12 @@ function selfContained(lines, study, names) {
   return [...lines.slice(study.head, study.from), ...withTags(own, tags)];
 }
 /**
+ * The lines of a study that make it alone, with its remarks.
+ * @param {string[]} lines
+ * @param {Study} study
+ */
+export const aloneLines = (lines, study) => selfContained(lines, study, TAGS.filter(name => isKnown(study.tags[name])));
+/**
  * The lines of entries behind a study whose positions were refused, which go with it.
  * @param {string[]} lines
  * @param {Study[]} studies

@@ -4,11 +4,11 @@
 // A table is taken only where its SHA-256 is that of the list: any page of file:// can write to the store.
 import {CLASSES} from './core_host.js';
 import {DIGESTS} from './digests.js';
-import {SECONDS} from './seconds.js';
 import {Stopped} from './engine.js';
-import {makeBuilds, progressText, readingOrder, secondsLeft} from './schedule.js';
+import {makeBuilds, readingOrder} from './schedule.js';
 import {reason} from './words.js';
 import {toText} from './script.js';
+import {makeWaiting} from './waiting.js';
 /** @typedef {import('./engine.js').Core} Core */
 /** @typedef {{text: string, done: number, of: number}} Progress */
 
@@ -18,8 +18,6 @@ import {toText} from './script.js';
  */
 export const isListed = (name, digest) => DIGESTS[name] !== undefined && DIGESTS[name][1] === digest;
 const SMALL = 1000000, MANY = 64;
-/** @param {string} name */
-const secondsOf = name => SECONDS[name] || 5;
 const STOPPED = 'Stopped. The tables that were built are kept';
 /** @param {string} name */
 const sizeOf = name => (DIGESTS[name] ? DIGESTS[name][0] : 5000000);
@@ -165,47 +163,9 @@ export function makeTables({core, spawn, readers, store, report}) {
     await builds.want(missing);
     await load(names);
   }
-  const needs = /** @type {Map<string, string[]>} */ (new Map()),
-        began = /** @type {Map<string, number>} */ (new Map());
-  const most = Math.max(1, Math.min(3, (navigator.hardwareConcurrency || 2) - 1)),
-        builds = makeBuilds(most, build, reportBuilds);
-  let first = 0, least = Infinity, ticking = 0, shown = /** @type {[string[], string[], number]} */ ([[], [], 0]),
-      pace = 1, spent = [0, 0];
-  /** @param {string} name */
-  const weight = name => pace * secondsOf(name);
-  /**
-   * How long tables will take, as words.
-   * @param {string[]} names
-   */
-  const estimate = names => {
-    const seconds = secondsLeft([], names.map(weight), most);
-    return seconds > 90 ? `about ${Math.round(seconds / 60)} minutes`
-      : seconds > 45 ? 'about a minute'
-                     : `about ${Math.max(5, Math.ceil(seconds / 5) * 5)} s`;
-  };
-  /**
-   * How the builds go; the time that is left is never said to be longer than before, but where more is wanted.
-   * @param {string[]} running
-   * @param {string[]} waiting
-   * @param {number} made
-   */
-  function reportBuilds(running, waiting, made) {
-    const now = performance.now(), all = made + running.length + waiting.length,
-          before = shown[2] + shown[0].length + shown[1].length;
-    shown = [running, waiting, made];
-    if (!running.length) {
-      clearInterval(ticking);
-      [first, least, ticking] = [0, Infinity, 0];
-      return report(null);
-    }
-    first = first || now;
-    if (all > before) least = Infinity;
-    ticking = ticking || setInterval(() => reportBuilds(...shown), 500);
-    const left =
-      running.map(name => Math.max(weight(name) / 20, weight(name) - (now - (began.get(name) || now)) / 1000));
-    least = Math.min(least, secondsLeft(left, waiting.map(weight), most));
-    report({text: progressText(running, made, all, (now - first) / 1000, least), done: made, of: all});
-  }
+  const needs = /** @type {Map<string, string[]>} */ (new Map());
+  const most = Math.max(1, Math.min(3, (navigator.hardwareConcurrency || 2) - 1)), waiting = makeWaiting(most, report),
+        builds = makeBuilds(most, build, waiting.show);
   /**
    * Builds one table; false where one that it needs is not there yet.
    * @param {string} name
@@ -213,19 +173,18 @@ export function makeTables({core, spawn, readers, store, report}) {
   async function build(name) {
     const builder = spawn(), before = stops;
     builders.push(builder);
-    began.delete(name);
+    waiting.begin(name, false);
     try {
       await load((needs.get(name) || []).filter(other => other !== name), builder);
       if (before !== stops) throw new Stopped(STOPPED);
-      began.set(name, performance.now());
+      waiting.begin(name, true);
       const {bytes, ended} = await builder.ask('make ' + name, '', 0);
       if (before !== stops) throw new Stopped(STOPPED);
       const refusal = ended === 'done' ? '' : new TextDecoder().decode(bytes.slice(0, 200)).trim();
       if (/MissingTable/.test(refusal)) return false;
       if (ended !== 'done')
         throw new Error(`the table ${name} was not built: ${reason('error ' + (refusal || ended))}`);
-      spent = [spent[0] + (performance.now() - (began.get(name) || 0)) / 1000, spent[1] + secondsOf(name)];
-      if (spent[1] > 2) pace = spent[0] / spent[1];
+      waiting.end(name);
       const blob = new Blob([bytes]), file = await readers.read(blob);
       if (!isListed(name, file.digest))
         throw new Error(`the table ${name} is not the one of the list; the browser or the machine is faulty`);
@@ -287,7 +246,7 @@ export function makeTables({core, spawn, readers, store, report}) {
     loadFor,
     lacking,
     ready,
-    estimate,
+    estimate: waiting.estimate,
     keep,
     stop,
     open,

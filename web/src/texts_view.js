@@ -2,6 +2,7 @@
 // The texts: the game as PGN, the script, and refused lines.
 import {button, h, smallButton} from './dom.js';
 import {change, goStudy} from './actions.js';
+import {copyLink} from './copying.js';
 import {app, doc} from './state.js';
 import {tidy} from './edits.js';
 import {copyStudy, dropStudy, moveStudy} from './study_edits.js';
@@ -74,7 +75,8 @@ function scriptView(s) {
 }
 const copy = () => change(now => copyStudy(now.lines, now.studies, now.at), 'script');
 /** What is done with the study as a whole. */
-const studyButtons = () => [smallButton('Copy this study', 'one more of the same behind it', copy, {id: 'copyStudy'}),
+const studyButtons = () => [smallButton('Copy link', 'a link that opens this study', copyLink, {id: 'copyLink'}),
+  smallButton('Copy this study', 'one more of the same behind it', copy, {id: 'copyStudy'}),
   doc().studies.length > 1 && [moveButton('Move up', -1), moveButton('Move down', 1)]];
 /**
  * @param {string} text
@@ -83,8 +85,10 @@ const studyButtons = () => [smallButton('Copy this study', 'one more of the same
 const moveButton = (text, by) => smallButton(text, 'this study among those of the script',
   () => change(now => moveStudy(now.lines, now.studies, now.at, by), 'script'),
   {id: by < 0 ? 'studyUp' : 'studyDown', disabled: !doc().studies[doc().at + by]});
+/** So many refused lines are listed: one wrong word at the top of a long script has all below it refused. */
+const MOST_REFUSED = 200;
 function refusedView() {
-  const list = doc().refused, studies = doc().studies;
+  const list = doc().refused, studies = doc().studies, more = list.length - MOST_REFUSED;
   const of = (/** @type {number} */ line) => studies.findIndex(s => s.from <= line && line < s.end);
   const cells =
     (/** @type {Refused[]} */[r, ...rest]) => [`${r.line + 1}`, of(r.line) < 0 ? '–' : studyLink(of(r.line)),
@@ -92,7 +96,9 @@ function refusedView() {
   return [
     h('h2', {id: 'refused'},
       `${counted(list.length, 'line')} of the script ${list.length === 1 ? 'was' : 'were'} refused`),
-    table(['Line', 'Study', 'Text', 'Reason'], byCause(list, of), cells)
+    table(['Line', 'Study', 'Text', 'Reason'], byCause(list.slice(0, MOST_REFUSED), of), cells),
+    more > 0 &&
+      h('p', {class: 'note'}, `These are the first ${MOST_REFUSED}; ${counted(more, 'more line')} below them.`)
   ];
 }
 /**

@@ -18,14 +18,16 @@ export function typedMove(word) {
     bare.replace(/^([kqrnstl])(?=[a-h]?[1-8]?x?[a-h][1-8])/, capital).replace(/^[STLD](?=[a-h1-8x])/, english);
   return move.replace(/([a-h][18])[=(]?([QRBNDTLS])\)?(?=[+#!?]*$)/, promoted);
 }
+/** No move has so many letters: of a longer word the first ones are enough to be refused. */
+const MOST_LETTERS = 40;
 /**
  * Several moves, with variations in brackets; numbers and `e.p.` are passed over.
  * @param {string} text
  * @returns {string[]}
  */
 export function typedMoves(text) {
-  const plain = text.replace(/\be\.?p\.?/g, ' ').replace(/\d+\s*\.+|\u2026/g, ' ');
+  const plain = text.replace(/\be\.?p\.?/g, ' ').replace(/\b\d+\s*\.+|\u2026/g, ' ');
   const words = plain.match(/[a-h][18]=?\([QRBNDTLS]\)[+#!?]*|[()]|[^\s()]+/g) || [];
-  const moves = words.map(word => (/^[()]$/.test(word) ? word : typedMove(word)));
+  const moves = words.map(word => typedMove(word.slice(0, MOST_LETTERS)));
   return moves.filter(word => /[a-h][1-8]|[()O0]/.test(word) || word.length > 1);
 }

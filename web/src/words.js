@@ -43,6 +43,11 @@ export function valueSign(hero, mover, value) {
  * @param {string} one
  */
 export const counted = (n, one, many = one + 's') => `${n} ${n === 1 ? one : many}`;
+/**
+ * A number as `4,096`.
+ * @param {number} n
+ */
+export const grouped = n => n.toLocaleString('en-US');
 /** @param {Aim} aim */
 export const aimWords = aim => `${aim.hero.toLowerCase()} ${aim.goal}${aim.goal === 'mate' ? ' ' + aim.k : ''}`;
 /** @param {Aim} aim */

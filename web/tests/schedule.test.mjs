@@ -1,8 +1,8 @@
 // The order of builds: over made-up needs, each table is built once, after what it needs, and never too many at a time;
-// who wants a table does not wait for those that others want. The time that is left; the order of reading.
+// who wants a table does not wait for those that others want. The order of reading.
 import test from 'node:test';
 import assert from 'node:assert/strict';
-import {makeBuilds, readingOrder, secondsLeft} from '../src/schedule.js';
+import {makeBuilds, readingOrder} from '../src/schedule.js';
 
 const NEEDS = {
   A: [],
@@ -29,7 +29,7 @@ for (const most of [1, 2, 3, 9]) {
         }
         return able;
       },
-      (now, waiting) => {
+      ({running: now, waiting}) => {
         last = [now, waiting];
       });
     await Promise.all([builds.want(['A', 'B', 'C', 'D']), builds.want(['A', 'C', 'D', 'E', 'F']), builds.want([])]);
@@ -87,13 +87,6 @@ test('what cannot be built is reported', async () => {
   await assert.rejects(makeBuilds(2, async () => {
     throw new Error('a trap');
   }, () => {}).want(['A', 'B']), /a trap/);
-});
-test('the seconds that are left', () => {
-  assert.equal(secondsLeft([], [], 3), 0);
-  assert.equal(secondsLeft([4, 1], [], 2), 4);
-  assert.equal(secondsLeft([4], [5, 2], 2), 6);     // 5 in the free place; 2 after the 4
-  assert.equal(secondsLeft([4, 1], [5, 2], 2), 6);  // 5 after the 1; 2 after the 4
-  assert.equal(secondsLeft([10], [10, 10], 1), 30);
 });
 test('the largest file is read first, then small ones, then the others', () => {
   const sizes = {A: 3, B: 50, C: 90, D: 1, E: 70, F: 50};

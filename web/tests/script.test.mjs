@@ -22,7 +22,6 @@ import {
   verdictsBefore,
   toRun
 } from '../src/script.js';
-import {progressText} from '../src/schedule.js';
 import {isListed} from '../src/tables.js';
 import {DIGESTS} from '../src/digests.js';
 import {SECONDS} from '../src/seconds.js';
@@ -310,6 +309,4 @@ test('the list of tables', () => {
   assert.ok(!isListed('KK', DIGESTS.KQK[1]) && !isListed('KKR', ''));
   assert.equal(Object.keys(SECONDS).length, 36);
   assert.ok(Object.keys(DIGESTS).every(name => SECONDS[name] > 0));
-  assert.equal(progressText(['KRKP'], 10, 11, 12.4, 61),
-    'Building the table KRKP · 11 of 11 · 12 s, about 60 s left. It is done once, and kept.');
 });

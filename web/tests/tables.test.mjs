@@ -65,7 +65,8 @@ test('while tables are built, a position whose tables are there is ready', async
   const {tables, loaded, reports} = made();
   const first = assert.rejects(tables.ready([PAWN]), /Stopped/), pause = () => new Promise(on => setTimeout(on, 5));
   await pause();
-  assert.ok(tables.isBuilding() && /^Building the table/.test(reports[reports.length - 1].text));
+  assert.ok(tables.isBuilding() &&
+    /^Building K.*: about \d+ s left|^Building K.*: almost done/.test(reports[reports.length - 1].text));
   assert.deepEqual(await tables.lacking([RIGHT]), ['KK', 'KQK']);
   for (const name of ['KK', 'KQK']) loaded.add(name);
   await tables.ready([RIGHT]);

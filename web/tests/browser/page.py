@@ -11,7 +11,7 @@ import sys
 import time
 from html.parser import HTMLParser
 
-from user import TOP, By, Keys, run
+from user import FILL, TOP, By, Keys, run
 
 TABLES = os.path.abspath(sys.argv[1])
 FEN = "8/8/8/6k1/8/8/1P5K/8 w - - 0 1"
@@ -306,6 +306,112 @@ def test_a_pgn_where_a_script_is_meant(user):
     assert (
         "Nothing was changed" in user.js("return document.body.textContent") and user.promise("studyboard.pgn()") == pgn
     )
+
+
+PASTE = """const field = document.getElementById(arguments[0]) || document.body, data = new DataTransfer();
+field.focus();
+data.setData('text/plain', arguments[1]);
+const pasted = new ClipboardEvent('paste', {clipboardData: data, bubbles: true, cancelable: true});
+if (!field.dispatchEvent(pasted) || field.value === undefined) return;
+document.execCommand('insertText', false, arguments[1]);
+field.dispatchEvent(new Event('change', {bubbles: true}));"""
+
+
+def alerts(user):
+    return user.js("return [...document.querySelectorAll('[role=alert]')].map(e => e.textContent).join(' ')")
+
+
+def shown_fen(user):
+    return user.js("const e = document.getElementById('fen'); return e && e.value")
+
+
+def test_texts_from_elsewhere(user):
+    """Pasted outside of a field, pasted into the field for a position, or dropped: by the look of the text."""
+    sample(user)
+    fen = "8/3k4/8/3KP3/8/8/8/8 b - - 0 1"
+    before = user.promise("studyboard.script()")
+    game = f'[White "A"]\n[Result "1-0"]\n[FEN "{FEN}"]\n\n1. Kg3 Kf5 1-0\n'
+    script = f"position {FEN}\nstipulate white win\ninsert root Kg3\n"
+    user.js(PASTE, "", "prose, and more of it")
+    user.settle()
+    assert user.text("sayBoard").startswith("This is neither a FEN"), user.text("sayBoard")
+    user.js("const e = document.getElementById('san'); e.value = arguments[0]; e.select()", fen)
+    user.control("c")
+    user.js("document.getElementById('san').value = ''; document.querySelector('#board svg').focus()")
+    user.control("v")
+    user.settle()
+    assert shown_fen(user) == fen
+    assert user.text("sayBoard").startswith("The position is set up for a new study"), user.text("sayBoard")
+    user.js(PASTE, "", "Kb6 Pc6 / Ka1")
+    user.settle()
+    assert shown_fen(user) == "8/8/1KP5/8/8/8/8/k7 b - - 0 1"
+    user.click("undo")
+    user.settle()
+    assert shown_fen(user) == fen
+    user.click("cancel")
+    assert user.promise("studyboard.script()") == before
+    user.js(PASTE, "", script)
+    user.settle()
+    assert user.promise("studyboard.script()") == script
+    assert user.text("sayBoard").startswith("The document before is kept"), user.text("sayBoard")
+    user.click("new")
+    user.js(PASTE, "fen", game)
+    user.until("document.getElementById('stamp')", 20)
+    user.settle()
+    assert user.text("stamp") == "sound" and "tag White A" in user.promise("studyboard.script()")
+    user.js(
+        """const data = new DataTransfer();
+        data.setData('text/plain', arguments[0]);
+        document.body.dispatchEvent(new DragEvent('drop', {dataTransfer: data, bubbles: true, cancelable: true}));""",
+        script,
+    )
+    user.settle()
+    assert user.promise("studyboard.script()") == script
+
+
+def test_a_link_to_the_study(user):
+    sample(user)
+    user.js(
+        """Object.defineProperty(navigator, 'clipboard',
+            {value: {writeText: async text => { window.copied = text; }}});"""
+    )
+    before = user.promise("studyboard.script()")
+    user.click("copyLink")
+    user.until("window.copied", 10)
+    user.settle()
+    link = user.js("return window.copied")
+    assert user.text("sayBoard").startswith(f"Copied: a link of {len(link)} letters"), user.text("sayBoard")
+    user.open("#" + link.split("#")[1])
+    user.until("document.getElementById('stamp')", 60)
+    user.settle()
+    assert user.promise("studyboard.script()") == before
+    assert user.text("sayBoard").startswith("Opened by the link in the address"), user.text("sayBoard")
+
+
+def test_a_paste_of_any_length_ends(user):
+    """Into each field: within seconds, however busy the machine is, with a sentence, and nothing has changed."""
+    sample(user)
+    before = user.promise("studyboard.script()")
+    fields = (
+        ("san", "Kg3 Kf5 " * 250, "A line has at most 256 plies"),
+        ("san", "Kg3 Kf5 " * 25000, "the field for moves takes 65,536"),
+        ("tagEvent", "x" * 200000, "this field takes 200"),
+        ("script", "tag Event x\n" * 200000, "the field for a script takes 200,000"),
+    )
+    for name, text, said in fields:
+        user.js(PASTE, name, text)
+        user.settle()
+        assert said in alerts(user), (name, alerts(user))
+        assert user.promise("studyboard.script()") == before
+    user.js("document.getElementById('new').click()")
+    user.js(PASTE, "fen", "8/" * 100000)
+    assert "the field for a position takes 200" in alerts(user), alerts(user)
+    user.js("document.getElementById('cancel').click()")
+    user.js(FILL, "script", before + "insert 9.9 Ka1\n" * 9000)
+    user.js("document.getElementById('runScript').click()")
+    user.until("document.getElementById('refused')", 20)
+    assert "9000 lines of the script were refused" in user.text("texts")
+    assert "These are the first 200; 8800 more lines below them." in user.text("texts")
 
 
 def test_a_script_in_the_address(user):

@@ -260,7 +260,7 @@ def test_colours_and_paper(user):
 
 def test_a_draft_does_not_wait_for_a_build(user):
     """While a class of four men is built: a draft whose tables are there is judged at once, a study is played on, and
-    the time left never grows."""
+    the page says which class is built and how long the rest takes, KRKP at the end with those that it needs."""
     small(user)
     user.click("sample2")
     user.until("document.getElementById('progressText').textContent.includes('K')", 30)
@@ -282,9 +282,12 @@ def test_a_draft_does_not_wait_for_a_build(user):
     assert user.by("progress").is_displayed() and user.text("stamp") == "sound"
     user.until("document.getElementById('progress').hidden", 900)
     texts = user.js("return texts")
-    found = [re.search(r"about (\d+) (minutes|s) left", text) for text in texts]
-    left = [int(m[1]) * (60 if m[2] == "minutes" else 1) for m in found if m]
-    assert len(left) > 3 and left == sorted(left, reverse=True), left
+    said = r"Building (K\w+(?:, K\w+)*): (?:about (\d+) (minutes|s) left|almost done), \d+ of \d+ tables done"
+    found = [re.match(said, text) for text in texts]
+    assert all(found), texts
+    assert found[-1][1] == "KRKP" and not any("KRKP" in one[1] and "KQKR" in one[1] for one in found), texts
+    left = [int(one[2]) * (60 if one[3] == "minutes" else 1) for one in found if one[2]]
+    assert len(left) > 3 and left[0] >= 17, left  # KRKP alone takes no less, and it begins when KQKR is there
     print(f"the time left: {left[0]} s at first, {len(texts) / 2:.0f} s in all", flush=True)
     user.click("undo")
     user.settle()

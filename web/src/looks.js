@@ -1,0 +1,17 @@
+// @ts-check
+// What a text is by its look, whichever way it comes in: opened, dropped, pasted, or in the address.
+import {typedFen} from './fen.js';
+import {looksLikePgn} from './imported.js';
+import {isCommand, linesOf} from './script.js';
+
+/**
+ * A PGN, a script, or a position: one line with a FEN or a list of men. Empty where it is none of these.
+ * @param {string} text
+ * @returns {'pgn' | 'script' | 'position' | ''}
+ */
+export function lookOf(text) {
+  const line = text.trim();
+  if (looksLikePgn(text)) return 'pgn';
+  if (linesOf(text).some(isCommand)) return 'script';
+  return !line.includes('\n') && 'fen' in typedFen(line, 'w') ? 'position' : '';
+}

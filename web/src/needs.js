@@ -1,0 +1,42 @@
+// @ts-check
+// The classes that one capture, one promotion or both lead to from each class: their tables come before its own. As
+// `needs_of` of study_material has them.
+/** @type {Record<string, string>} */
+export const NEEDS = {
+  KK: '',
+  KQK: 'KK',
+  KRK: 'KK',
+  KBK: 'KK',
+  KNK: 'KK',
+  KPK: 'KK KQK KRK KBK KNK',
+  KQQK: 'KQK',
+  KQRK: 'KQK KRK',
+  KQBK: 'KQK KBK',
+  KQNK: 'KQK KNK',
+  KQPK: 'KQK KPK KQQK KQRK KQBK KQNK',
+  KRRK: 'KRK',
+  KRBK: 'KRK KBK',
+  KRNK: 'KRK KNK',
+  KRPK: 'KRK KPK KQRK KRRK KRBK KRNK',
+  KBBK: 'KBK',
+  KBNK: 'KBK KNK',
+  KBPK: 'KBK KPK KQBK KRBK KBBK KBNK',
+  KNNK: 'KNK',
+  KNPK: 'KNK KPK KQNK KRNK KBNK KNNK',
+  KPPK: 'KPK KQPK KRPK KBPK KNPK',
+  KQKQ: 'KQK',
+  KQKR: 'KQK KRK',
+  KQKB: 'KQK KBK',
+  KQKN: 'KQK KNK',
+  KQKP: 'KQK KRK KBK KNK KPK KQKQ KQKR KQKB KQKN',
+  KRKR: 'KRK',
+  KRKB: 'KRK KBK',
+  KRKN: 'KRK KNK',
+  KRKP: 'KQK KRK KBK KNK KPK KQKR KRKR KRKB KRKN',
+  KBKB: 'KBK',
+  KBKN: 'KBK KNK',
+  KBKP: 'KQK KRK KBK KNK KPK KQKB KRKB KBKB KBKN',
+  KNKN: 'KNK',
+  KNKP: 'KQK KRK KBK KNK KPK KQKN KRKN KBKN KNKN',
+  KPKP: 'KPK KQKP KRKP KBKP KNKP'
+};
