@@ -27,7 +27,7 @@ const LIMITS = {
  */
 export const limitOf = id => LIMITS[id] || (id.startsWith('tag') ? LIMITS.tag : LIMITS.other);
 /**
- * Why a text does not go into a field, and what is possible; nothing where it does.
+ * Why a text does not go into a field, and what is possible; nothing if it does.
  * @param {string} id
  * @param {string} text
  */

@@ -14,7 +14,7 @@ export function linkTo(page, text) {
   return `${page.split('#')[0]}#script=${encodeURIComponent(text).replace(/%20/g, '+').replace(/[!'()*]/g, code)}`;
 }
 /**
- * The script that a link has behind the address of the page; null where it has none.
+ * The script that a link has behind the address of the page; null if it has none.
  * @param {string} hash
  */
 export function scriptIn(hash) {

@@ -5,7 +5,7 @@ import {looksLikePgn} from './imported.js';
 import {isCommand, linesOf} from './script.js';
 
 /**
- * A PGN, a script, or a position: one line with a FEN or a list of men. Empty where it is none of these.
+ * A PGN, a script, or a position: one line with a FEN or a list of men. Empty if it is none of these.
  * @param {string} text
  * @returns {'pgn' | 'script' | 'position' | ''}
  */

@@ -104,7 +104,7 @@ export function insertions(root, path, lists) {
   };
 }
 /**
- * Why a tree has no room for moves below a node, before any line is made of them; nothing where it has.
+ * Why a tree has no room for moves below a node, before any line is made of them; nothing if it has.
  * @param {TreeNode} root
  * @param {string} path
  * @param {string[]} sans
