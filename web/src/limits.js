@@ -19,6 +19,7 @@ const LIMITS = {
   cutText: {...TEXT, where: 'cut', name: 'the field for a game'},
   page: {...TEXT, where: 'board', name: 'the page'},
   tag: {most: 200, where: 'head', name: 'this field', instead: 'a script has room for 60'},
+  note: {most: 2000, where: 'note', name: 'the field for your words', instead: 'divide it among several moves'},
   other: {most: 200, where: 'board', name: 'this field', instead: 'write less'}
 };
 /**

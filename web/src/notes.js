@@ -149,6 +149,14 @@ function partsOf(text) {
  */
 const withoutBraces = text => text.replace(/\{/g, '(').replace(/\}/g, ')');
 /**
+ * The remarks that keep a comment, or a glyph, at moves.
+ * @param {string} moves
+ * @param {string} text
+ */
+export const noteLines = (moves, text) => partsOf(
+  withoutBraces(
+    oneLine(text))).filter(Boolean).map((part, i) => short(`#! note${i ? '+' : ''} ${moves}: ${part}`));
+/**
  * What a game says beside its moves, as remarks: `#! tag NAME TEXT`, `#! note MOVES: TEXT`, and `#! note+ MOVES: TEXT`
  * for what is more of a long comment; `#! result TEXT`, where the result behind the moves is not that of the tag. In a
  * game that this page saved with its marks `#! mark MOVES: $1` is a glyph of the program or of the author.
@@ -164,8 +172,7 @@ export function remarksOf(game) {
     if (kind === 'result') {
       if (text !== tags.Result) out.push(`#! result ${text}`);
     } else if (!first) {
-      for (const [i, part] of partsOf(withoutBraces(own && kind === 'comment' ? withoutOurs(text) : text)).entries())
-        if (part) out.push(`#! note${i ? '+' : ''} ${key}: ${part}`);
+      out.push(...noteLines(key, own && kind === 'comment' ? withoutOurs(text) : text));
     } else if (!said.some(other => other.key === key && other.kind === 'nag' && other.place === 'comment'))
       out.push(`#! mark ${key}: ${text}`);
   }

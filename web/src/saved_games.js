@@ -71,9 +71,9 @@ function bySquares(keys) {
 /**
  * The notes of remarks at the moves of a game; those at moves that are not in it are left out.
  * @param {string[]} remarks
- * @param {Item[]} items
+ * @param {{key: string}[]} items
  */
-function notesAt(remarks, items) {
+export function notesAt(remarks, items) {
   const notes = /** @type {Map<string, Note>} */ (new Map()), keys = new Set(items.map(item => item.key)),
         nearly = new Map([...keys].reverse().map(key => [loose(key), key])), squares = bySquares(keys);
   for (const {word: kind, rest} of remarks.map(ownRemark)) {

@@ -9,6 +9,7 @@ import {announce} from './board_input.js';
 import {listView, showDocuments} from './documents_view.js';
 import {reviewView} from './review_view.js';
 import {headView, numberText} from './head_view.js';
+import {commentView} from './comments_view.js';
 import {hereView, navView} from './node_view.js';
 import {PAWN, SAAVEDRA} from './samples.js';
 import {toText} from './script.js';
@@ -113,6 +114,8 @@ export function show() {
   put('setup', app.setup && setupView());
   put('nav', !app.setup && n && navView(n));
   put('here', !app.setup && s && n && hereView(s, n));
+  part('words', [s, n && n.path, Boolean(app.setup), app.view !== null, ...saying()],
+    () => !app.setup && s && n && commentView(s, n));
   for (const id of ['head', 'verdict', 'unread', 'mend']) $(id).hidden = Boolean(app.setup);
   for (const id of ['tree', 'review', 'texts']) $(id).hidden = Boolean(anew && s);
   part('head',

@@ -4,6 +4,8 @@ import {$, h, patch} from './dom.js';
 import {moveNumber, sideOf} from './fen.js';
 import {go} from './actions.js';
 import {app, doc} from './state.js';
+import {shownSigns} from './comments.js';
+import {commentText, wordsAt} from './comments_view.js';
 import {allNodes} from './parse_answers.js';
 import {editsTo} from './script.js';
 import {bareTree} from './unmarked.js';
@@ -18,19 +20,20 @@ import {counted, letsGo, markMeaning, markSign, moveName, valueSign, valueText, 
 function moveView(s, n, first) {
   const before = n.parent ? n.parent.fen : n.fen,
         num = first || sideOf(before) === 'White' ? moveNumber(before).replace(' ', '\u00a0') : '';
-  const sign = markSign(n);
+  const sign = markSign(n), own = shownSigns(wordsAt(s, n), sign).join(' ');
   const title =
     [valueText(sideOf(n.fen), n.value), markMeaning(n, s.aim ? s.aim.hero : undefined)].filter(Boolean).join('; ');
   return h('span', {class: 'mv'},
     h('button', {class: `m ${n.mark}`, 'data-path': n.path, title, 'aria-label': `${moveName(n)}: ${title}`},
       num + n.san, sign && h('b', {}, sign)),
+    own && h('span', {class: 'sign', title: 'the author\'s sign'}, own),
     s.aim && h('sub', {}, valueSign(s.aim.hero, sideOf(n.fen), n.value)),
     n.mark === 'dual' && h('span', {class: 'tag'}, `dual ${n.duals}`),
     n.zugzwang && h('span', {class: 'tag zugzwang', title: `mutual zugzwang: ${zugzwangText(n.zugzwang)}`}, '⊙'));
 }
 /**
- * A move, by all that its view is made from: the hero, and of the position before it the side to move and the number;
- * and a space.
+ * A move, by all that its view is made from: the hero, of the position before it the side to move and the number, and
+ * the author's words; and a space.
  * @param {Study} s
  * @param {TreeNode} n
  * @param {boolean} first
@@ -39,10 +42,16 @@ function moveView(s, n, first) {
 function moveItems(s, n, first) {
   const before = n.parent ? n.parent.fen : n.fen, number = before.slice(before.lastIndexOf(' ')),
         side = before[before.indexOf(' ') + 1];
+  const {comments, glyphs} = wordsAt(s, n), said = commentText(comments);
   const key = [
-    n.path, n.san, n.mark, n.duals, n.value.kind, n.value.n, side + number, first, n.zugzwang, s.aim ? s.aim.hero : ''
+    n.path, n.san, n.mark, n.duals, n.value.kind, n.value.n, side + number, first, n.zugzwang, s.aim ? s.aim.hero : '',
+    ...glyphs
   ].join(' ');
-  return [{key, make: () => moveView(s, n, first)}, {key: n.path, make: () => document.createTextNode(' ')}];
+  const space = (/** @type {string} */ name) => ({key: n.path + name, make: () => document.createTextNode(' ')});
+  return [
+    {key, make: () => moveView(s, n, first)}, space(''),
+    ...(said ? [{key: `said ${n.path} ${comments.join(' ')}`, make: () => said}, space(' said')] : [])
+  ];
 }
 /**
  * @param {Study} s
@@ -54,9 +63,10 @@ function lineItems(s, from, numberedFirst) {
   const out = [];
   let first = numberedFirst;
   for (let n = from; n.children.length; n = n.children[0]) {
-    out.push(...moveItems(s, n.children[0], first));
-    first = n.children.length > 1;
-    if (first)
+    const items = moveItems(s, n.children[0], first), branches = n.children.length > 1;
+    out.push(...items);
+    first = branches || items.length > 2;
+    if (branches)
       out.push({key: 'ul ' + n.path, make: () => h('ul', {}), kids: n.children.slice(1).map(c => variationItem(s, c))});
   }
   return out;
@@ -65,8 +75,34 @@ function lineItems(s, from, numberedFirst) {
  * @param {Study} s
  * @param {TreeNode} n
  */
-const variationItem = (s, n) =>
-  ({key: 'li ' + n.path, make: () => h('li', {}), kids: [...moveItems(s, n, true), ...lineItems(s, n, false)]});
+function variationItem(s, n) {
+  const items = moveItems(s, n, true);
+  return {key: 'li ' + n.path, make: () => h('li', {}), kids: [...items, ...lineItems(s, n, items.length > 2)]};
+}
+/**
+ * The author's words above the study, and its moves.
+ * @param {Study} s
+ * @param {TreeNode} root
+ * @returns {import('./dom.js').Wanted[]}
+ */
+function treeItems(s, root) {
+  const {comments} = wordsAt(s, root), said = commentText(comments);
+  const tree = () => h('div', {class: 'tree', role: 'group', 'aria-labelledby': 'solution'});
+  return [
+    ...(said ? [{key: `said ${comments.join(' ')}`, make: () => h('p', {class: 'above'}, said)}] : []),
+    {key: 'tree', make: tree, kids: lineItems(s, root, true)}
+  ];
+}
+/**
+ * The same for paper.
+ * @param {Study} s
+ * @param {TreeNode} root
+ */
+export function treeView(s, root) {
+  const box = h('div', {});
+  patch(box, treeItems(s, root));
+  return box;
+}
 /** @typedef {import('./unmarked.js').Bare} Bare */
 /**
  * Moves as the script has them, with no mark and no board: they lead nowhere yet.
@@ -99,12 +135,18 @@ function bareMove(n, ply, first) {
 /**
  * @param {Study} s
  */
-function bareView(s) {
-  const lines = editsTo(doc().lines, s), root = bareTree(lines), fields = s.fen.split(' ');
-  const title = h('h2', {id: 'solution'}, 'Solution ', h('small', {}, 'not marked yet'));
-  const tree =
+export function bareView(s) {
+  const root = bareTree(editsTo(doc().lines, s)), fields = s.fen.split(' ');
+  return root.children.length > 0 &&
     h('div', {class: 'tree bare'}, bareLine(root, 2 * (Number(fields[5]) || 1) + (fields[1] === 'b' ? 1 : 0), true));
-  return root.children.length ? [{key: 'bare ' + lines.join(' '), make: () => h('div', {}, title, tree)}] : [];
+}
+/**
+ * @param {Study} s
+ * @returns {import('./dom.js').Wanted[]}
+ */
+function bareItems(s) {
+  const tree = bareView(s), title = () => h('h2', {id: 'solution'}, 'Solution ', h('small', {}, 'not marked yet'));
+  return tree ? [{key: 'bare ' + editsTo(doc().lines, s).join(' '), make: () => h('div', {}, title(), tree)}] : [];
 }
 /**
  * Of a tree that stands there already only what has changed is drawn.
@@ -112,14 +154,12 @@ function bareView(s) {
  */
 export function showTree(s) {
   const view = app.view, nodes = s && view ? allNodes(view.root).length - 1 : 0;
-  if (!s || !view) return patch($('tree'), s ? bareView(s) : []);
+  if (!s || !view) return patch($('tree'), s ? bareItems(s) : []);
   const title = () => h('h2', {id: 'solution'}, 'Solution ', nodes > 0 && h('small', {}, counted(nodes, 'move')));
   const none = () => h('p', {class: 'note'}, 'Play a move on the board, choose one below it, or type it.');
-  const tree = () => h('div', {class: 'tree', role: 'group', 'aria-labelledby': 'solution'});
   patch($('tree'), [
     {key: `solution ${nodes}`, make: title},
-    ...(nodes ? [{key: 'tree', make: tree, kids: lineItems(s, view.root, true)}, {key: 'key', make: keyView}]
-              : [{key: 'none', make: none}])
+    ...(nodes ? [...treeItems(s, view.root), {key: 'key', make: keyView}] : [{key: 'none', make: none}])
   ]);
 }
 /** A press on a move of the tree leads to it. */
