@@ -1,19 +1,15 @@
 // @ts-check
 // The board: its drawing.
 import {$, svg} from './dom.js';
-import {isWhite, menOf, sideOf, spokenPosition, squareName} from './fen.js';
+import {cornerOf, edges, manAt, squares} from './drawing.js';
+import {menOf, sideOf, spokenPosition, squareName} from './fen.js';
 import {app, node, study} from './state.js';
 import {draftFen} from './setup.js';
 import {holds} from './words.js';
 /** @typedef {import('./types.js').Move} Move @typedef {{to: number, sign: string, row?: number | null}} Target */
 
-/** The corner of the squares in the drawing, which is so wide; a square is 45 wide. */
-export const X = 14, Y = 1, WIDTH = 377;
 /** @param {number} s */
-export function corner(s) {
-  const f = s % 8, r = Math.floor(s / 8);
-  return app.flip ? [X + 45 * (7 - f), Y + 45 * r] : [X + 45 * f, Y + 45 * (7 - r)];
-}
+export const corner = s => cornerOf(s, app.flip);
 /**
  * @param {number} s
  * @param {string} cls
@@ -26,27 +22,7 @@ function cell(s, cls) {
  * @param {string} letter
  * @param {number} s
  */
-export function man(letter, s) {
-  const [x, y] = corner(s);
-  return svg('use',
-    {class: isWhite(letter) ? 'w' : 'b', href: '#m' + letter.toUpperCase(), x, y, width: 45, height: 45, 'data-at': s});
-}
-/** @param {string} letter */
-export const manIcon = letter => svg('svg', {viewBox: '0 0 45 45', 'aria-hidden': 'true'},
-  svg('use', {class: isWhite(letter) ? 'w' : 'b', href: '#m' + letter.toUpperCase(), width: 45, height: 45}));
-function squares() {
-  const dark = [...Array(64).keys()].filter(s => (s + Math.floor(s / 8)) % 2 === 0);
-  return [
-    svg('rect', {class: 'lt', x: X, y: Y, width: 360, height: 360}),
-    svg('path', {class: 'dk', d: dark.map(s => `M${corner(s)}h45v45h-45z`).join('')})
-  ];
-}
-function edges() {
-  const names =
-    [...Array(8).keys()].flatMap(i => [svg('text', {x: X + 45 * i + 22, y: 373}, 'abcdefgh'[app.flip ? 7 - i : i]),
-                                   svg('text', {x: 6, y: Y + 45 * (7 - i) + 27}, `${app.flip ? 8 - i : i + 1}`)]);
-  return [svg('rect', {class: 'fr', x: X, y: Y, width: 360, height: 360}), ...names];
-}
+export const man = (letter, s) => manAt(letter, s, app.flip);
 /** @typedef {{last: number[], chosen: number | null, cursor: number | null, targets: Target[]}} Marks */
 /**
  * The squares that are marked, below the men.
@@ -78,8 +54,8 @@ function menView(fen, marks) {
 let shown = null;
 function newBoard() {
   const marked = svg('g', {}), standing = svg('g', {});
-  const board = svg(
-    'svg', {class: 'board', role: 'img', viewBox: '0 -2 377 380', tabindex: 0}, squares(), marked, edges(), standing);
+  const board = svg('svg', {class: 'board', role: 'img', viewBox: '0 -2 377 380', tabindex: 0}, squares(app.flip),
+    marked, edges(app.flip), standing);
   return {flip: app.flip, board, marked, standing};
 }
 /**

@@ -1,7 +1,8 @@
 // @ts-check
 // The way from fingers and keys to squares and moves.
 import {$, button, h, onDocument} from './dom.js';
-import {corner, man, manIcon, movesFrom, showBoard, shownFen, WIDTH, X, Y} from './board.js';
+import {corner, man, movesFrom, showBoard, shownFen} from './board.js';
+import {manIcon, WIDTH, X, Y} from './drawing.js';
 import {isWhite, manName, menOf, sideOf, squareName, NAMES} from './fen.js';
 import {prefetchMoves} from './prefetch.js';
 import {change} from './actions.js';

@@ -73,6 +73,15 @@ export function listView() {
       entry => [number(entry), entry.title, entry.author, ...(entry.aim ? [aimCell(entry)] : []), stampView(entry)])
   ];
 }
+/** All entries, for paper. */
+export function paperList() {
+  const entries = knownEntries(doc());
+  return entries.length > 1 && [
+    h('h2', {}, wordOf('list')),
+    table(wordsNamed('list-heads'), entries,
+      entry => [entry.number, entry.title, entry.author, ...(entry.aim ? [aimCell(entry)] : []), stampView(entry)])
+  ];
+}
 /**
  * Opens a game that was left out up to its bad move, or says why it was left out.
  * @param {number} line

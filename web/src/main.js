@@ -2,7 +2,7 @@
 // The beginning: workers, what was kept, the bar, files and keys.
 import {$, download, onDocument} from './dom.js';
 import {makeApi} from './api.js';
-import {arrive, go, track, goStudy, judgeAgain, work} from './actions.js';
+import {arrive, track, goStudy, judgeAgain, work} from './actions.js';
 import {learnWords} from './answer_cache.js';
 import {PAGES, app, doc, services, say, study} from './state.js';
 import {showBoard} from './board.js';
@@ -17,8 +17,9 @@ import {back, forth, listenToKeys} from './keys.js';
 import {savedGames} from './saved_games.js';
 import {unreadIn} from './entries.js';
 import {fensOf, reportedLines, toText, savedScript} from './script.js';
-import {begin, closeSetup, judgeDraft, openSetup} from './setup.js';
+import {begin, judgeDraft, openSetup} from './setup.js';
 import {bytesOf} from './packed.js';
+import {clearPaper, layOut} from './paper.js';
 import {makeReaders} from './file_readers.js';
 import {makeTables} from './tables.js';
 import {showLeftOut} from './list_view.js';
@@ -138,17 +139,9 @@ on('savePlain', () => {
   download(fileName('').replace(/\.checked$/, '') + '.unmarked.pgn', savedGames(doc(), false));
   sayUnread('and its game says so');
 });
-addEventListener('beforeprint', () => {
-  for (const more of /** @type {NodeListOf<HTMLElement>} */ (document.querySelectorAll('button.more'))) more.click();
-});
-/** The diagram on paper is that of the start. */
-on('print', async () => {
-  const {path} = doc();
-  if (app.setup) closeSetup();
-  await go('root');
-  window.print();
-  if (path !== 'root') go(path);
-});
+addEventListener('beforeprint', layOut);
+addEventListener('afterprint', clearPaper);
+on('print', () => window.print());
 /** The printed pages of all studies. */
 const saveReport = () => work(async () => {
   const {lines} = doc();

@@ -66,15 +66,24 @@ function byNode(facts, root) {
   return /** @type {[TreeNode, F[]][]} */ (
     [...map].map(([path, list]) => [nodeAt(root, path), list]).filter(([n]) => n !== null));
 }
-/** @param {Study} s */
-export function reviewView(s) {
+/**
+ * The duals of a study, each with what else holds.
+ * @param {import('./types.js').Also[]} also
+ * @param {TreeNode} root
+ */
+export const dualsOf = (also, root) => byNode(also, root);
+/**
+ * @param {Study} s
+ * @param {boolean} [paper]      where the duals stand by themselves, and none is given twice
+ */
+export function reviewView(s, paper = false) {
   const view = app.view, review = app.review;
   if (!view || !s.aim) return null;
   if (!review)
     return app.noReview ? h('p', {class: 'note'}, `The facts were not found: ${app.noReview}.`)
                         : h('p', {class: 'note'}, 'The facts are being found …');
   return [
-    dualsView(s, review, view.root), triesView(s, review, view.root), zugzwangView(view.root),
+    !paper && dualsView(s, review, view.root), triesView(s, review, view.root), zugzwangView(view.root),
     defencesView(s, review, view.root), endsView(review, view.root)
   ];
 }

@@ -3,7 +3,7 @@
 import {$, button, h, put, smallButton} from './dom.js';
 import {manName, menOf} from './fen.js';
 import {app, node, services, study} from './state.js';
-import {manIcon} from './board.js';
+import {manIcon} from './drawing.js';
 import {takeUp} from './board_input.js';
 import {aimView, messageAt} from './head_view.js';
 import {typedOr} from './node_view.js';
