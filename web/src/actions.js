@@ -1,16 +1,17 @@
 // @ts-check
 // What is done to the document, one action after the other.
-import {countsOf, learn, linesToRun, repliesTo, reviewOf, viewOf} from './answer_cache.js';
+import {countsOf, learn, reviewOf, viewOf} from './answer_cache.js';
 import {newlyRefused} from './entries.js';
-import {advance, redo as redone, replace, undo as undone} from './history.js';
-import {editsTo, fensOf, toText, overLimit, readScript, repliesOf, wordsOf} from './script.js';
+import {advance, begin, redo as redone, replace, undo as undone} from './history.js';
+import {evaluate, readable} from './running.js';
+import {editsTo, fensOf, toText, wordsOf} from './script.js';
 import {nodeAt} from './parse_answers.js';
-import {cancelPrefetch, dropPrefetched, prefetchNeighbours, prefetchView} from './prefetch.js';
+import {cancelPrefetch, prefetchNeighbours, prefetchView} from './prefetch.js';
 import {Stopped} from './engine.js';
 import {freshId} from './keep.js';
 import {app, blank, doc, services, say} from './state.js';
 import {unjudged} from './unmarked.js';
-import {counted, endedReason, moveName, reason} from './words.js';
+import {counted, moveName, reason} from './words.js';
 /** @typedef {import('./types.js').Doc} Doc @typedef {import('./types.js').Change} Change */
 /** @typedef {import('./types.js').Script} Script */
 /** @typedef {import('./state.js').Say} Say */
@@ -22,7 +23,7 @@ import {counted, endedReason, moveName, reason} from './words.js';
 export function sayOpened(before) {
   const refused = doc().refused.length,
         place =
-          before.studies.length ? 'The document before is kept: Undo brings it back, and Documents lists it.' : '';
+          before.studies.length && before.id !== doc().id ? 'The document before is kept: Documents lists it.' : '';
   if (app.say || !(refused || place)) return;
   const were = refused === 1 ? 'was' : 'were';
   const lines = `${counted(refused, 'line')} of this script ${were} refused; they are listed below the study. `;
@@ -51,30 +52,6 @@ function showFault(fault, where) {
     fault instanceof Stopped ? `${fault.message}.`
                              : `The program did not finish: ${fault.message}. Nothing was changed.`);
   services.show();
-}
-
-/**
- * Runs lines over the tables that the core holds.
- * @param {string[]} lines
- * @returns {Promise<Script>}
- */
-export async function evaluate(lines) {
-  readable(lines);
-  const {sent, texts} = await linesToRun(lines),
-               [{text, ended}] = await Promise.all([repliesTo(toText(texts)), learn(lines)]);
-  if (ended === 'TooManyLines') throw notRun(ended);
-  if (ended !== 'done') throw new Error(endedReason(ended));
-  return readScript(lines, sent, repliesOf(texts, text).slice(texts.length - sent.length));
-}
-/** @param {string} ended */
-const notRun = ended => new Stopped(`Refused: ${endedReason(ended)}. Nothing was changed`);
-/**
- * A script that studybench would not read to its end is not taken.
- * @param {string[]} lines
- */
-function readable(lines) {
-  const limit = overLimit(lines);
-  if (limit) throw notRun(limit);
 }
 
 const changing = /** @type {Set<Promise<any>>} */ (new Set());
@@ -143,8 +120,13 @@ async function showUnmarked(make) {
   if (!wanted) return;
   readable(wanted.lines);
   await learn(wanted.lines);
-  await arrive(advance(app.history, docAfter(now, wanted, unjudged(wanted.lines), false)));
+  await arrive(after(docAfter(now, wanted, unjudged(wanted.lines), false)));
 }
+/**
+ * The next state of a document; another document begins with an undo of its own.
+ * @param {Doc} next
+ */
+const after = next => (next.id === doc().id ? advance(app.history, next) : begin(next));
 /**
  * @param {Doc} now
  * @param {Change} wanted
@@ -177,7 +159,7 @@ async function applyChange(make, where) {
       subject ? `${subject}: ${reason(newly.reply)}.` : `Refused: ${brokenMove(newly.reply) || reason(newly.reply)}.`);
     return services.show();
   }
-  await arrive(advance(app.history, docAfter(now, wanted, script, true)));
+  await arrive(after(docAfter(now, wanted, script, true)));
 }
 /**
  * The move that a shift would break, by its name.
@@ -288,7 +270,7 @@ export async function arrive(wanted, note = null) {
     review: null,
     noReview: ''
   });
-  dropPrefetched();
+  cancelPrefetch();
   if (app.view && s && s.aim) reviewOf(text, s.fen, stamp);
   services.keep();
   services.show();

@@ -1,8 +1,8 @@
 // @ts-check
-// What the program has answered, kept by the text of its script: replies, views and reviews.
+// What the program has answered, kept by the text of its script: views and reviews.
 import {countsIn, readReview, readView, refusalIn} from './parse_answers.js';
 import {keepRemarks, unknownIn} from './remarks.js';
-import {fensOf, toRun, toText} from './script.js';
+import {fensOf, toText} from './script.js';
 import {PAGES, app, services} from './state.js';
 import {readWording} from './wording.js';
 import {reason} from './words.js';
@@ -39,40 +39,6 @@ export async function learn(lines) {
   const {text, ended} = await services.core.answer('remarks', toText(unknown), PAGES);
   if (ended === 'done') keepRemarks(unknown, text);
 }
-
-// ---- replies
-const runs = /** @type {Map<string, Promise<Answer>>} */ (new Map());  // from the node that is shown
-let lastRun = 0;
-/** How long the last run took, in milliseconds. */
-export const lastRunTime = () => lastRun;
-/**
- * The lines that are run for a script, those that load its tables first.
- * @param {string[]} lines
- */
-export async function linesToRun(lines) {
-  const sent = toRun(lines), names = (await services.tables.classesOf(fensOf(lines))).filter(services.core.has);
-  return {sent, texts: [...names.map(name => 'load ' + name), ...sent.map(s => s.text)]};
-}
-/** @param {string} text */
-export function repliesTo(text) {
-  const kept = runs.get(text), began = performance.now(), answer = kept || services.core.answer('run', text, PAGES);
-  if (!kept)
-    answer.then(() => {
-      lastRun = performance.now() - began;
-    }, () => {});
-  return answer;
-}
-/**
- * Requests the replies to a script, and keeps them.
- * @param {string} text
- */
-export async function keepReplies(text) {
-  const answer = repliesTo(text);
-  runs.set(text, answer);
-  await answer.catch(() => runs.delete(text));
-}
-/** Replies that were requested ahead at one node are of no use at another. */
-export function clearRuns() { runs.clear(); }
 
 // ---- views
 const views = /** @type {Map<string, View>} */ (new Map());

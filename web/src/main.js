@@ -15,7 +15,7 @@ import {close as closeFinding, openFinding, startFinding} from './finding_view.j
 import {makeCore} from './engine.js';
 import {back, forth, listenToKeys} from './keys.js';
 import {savedGames} from './saved_games.js';
-import {unreadIn} from './entries.js';
+import {unreadIn} from './stamps.js';
 import {fensOf, reportedLines, toText, savedScript} from './script.js';
 import {begin, judgeDraft, openSetup} from './setup.js';
 import {bytesOf} from './packed.js';
@@ -26,7 +26,7 @@ import {showLeftOut} from './list_view.js';
 import {show, showFacts, showJudged, showProgress, watch} from './show.js';
 import {makeStore} from './store.js';
 import {openFile} from './opening.js';
-import {counted, reason} from './words.js';
+import {counted, grouped, reason} from './words.js';
 import {refusalIn} from './parse_answers.js';
 
 // ---- the module; it stands after this script, so that tables are read while it comes
@@ -63,6 +63,12 @@ services.show = show;
 services.showFacts = showFacts;
 services.showJudged = showJudged;
 services.keep = keep;
+services.reading = (done, of, what = 'Reading game') => {
+  const text = `${what} ${grouped(done)} of ${grouped(of)}`, ours = app.progress && app.progress.reading;
+  if (done < of) app.progress = {text, done, of, reading: true};
+  else if (ours) app.progress = null;
+  showProgress();
+};
 
 // ---- files
 /**

@@ -1,18 +1,9 @@
 // @ts-check
 // Answers that will soon be wanted are requested ahead: the view that a change leads to, those of the neighbours of a
 // node, and what the moves lead to that the user may be about to make.
-import {
-  LARGE,
-  clearRuns,
-  keepReplies,
-  keepView,
-  keptView,
-  lastRunTime,
-  linesToRun,
-  pause,
-  viewOf
-} from './answer_cache.js';
+import {LARGE, keepView, keptView, pause, viewOf} from './answer_cache.js';
 import {insertMoves} from './edits.js';
+import {lastRunTime, repliesFor} from './running.js';
 import {assumeAccepted, editsTo, fensOf, toText} from './script.js';
 import {app, doc, node, services, study} from './state.js';
 import {holds} from './words.js';
@@ -21,6 +12,8 @@ import {holds} from './words.js';
 
 /** Of a script that runs longer than these milliseconds nothing is requested ahead: a run cannot be broken off. */
 const LONG = 100;
+/** Of a script with more lines none is read ahead. */
+const MANY_LINES = 4000;
 
 // ---- the view that a change leads to
 let viewing = 0;  // how many views were requested of the second worker
@@ -41,6 +34,7 @@ function studyAfter(now, {lines, at}) {
  * @param {Change} wanted
  */
 export async function prefetchView(now, wanted) {
+  if (wanted.at !== undefined && wanted.lines.length > MANY_LINES) return;
   const names = services.tables.knownClasses(fensOf(wanted.lines)),
         path = wanted.path === undefined ? now.path : wanted.path;
   const free = services.facts.waiting() <= viewing && names.every(services.facts.has);
@@ -74,11 +68,6 @@ export async function prefetchNeighbours(text, stamp) {
 let latest = 0;
 /** What the user does now comes before anything that is requested ahead. */
 export function cancelPrefetch() { latest++; }
-/** At another node nothing is of use that was requested ahead at the one before. */
-export function dropPrefetched() {
-  cancelPrefetch();
-  clearRuns();
-}
 /**
  * What moves below a node lead to is requested for one after the other, until one of them is made.
  * @param {string} path
@@ -100,7 +89,7 @@ export async function prefetch(path, lists) {
  */
 async function prefetchChange(now, s, wanted) {
   if (wanted.lines === now.lines) return viewOf(toText(editsTo(now.lines, s)), wanted.path || 'root');
-  return Promise.all([keepReplies(toText((await linesToRun(wanted.lines)).texts)), prefetchView(now, wanted)]);
+  return Promise.all([repliesFor(wanted.lines), prefetchView(now, wanted)]);
 }
 /**
  * The moves of a man that was taken up: first the one to the square that it is over, then those that hold.

@@ -156,7 +156,7 @@ export function assumeAccepted(lines) {
  * @param {Sent} sent
  * @param {string} reply
  */
-function applyReply(script, carried, {text, line}, reply) {
+export function applyReply(script, carried, {text, line}, reply) {
   const [command, name] = wordsOf(text), study = script.studies[script.studies.length - 1];
   if (reply.startsWith('error ')) {
     if (line >= 0) script.refused.push({line, text, reply});

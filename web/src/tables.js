@@ -10,7 +10,7 @@ import {reason} from './words.js';
 import {toText} from './script.js';
 import {makeWaiting} from './waiting.js';
 /** @typedef {import('./engine.js').Core} Core */
-/** @typedef {{text: string, done: number, of: number}} Progress */
+/** @typedef {{text: string, done: number, of: number, reading?: boolean}} Progress      `reading`: no table is built */
 
 /**
  * @param {string} name

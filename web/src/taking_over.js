@@ -2,7 +2,8 @@
 // A set-up becomes lines: a new study, another position for this one with an empty tree, or with as much of its tree as
 // is legal.
 import {$} from './dom.js';
-import {change, track, evaluate, sayOpened} from './actions.js';
+import {change, track, sayOpened} from './actions.js';
+import {evaluate} from './running.js';
 import {app, doc, services, say} from './state.js';
 import {addStudy, replacePosition, withMoves} from './edits.js';
 import {notesMoved} from './notes.js';

@@ -32,7 +32,10 @@ export const commandKind = word => groups.command.get(word) || '';
  * What the command of a line is for.
  * @param {string} line
  */
-export const lineKind = line => commandKind(line.trimStart().split(' ', 1)[0]);
+export function lineKind(line) {
+  const text = line.charCodeAt(0) > 32 ? line : line.trimStart(), end = text.indexOf(' ');
+  return commandKind(end < 0 ? text : text.slice(0, end));
+}
 /** @param {string} name */
 export const wordOf = name => groups.word.get(name) || '';
 /**

@@ -1,10 +1,12 @@
 // What is requested ahead, over made-up workers: nobody waits for it, it is not requested twice, and what the user does
 // goes first.
+import './stand_in.mjs';
 import test from 'node:test';
 import assert from 'node:assert/strict';
-import {repliesTo, viewOf} from '../src/answer_cache.js';
+import {viewOf} from '../src/answer_cache.js';
 import {readView} from '../src/parse_answers.js';
-import {cancelPrefetch, dropPrefetched, prefetch, prefetchView} from '../src/prefetch.js';
+import {cancelPrefetch, prefetch, prefetchView} from '../src/prefetch.js';
+import {repliesFor} from '../src/running.js';
 import {assumeAccepted} from '../src/script.js';
 import {app, services} from '../src/state.js';
 
@@ -19,7 +21,8 @@ function made(requests, name) {
     waiting: () => pending.length,
     answer: (request, text) => {
       requests.push(`${name} ${request} ${text.split('\n').length - 1}`);
-      const answer = {text: request === 'run' ? 'replies' : VIEW, ended: 'done'};
+      const replies = () => text.replace(/^pgn$/gm, '[FEN]\n\n1-0\n');
+      const answer = {text: request === 'run' ? replies() : VIEW, ended: 'done'};
       return made.slow === name ? new Promise(ok => pending.push(() => ok(answer))) : Promise.resolve(answer);
     }
   };
@@ -37,7 +40,7 @@ function begin() {
     view: readView(VIEW),
     setup: null
   });
-  dropPrefetched();
+  cancelPrefetch();
   return {requests, lines};
 }
 const text = lines => lines.map(line => line + '\n').join('');
@@ -47,20 +50,15 @@ test('what follows from moves is requested one after the other, and then not aga
   await prefetch('root', [['Kg3'], ['b4']]);
   assert.equal(requests.filter(a => a.startsWith('core run')).length, 2);
   assert.equal(requests.filter(a => a.startsWith('facts view')).length, 2);
-  const sent = ['load KPK', ...lines, 'insert root Kg3', 'pgn'];
-  assert.equal((await repliesTo(text(sent))).text, 'replies');
+  assert.equal((await repliesFor([...lines, 'insert root Kg3'])).replies[3], '[FEN]\n\n1-0\n\n');
   assert.equal(typeof await viewOf(text([...lines, 'insert root Kg3']), '0'), 'object');
   assert.equal(requests.length, 4);
 });
-test('what the user does ends it, and at another node it is not used', async () => {
-  const {requests, lines} = begin(), going = prefetch('root', [['Kh3'], ['b3'], ['Kg1']]);
+test('what the user does ends it', async () => {
+  const {requests} = begin(), going = prefetch('root', [['Kh3'], ['b3'], ['Kg1']]);
   cancelPrefetch();
   await going;
   assert.deepEqual(requests, []);
-  await prefetch('root', [['Kh3']]);
-  dropPrefetched();
-  await repliesTo(text(['load KPK', ...lines, 'insert root Kh3', 'pgn']));
-  assert.equal(requests.filter(a => a.startsWith('core run')).length, 2);
 });
 test('a view does not wait behind facts', async () => {
   const {requests, lines} = begin(), now = app.history.now;

@@ -1,0 +1,223 @@
+// @ts-check
+// Runs a script: only the studies whose lines have changed, or what they take over, and of many studies some at a time.
+//
+// Each study is a block of lines, from its position to the next one. Its replies depend on these lines and on what it
+// takes over from the studies before it; they are kept by both. Blocks that are not known are run together, behind
+// lines which give them what they take over.
+import {learn} from './answer_cache.js';
+import {Stopped} from './engine.js';
+import {
+  applyReply,
+  fensOf,
+  isGame,
+  isPosition,
+  isSilent,
+  isTableLine,
+  overLimit,
+  readScript,
+  repliesOf,
+  toRun,
+  toText,
+  wordsOf
+} from './script.js';
+import {PAGES, services} from './state.js';
+import {aimWords, endedReason} from './words.js';
+/** @typedef {import('./script.js').Sent} Sent @typedef {import('./script.js').Carried} Carried */
+/** @typedef {import('./types.js').Answer} Answer @typedef {import('./types.js').Script} Script */
+/** @typedef {{needs: string, replies: string[]}} Known      `needs`: what of the studies before it mattered */
+
+const KINGS = '4k3/8/8/8/8/8/8/4K3 w - - 0 1', AT_A_TIME = 50, MANY = 150, MOST_LETTERS = 3e7;
+/**
+ * The blocks of a script, the first of which may have no position.
+ * @param {Sent[]} sent
+ */
+export function blocksOf(sent) {
+  const blocks = /** @type {Sent[][]} */ ([]);
+  for (const one of sent)
+    if (blocks.length && !isPosition(one.text)) blocks[blocks.length - 1].push(one);
+    else blocks.push([one]);
+  return blocks;
+}
+/**
+ * What the studies after a block take over.
+ * @param {Carried} carried
+ * @param {Sent[]} block
+ * @param {string[]} replies
+ * @returns {Carried}
+ */
+export function carriedAfter(carried, block, replies) {
+  const next = {aim: carried.aim, tags: {...carried.tags}},
+        script = /** @type {Script} */ ({lines: [], studies: [], refused: []});
+  block.forEach((one, i) => {
+    if (/^ *(position|tag|stipulate)( |$)/.test(one.text)) applyReply(script, next, one, replies[i] || 'error NoReply');
+  });
+  return next;
+}
+/**
+ * What of the studies before it a block has replies from: not the tags that it sets before its first game, and not the
+ * stipulation that it sets before any line but tags.
+ * @param {Sent[]} block
+ * @param {string[]} replies
+ */
+export function ownOf(block, replies) {
+  const own = new Set();
+  let read = false, game = false;
+  block.forEach(({text}, i) => {
+    if (isSilent(text) || (replies[i] || 'error').startsWith('error ')) return;
+    const [command, name] = wordsOf(text);
+    if (command === 'tag' && !game) own.add(name);
+    else if (command === 'stipulate' && !read) own.add('aim');
+    else if (command !== 'position' && command !== 'tag') read = true;
+    game = game || isGame(text);
+  });
+  return own;
+}
+/**
+ * @param {Carried} carried
+ * @param {Set<string>} own
+ */
+const needsOf = ({aim, tags}, own) => JSON.stringify(
+  [own.has('aim') || !aim ? '' : aimWords(aim), ...Object.entries(tags).filter(([name]) => !own.has(name)).sort()]);
+/**
+ * Lines after which a study takes over what it would.
+ * @param {Carried} carried
+ */
+export const before = ({aim, tags}) => {
+  const list = [
+    ...(aim ? ['stipulate ' + aimWords(aim)] : []), ...Object.entries(tags).map(([name, text]) => `tag ${name} ${text}`)
+  ];
+  return list.length ? ['position ' + KINGS, ...list] : [];
+};
+
+const known = /** @type {Map<string, (Known & {own: Set<string>})[]>} */ (new Map());
+let letters = 0;
+/**
+ * @param {string} text
+ * @param {{replies: string[]}[]} list
+ */
+const sizeOf = (text, list) =>
+  text.length + list.reduce((sum, {replies}) => sum + replies.reduce((all, reply) => all + reply.length, 0), 0);
+/** @param {Sent[]} block */
+const textOf = block => block.map(({text}) => text).join('\n');
+/**
+ * @param {string} text
+ * @param {Carried} carried
+ */
+function find(text, carried) {
+  const list = known.get(text), found = list && list.find(({needs, own}) => needs === needsOf(carried, own));
+  if (!list || !found) return null;
+  known.delete(text);
+  known.set(text, list);
+  return found.replies;
+}
+/**
+ * Replies that wait for a table are not kept.
+ * @param {Sent[]} block
+ * @param {string[]} replies
+ * @param {Carried} carried
+ */
+function keep(block, replies, carried) {
+  if (replies.some(reply => /^error \w*(Table|OutOfMemory|NoReply)/.test(reply))) return;
+  const text = textOf(block), own = ownOf(block, replies), needs = needsOf(carried, own), old = known.get(text) || [],
+        list = [...old.filter(one => one.needs !== needs).slice(-3), {own, needs, replies}];
+  letters += sizeOf(text, list) - (old.length ? sizeOf(text, old) : 0);
+  known.delete(text);
+  known.set(text, list);
+  for (const [key, gone] of known) {
+    if (letters < MOST_LETTERS || key === text) break;
+    letters -= sizeOf(key, gone);
+    known.delete(key);
+  }
+}
+
+// ---- runs
+const running = /** @type {Map<string, Promise<Answer>>} */ (new Map());
+let lastRun = 0;
+/** How long the last run took, in milliseconds. */
+export const lastRunTime = () => lastRun;
+/**
+ * The replies to lines; two that want the same at once share them.
+ * @param {string[]} texts
+ */
+async function repliesTo(texts) {
+  const text = toText(texts), there = running.get(text), began = performance.now(),
+        answer = there || services.core.answer('run', text, PAGES);
+  running.set(text, answer);
+  try {
+    const {text: replies, ended} = await answer;
+    if (ended === 'TooManyLines') throw notRun(ended);
+    if (ended !== 'done') throw new Error(endedReason(ended));
+    return repliesOf(texts, replies);
+  } finally {
+    running.delete(text);
+    if (!there) lastRun = performance.now() - began;
+  }
+}
+/**
+ * The blocks that are run together: from one on, as far as they are not known.
+ * @param {Sent[][]} blocks
+ * @param {number} from
+ */
+function nextBlocks(blocks, from) {
+  let end = from + 1;
+  while (end < blocks.length && end - from < AT_A_TIME && !known.has(textOf(blocks[end]))) end++;
+  return blocks.slice(from, end);
+}
+/**
+ * The replies to each line of a script, as studybench gives them.
+ * @param {string[]} lines
+ * @param {(done: number, of: number) => void} [report]
+ */
+export async function repliesFor(lines, report = () => {}) {
+  const sent = toRun(lines), names = (await services.tables.classesOf(fensOf(lines))).filter(services.core.has),
+        loads = names.map(name => 'load ' + name), replies = /** @type {string[]} */ ([]);
+  if (lines.some(isTableLine))
+    return {sent, replies: (await repliesTo([...loads, ...sent.map(({text}) => text)])).slice(loads.length)};
+  const blocks = blocksOf(sent);
+  let carried = /** @type {Carried} */ ({aim: null, tags: {}});
+  const take = (/** @type {Sent[]} */ block, /** @type {string[]} */ own) => {
+    replies.push(...own);
+    carried = carriedAfter(carried, block, own);
+  };
+  for (let at = 0; at < blocks.length;) {
+    const there = find(textOf(blocks[at]), carried);
+    if (there) {
+      take(blocks[at++], there);
+      continue;
+    }
+    const some = nextBlocks(blocks, at), head = [...loads, ...before(carried)],
+          all = (await repliesTo([...head, ...some.flat().map(({text}) => text)])).slice(head.length);
+    let from = 0;
+    for (const block of some) {
+      const own = all.slice(from, from += block.length);
+      keep(block, own, carried);
+      take(block, own);
+    }
+    at += some.length;
+    if (blocks.length > MANY) report(at, blocks.length);
+  }
+  return {sent, replies};
+}
+
+/** @param {string} ended */
+const notRun = ended => new Stopped(`Refused: ${endedReason(ended)}. Nothing was changed`);
+/**
+ * A script that studybench would not read to its end is not taken.
+ * @param {string[]} lines
+ */
+export function readable(lines) {
+  const limit = overLimit(lines);
+  if (limit) throw notRun(limit);
+}
+/**
+ * Runs lines over the tables that the core holds.
+ * @param {string[]} lines
+ * @returns {Promise<Script>}
+ */
+export async function evaluate(lines) {
+  readable(lines);
+  try {
+    const [{sent, replies}] = await Promise.all([repliesFor(lines, services.reading), learn(lines)]);
+    return readScript(lines, sent, replies);
+  } finally { services.reading(0, 0); }
+}
