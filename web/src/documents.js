@@ -9,7 +9,7 @@ import {knownReviews} from './list_facts.js';
 import {fensOf} from './script.js';
 import {begin, draftKept} from './setup.js';
 import {blank} from './state.js';
-/** @typedef {import('./keep.js').Head} Head @typedef {import('./types.js').Doc} Doc */
+/** @typedef {import('./types.js').Doc} Doc */
 
 /**
  * Storage, or one that refuses each text where the browser has none for this page.
@@ -35,7 +35,7 @@ const local = storage(() => localStorage), session = storage(() => sessionStorag
 /** @param {Doc} d */
 const reviewsOf = d => (d.studies.length === 1 && d === doc() ? [app.review] : knownReviews(d));
 const keeper = makeKeeper({local, page, reviewsOf});
-export const {list, headAt} = keeper;
+export const {list, headAt, linesOf} = keeper;
 
 /** Each page holds a lock of its name for as long as it stands open. */
 export function holdLock() {
@@ -124,6 +124,18 @@ export const openKept = id => work(async () => {
   if (copy) say('board', 'It is open in another window; this is a copy of it.', true);
   services.show();
 });
+/**
+ * One more version of a kept document.
+ * @param {string} id
+ */
+export function copyKept(id) {
+  if (!keeper.copy(id)) say('board', 'There is no room for a copy: remove other documents.');
+}
+/**
+ * @param {string} id
+ * @param {string} label
+ */
+export const renameKept = (id, label) => keeper.rename(id, label);
 /** @param {string} id */
 export const forget = id => {
   keeper.remove(id);

@@ -1,12 +1,27 @@
 // @ts-check
-// The list of the documents that this browser keeps.
+// The documents that this browser keeps, as a list: opened, named, copied as versions, compared, sorted and removed.
 import {$, button, h, put, smallButton, panelHead} from './dom.js';
+import {comparingView, compare, endComparing, isComparing} from './comparing_view.js';
+import {besideDiagram} from './drawing.js';
+import {copyKept, forget, isHere, list, openKept, otherPages, renameKept} from './documents.js';
+import {inOrder, nameInList} from './heads.js';
+import {tooLong} from './limits.js';
+import {sortHead, table} from './table.js';
 import {services} from './state.js';
-import {forget, isHere, list, openKept, otherPages} from './documents.js';
-import {table} from './review_view.js';
-/** @typedef {import('./keep.js').Head} Head */
+/** @typedef {import('./heads.js').Head} Head */
 
-let elsewhere = new Set(), sure = '';
+let elsewhere = new Set();
+const ui = {
+  sure: false,
+  naming: '',
+  order: {by: '', back: false},
+  ticked: /** @type {Set<string>} */ (new Set())
+};
+/** @param {Partial<typeof ui>} changes */
+function set(changes) {
+  Object.assign(ui, {sure: false, naming: ''}, changes);
+  services.show();
+}
 /**
  * A time as a day, or of today the hour.
  * @param {number} time
@@ -18,46 +33,135 @@ export function when(time) {
   return at.toDateString() === now.toDateString() ? `today ${hour}` : `${day} ${hour}`;
 }
 /** @param {Head} head */
-function rowView(head) {
-  const here = isHere(head.id), other = elsewhere.has(head.page), name = head.title || 'Empty';
-  const open = button(name, 'open it', () => {
+function nameField(head) {
+  const rename = (/** @type {any} */ e) => {
+    if (!tooLong('other', e.target.value)) renameKept(head.id, e.target.value.trim());
+    set({});
+  };
+  return h('input',
+    {id: 'nameKept', value: head.label || head.title, 'aria-label': 'The name of this document', onchange: rename});
+}
+/**
+ * The diagram, and beside it the name by which a document is opened, its file, and where it is open.
+ * @param {Head} head
+ * @param {Head[]} all
+ */
+function nameView(head, all) {
+  const here = isHere(head.id), other = elsewhere.has(head.page),
+        where = here ? 'open here'
+    : other          ? 'open in another window'
+                     : '';
+  const open = button(nameInList(head, all), 'open it', () => {
     close();
     openKept(head.id);
   }, {class: 'link', 'data-kept': head.id, 'aria-current': here && 'true'});
-  const remove = smallButton(sure === head.id ? 'Remove for good' : 'Remove', 'take it out of this browser', () => {
-    if (sure === head.id) forget(head.id);
-    else {
-      sure = head.id;
-      services.show();
-    }
-  }, {'aria-label': `Remove ${name}`});
-  const where = here ? 'open here' : other ? 'open in another window' : '';
+  const notes = [head.label && head.title !== head.label && head.title, head.name, where].filter(Boolean);
+  return besideDiagram(
+    head.fen, [ui.naming === head.id ? nameField(head) : open, notes.map(text => h('div', {class: 'note'}, text))]);
+}
+/**
+ * @param {Head} head
+ * @param {Head[]} all
+ */
+function actionsView(head, all) {
+  const name = nameInList(head, all);
+  const naming = () => {
+    set({naming: head.id});
+    $('nameKept').focus();
+  };
   return [
-    [open, head.name && h('div', {class: 'note'}, head.name), where && h('div', {class: 'note'}, where)],
-    head.verdict || '–', when(head.time), !here && remove
+    smallButton('Name', 'give it a name', naming, {'aria-label': `Name ${name}`, 'data-name': head.id}), ' ',
+    smallButton('Copy', 'one more version of it',
+      () => {
+        copyKept(head.id);
+        set({});
+      },
+      {'aria-label': `Copy ${name}`, 'data-copy': head.id})
   ];
 }
-/** @param {number} most */
-export const listView = most => {
-  const heads = list().slice(0, most);
-  return heads.length > 0 && table(['Document', 'Verdict', 'Changed', ''], heads, rowView);
-};
+/**
+ * @param {Head} head
+ * @param {Head[]} all
+ */
+function tickView(head, all) {
+  const tick = (/** @type {any} */ e) => {
+    if (e.target.checked) ui.ticked.add(head.id);
+    else ui.ticked.delete(head.id);
+    set({});
+  };
+  return h('input', {
+    type: 'checkbox',
+    checked: ui.ticked.has(head.id),
+    onchange: tick,
+    'data-tick': head.id,
+    'aria-label': `Choose ${nameInList(head, all)}`
+  });
+}
+/**
+ * The documents that were looked at last.
+ * @param {number} most
+ */
+export function listView(most) {
+  const all = list();
+  return all.length > 0 &&
+    table(['Document', 'Verdict', 'Changed'], all.slice(0, most),
+      head => [nameView(head, all), head.verdict || '–', when(head.time)]);
+}
+/**
+ * What is done with the documents that are ticked.
+ * @param {Head[]} all
+ */
+function tickedView(all) {
+  const ids = [...ui.ticked].filter(id => all.some(head => head.id === id)), gone = ids.filter(id => !isHere(id));
+  const names = () => ids.map(id => {
+    const head = all.find(one => one.id === id);
+    return /** @type {[string, string]} */ ([id, head ? nameInList(head, all) : '']);
+  });
+  const remove = () => {
+    if (!ui.sure) return set({sure: true});
+    for (const id of gone) forget(id);
+    ui.ticked.clear();
+    set({});
+  };
+  return h('p', {class: 'row', role: 'group', 'aria-label': 'The documents that are chosen'},
+    button(
+      'Compare', 'two documents side by side', () => compare(names()), {id: 'compare', disabled: ids.length !== 2}),
+    button(`Remove${gone.length ? ` ${gone.length}` : ''}${ui.sure ? ' for good' : ''}`,
+      'take them out of this browser', remove, {id: 'removeKept', disabled: !gone.length}));
+}
+/** @param {Head[]} all */
+function wholeList(all) {
+  const head = (/** @type {string} */ text, /** @type {string} */ by) =>
+    sortHead(text, by, ui.order, order => set({order}));
+  return [
+    tickedView(all),
+    table(['', head('Document', 'name'), head('Verdict', 'verdict'), head('Changed', 'time'), ''],
+      inOrder(all, ui.order.by, ui.order.back),
+      one => [tickView(one, all), nameView(one, all), one.verdict || '–', when(one.time), actionsView(one, all)])
+  ];
+}
 /** The list over the page, by its button in the bar. */
 export function showDocuments() {
   if ($('documents').hidden) return;
-  const heads = list();
-  put('documents', panelHead('Documents', close, 'closeDocuments'),
-    h('p', {class: 'note'},
-      'Each script that was begun or opened, as this browser keeps it, with its undo. Save as a file what is to ' +
-        'last.'),
-    heads.length ? listView(heads.length) : h('p', {}, 'None yet.'));
+  const all = list(), comparing = isComparing();
+  const end = () => {
+    endComparing();
+    set({});
+  };
+  const note = h('p', {class: 'note'},
+    'Each script that was begun or opened, as this browser keeps it, with its undo. Save as a file what is to last.');
+  const back = () => h('p', {}, button('All documents', 'back to the list', end, {id: 'endComparing'}));
+  put('documents', panelHead(comparing ? 'Two versions' : 'Documents', close, 'closeDocuments'),
+    comparing ? [back(), comparingView()] : [note, all.length ? wholeList(all) : h('p', {}, 'None yet.')]);
 }
 export async function openDocuments() {
   const panel = $('documents');
   if (!panel.hidden) return close();
-  [panel.hidden, sure, elsewhere] = [false, '', await otherPages()];
+  endComparing();
+  [panel.hidden, elsewhere] = [false, await otherPages()];
+  ui.ticked.clear();
   $('documentsButton').setAttribute('aria-expanded', 'true');
-  showDocuments();
+  set({});
   const first = panel.querySelector('[data-kept]') || $('closeDocuments');
   if (first) first.focus();
 }

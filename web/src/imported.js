@@ -38,6 +38,17 @@ const GONE = /** @type {Record<string, [string, string]>} */ ({
   words: ['word among the moves', 'words among the moves'],
   'wrong signs': ['wrong sign of check or mate', 'wrong signs of check or mate']
 });
+/**
+ * The remark that counts what is not taken over, without comments, NAGs and tags, which the page keeps as remarks; none
+ * where nothing else is counted.
+ * @param {string} line
+ */
+export function stillGone(line) {
+  const [remark] = remarksOfKind([line], 'not-taken-over');
+  if (!remark) return [line];
+  const gone = remark.said.split(', ').filter(count => GONE[count.slice(0, count.lastIndexOf(' '))]);
+  return gone.length ? [`#! not taken over: ${gone.join(', ')}`] : [];
+}
 /** @param {{word: string, rest: string}} remark */
 const isAtNullMove = ({word, rest}) => word === 'note' && cutAt(rest, ': ')[0].split(' ').includes('--');
 /**

@@ -4,33 +4,14 @@
 //
 // A document is written by the page that opened it last. Where another page has taken it over, this one goes on at a
 // new place, so that two never write into one. Any page of file:// can write here, so what is read is only ever text.
-import {stampOf, studyName} from './entries.js';
-import {countsOf} from './entry_list.js';
-import {control} from './fen.js';
-import {counted} from './words.js';
+import {headOf, nextVersion, readHead} from './heads.js';
 /** @typedef {import('./types.js').Doc} Doc @typedef {import('./types.js').KeptDraft} KeptDraft */
-/** @typedef {import('./types.js').Review} Review */
+/** @typedef {import('./types.js').Review} Review @typedef {import('./heads.js').Head} Head */
 /** @typedef {import('./history.js').History<Doc>} History */
 /**
  * The next script: lines from a place on that replace others.
  * @typedef {{at: number, path: string, from: number, gone: number, lines: string[]}} Step
  */
-/**
- * @typedef {object} Head
- * @property {string} id
- * @property {string} page      the page that writes it
- * @property {number} time      of its last change
- * @property {number} seen
- * @property {string} name      of its file
- * @property {string} title
- * @property {string} verdict
- * @property {string} note
- * @property {number} at
- * @property {string} path
- * @property {string[]} tables
- * @property {KeptDraft | null} draft
- */
-
 const HEAD = 'studyboard.head.', BODY = 'studyboard.body.', STEPS = 300, LETTERS = 300000;
 /** A new place, or a new page. */
 export const freshId = () => Date.now().toString(36) + Math.random().toString(36).slice(2, 8);
@@ -101,43 +82,14 @@ export function fromSteps(now, steps) {
   });
 }
 
-/**
- * What a list says of a document: its first study, and the stamps of all, as far as their facts are known.
- * @param {Doc} doc
- * @param {(Review | null)[]} reviews
- */
-export function summary(doc, reviews = []) {
-  const {studies} = doc, stamps = studies.map((s, i) => stampOf(doc, s, reviews[i] || null));
-  const counts =
-    countsOf(stamps).filter(([kind]) => kind !== 'not judged').map(([kind, n]) => `${n} ${kind}`).join(', ');
-  return {
-    title: (studies[0] ? studyName(studies[0]) : '') +
-      (studies.length > 1 ? ` and ${counted(studies.length - 1, 'more study', 'more studies')}` : ''),
-    verdict: (stamps.length === 1 ? stamps[0].text : counts) || 'not judged'
-  };
-}
-
-/** @param {any} list */
-const texts = list => (Array.isArray(list) ? list.map(String) : []);
-/**
- * A set-up as it was kept; one of a new document becomes the one whose place it has.
- * @param {any} draft
- * @param {string} id
- * @returns {KeptDraft | null}
- */
-function draftOf(draft, id) {
-  const [past, future] = [texts(draft && draft.past), texts(draft && draft.future)];
-  const isPlaced = (/** @type {any} */ text) => /^[1-8KQRBNPkqrbnp/]+ [wb] .*\|/.test(text);
-  if (!draft || ![draft.placed, ...past, ...future].every(isPlaced)) return null;
-  return {placed: draft.placed, past, future, anew: Boolean(draft.anew), more: Boolean(draft.more), id};
-}
 /** @typedef {Pick<Storage, 'getItem' | 'setItem' | 'removeItem' | 'key' | 'length'>} Local */
 /**
  * @param {{local: Local, page: string, now?: () => number, reviewsOf?: (doc: Doc) => (Review | null)[]}} parts
  *   `reviewsOf`: the facts of each study that are known
  */
 export function makeKeeper({local, page, now = Date.now, reviewsOf = () => []}) {
-  const own = /** @type {Map<string, string>} */ (new Map()), last = /** @type {Map<string, any[]>} */ (new Map());
+  const own = /** @type {Map<string, string>} */ (new Map()), copied = /** @type {Map<string, Head>} */ (new Map()),
+        last = /** @type {Map<string, any[]>} */ (new Map());
   /**
    * @param {string} key
    * @returns {any}
@@ -154,22 +106,7 @@ export function makeKeeper({local, page, now = Date.now, reviewsOf = () => []}) 
    */
   function headAt(id) {
     const h = read(HEAD + id);
-    if (!h) return null;
-    const text = (/** @type {any} */ x) => (typeof x === 'string' ? x : '');
-    return {
-      id,
-      page: text(h.page),
-      time: Number(h.time) || 0,
-      seen: Number(h.seen) || 0,
-      name: text(h.name),
-      title: text(h.title),
-      verdict: text(h.verdict),
-      note: text(h.note),
-      at: Number(h.at) || 0,
-      path: text(h.path) || 'root',
-      tables: texts(h.tables),
-      draft: draftOf(h.draft, id)
-    };
+    return h ? readHead(id, h) : null;
   }
   /** @returns {Head[]} */
   function list() {
@@ -211,6 +148,7 @@ export function makeKeeper({local, page, now = Date.now, reviewsOf = () => []}) 
     const place = own.get(id) || id, head = headAt(place);
     if (head && head.page !== page) {
       own.set(id, freshId());
+      copied.set(own.get(id) || '', {...head, version: nextVersion(head, list())});
       last.delete(id);
     }
     return own.get(id) || id;
@@ -236,18 +174,11 @@ export function makeKeeper({local, page, now = Date.now, reviewsOf = () => []}) 
       });
       const changed = !same && local.getItem(BODY + place) !== body,
             drawn = JSON.stringify(draft) !== JSON.stringify(old && old.draft);
-      const {title, verdict} = doc.lines.length || !draft ? summary(doc, reviewsOf(doc))
-                                                          : {title: `Set-up: ${control(draft.placed)}`, verdict: ''};
       const head = {
+        ...headOf(doc, draft, reviewsOf(doc), old || copied.get(place) || null),
         page,
         time: changed || drawn || !old ? now() : old.time,
         seen: now(),
-        name: doc.name,
-        title,
-        verdict,
-        note: doc.note,
-        at: doc.at,
-        path: doc.path,
         tables,
         draft
       };
@@ -266,7 +197,8 @@ export function makeKeeper({local, page, now = Date.now, reviewsOf = () => []}) 
             script = body && typeof body.script === 'string' ? body.script : '';
       if (!head) return null;
       own.set(id, copy ? freshId() : id);
-      if (!copy) write(HEAD + id, JSON.stringify({...head, page, seen: now()}));
+      if (copy) copied.set(own.get(id) || '', {...head, version: nextVersion(head, list())});
+      else write(HEAD + id, JSON.stringify({...head, page, seen: now()}));
       const lines = script ? script.split('\n') : [], {at, path, name, note} = head;
       const doc = /** @type {Doc} */ ({lines, studies: [], refused: [], at, path, name, note, id, judged: false});
       return {
@@ -274,6 +206,35 @@ export function makeKeeper({local, page, now = Date.now, reviewsOf = () => []}) 
         history:
           {now: doc, past: fromSteps(doc, body && body.past).reverse(), future: fromSteps(doc, body && body.future)}
       };
+    },
+    /**
+     * One more version of a document: a copy with its undo.
+     * @param {string} id
+     * @returns {boolean} whether there was room for it
+     */
+    copy(id) {
+      const head = headAt(id), body = local.getItem(BODY + id), to = freshId();
+      if (!head || !body) return false;
+      const next = {...head, page: '', seen: now(), time: now(), version: nextVersion(head, list())};
+      return write(BODY + to, body) && write(HEAD + to, JSON.stringify(next));
+    },
+    /**
+     * Gives a document a name of its own; none: that of its first study.
+     * @param {string} id
+     * @param {string} label
+     */
+    rename(id, label) {
+      const head = headAt(id);
+      return Boolean(head) && write(HEAD + id, JSON.stringify({...head, label}));
+    },
+    /**
+     * The lines of a kept document, which stays its page's.
+     * @param {string} id
+     * @returns {string[]}
+     */
+    linesOf(id) {
+      const body = read(BODY + id);
+      return body && typeof body.script === 'string' ? body.script.split('\n') : [];
     },
     /** @param {string} id */
     remove(id) {

@@ -4,7 +4,7 @@ import {$, h, smallButton} from './dom.js';
 import {change, track, sayOpened, work} from './actions.js';
 import {learn} from './answer_cache.js';
 import {app, doc, services, say} from './state.js';
-import {decode, documentOf, plainBytes, importNote, notKept, withoutAim} from './imported.js';
+import {decode, documentOf, plainBytes, importNote, notKept, stillGone, withoutAim} from './imported.js';
 import {freshId} from './keep.js';
 import {lookOf} from './looks.js';
 import {gamesIn, namesOf, remarksOf} from './notes.js';
@@ -33,15 +33,28 @@ export function lastOpened() {
   const {id, lines} = doc(), here = source && (source.id ? source.id === id : source.beside === lines);
   return here ? source : null;
 }
-/** Where the games of a document are the PGN that was opened, byte for byte, nothing of it was lost. */
-export function checkWhole() {
-  const d = doc();
-  if (!source || source.id !== d.id || !d.note || !d.judged) return;
-  if (decode(source.bytes).replace(/\r\n/g, '\n') !== savedGames(d)) return;
-  app.history = replace(app.history, {...d, note: '', name: source.name.replace(/\.\w+$/, '')});
+/**
+ * Where the games of a document are the PGN that was opened, byte for byte, nothing of it was lost. They are compared
+ * some at a time, up to the first that differs.
+ */
+export async function checkWhole() {
+  const d = doc(), from = source, text = from && from.id === d.id && d.note && d.judged && decode(from.bytes);
+  if (!from || !text) return;
+  const whole = text.replace(/\r\n/g, '\n');
+  let at = 0;
+  for (const [i, study] of d.studies.entries()) {
+    const games = savedGames({...d, studies: [study]});
+    if (!whole.startsWith(games, at)) return;
+    at += games.length;
+    if (i % SOME === SOME - 1) await new Promise(on => setTimeout(on));
+    if (doc() !== d) return;
+  }
+  if (at !== whole.length) return;
+  app.history = replace(app.history, {...d, note: '', name: from.name.replace(/\.\w+$/, '')});
   services.keep();
   services.show();
 }
+const SOME = 50;
 /**
  * The lines of a file.
  * @param {Uint8Array} bytes
@@ -91,7 +104,7 @@ export function withRemarks(lines, bytes, starts = []) {
     const source = games[game - 1];
     if (!source) return [line];
     if (line.startsWith('position ')) return [...remarksOf(source), line];
-    if (!out) return [line];
+    if (!out) return stillGone(line);
     const cut =
       canBeCut(out) && cutOf(source, starts[game - 1], out, lettersIn(raw[out.line - 1] || bytes.subarray(0, 0)));
     return [line, ...namesOf(source), ...(cut ? textRemarks(cut) : [])];
@@ -125,7 +138,8 @@ export async function openPgn(bytes, where, name, how = {
   aim: '',
   code: ''
 }) {
-  const read = how.code ? inUtf8(rawLines(bytes), how.code) : bytes, starts = /** @type {number[]} */ ([]);
+  const last = lastOpened(), again = last && last.bytes === bytes && last.id ? last.id : undefined,
+        read = how.code ? inUtf8(rawLines(bytes), how.code) : bytes, starts = /** @type {number[]} */ ([]);
   let lines = /** @type {string[]} */ ([]);
   await work(async () => {
     lines = await importPgn(read, how.aim);
@@ -143,7 +157,7 @@ export async function openPgn(bytes, where, name, how = {
     say(where, offered ? '' : `No study was found in this PGN. ${came} Nothing was changed.`);
     return services.show();
   }
-  await take(held, where, checkedName(name), said);
+  await take(held, where, checkedName(name), said, again);
   Object.assign(source, {id: doc().id, held: []});
   services.show();
   checkWhole();
@@ -201,9 +215,10 @@ async function openScript(text, where, name) {
  * @param {string} where
  * @param {string} name
  * @param {string} note
+ * @param {string} [id]      of the document that it is a state of
  */
-async function take(lines, where, name, note) {
-  const same = where === 'script' && $('script') && lines.length > 0, before = doc(), id = freshId();
+async function take(lines, where, name, note, id = freshId()) {
+  const same = where === 'script' && $('script') && lines.length > 0, before = doc();
   app.setup = null;
   await change(now => ({
     lines,

@@ -6,34 +6,13 @@ import {change} from './actions.js';
 import {app} from './state.js';
 import {insertLines} from './edits.js';
 import {depth, nodeAt, allNodes} from './parse_answers.js';
+import {table} from './table.js';
 import {add, alsoView, nodeLink} from './verdict_view.js';
 import {wordOf, wordsNamed} from './wording.js';
 import {answersText, counted, keepText, numberedLine, valueSign, valueText, winner, zugzwangWords} from './words.js';
 /** @typedef {import('./types.js').Study} Study @typedef {import('./types.js').TreeNode} TreeNode */
 /** @typedef {import('./types.js').Review} Review @typedef {import('./types.js').Missing} Missing */
 
-const MOST = 60;
-/**
- * A table; of a long one the first rows, and the others on demand, or when it is printed.
- * @template T
- * @param {string[]} head
- * @param {T[]} items
- * @param {(item: T) => any[]} cells
- */
-export function table(head, items, cells) {
-  const row = (/** @type {T} */ item) => {
-    const all = cells(item), last = all.length - 1, wide = head.length - last;
-    return h('tr', {}, all.map((cell, i) => h('td', {colspan: i === last && wide > 1 && wide}, cell)));
-  };
-  const body = h('tbody', {}, items.slice(0, MOST).map(row)), rest = items.slice(MOST);
-  const all = () => {
-    more.remove();
-    body.append(...rest.map(row));
-  };
-  const more = h('button', {class: 'chip act more', onclick: all}, `Show ${rest.length} more`);
-  const heads = h('thead', {}, h('tr', {}, head.map(t => h('th', {scope: 'col'}, t))));
-  return h('div', {class: 'scroll'}, h('table', {}, heads, body), rest.length > 0 && more);
-}
 const closed = new Set();
 /**
  * @param {string} id

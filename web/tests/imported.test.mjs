@@ -5,11 +5,12 @@ import assert from 'node:assert/strict';
 import {
   decode,
   documentOf,
-  plainBytes,
   importNote,
   looksLikePgn,
   notKept,
   originalsIn,
+  plainBytes,
+  stillGone,
   withoutAim
 } from '../src/imported.js';
 import {leftOut, whyLeftOut} from '../src/left_out.js';
@@ -112,4 +113,10 @@ test('remarks above a position are the study\'s, and names stay in their letters
                                                                : text));
   const script = readScript(lines, sent, replies);
   assert.equal(savedGames(script), game.replace('Troickij', 'Троицкий') + game);
+});
+test('what the page keeps as remarks is not counted as gone', () => {
+  assert.deepEqual(stillGone('#! not taken over: comments 9, NAGs 4, tags 1, repeated 1, moves behind 2'),
+    ['#! not taken over: repeated 1, moves behind 2']);
+  assert.deepEqual(stillGone('#! not taken over: comments 1'), []);
+  assert.deepEqual(stillGone('tag White Reti'), ['tag White Reti']);
 });

@@ -3,7 +3,8 @@
 import './stand_in.mjs';
 import test from 'node:test';
 import assert from 'node:assert/strict';
-import {difference, makeKeeper, toSteps, summary, fromSteps} from '../src/keep.js';
+import {inOrder, nameInList, summary} from '../src/heads.js';
+import {difference, makeKeeper, toSteps, fromSteps} from '../src/keep.js';
 import {advance, begin, undo} from '../src/history.js';
 
 /** Storage for so many letters. */
@@ -135,4 +136,24 @@ test('what a list says of a document', () => {
     {title: 'Réti and 2 more studies', verdict: '2 sound, 1 unsound'});
   assert.deepEqual(said([study('sound', 'A')], [lines[0], '']), {title: 'A, Réti', verdict: 'holds'});
   assert.deepEqual(said([{...study('', '?'), tags: {}}]), {title: 'Kb6 Pc6 / Ka1 Rd5', verdict: 'not judged'});
+});
+test('copies are versions of one document, a name is kept, and the list can be sorted', () => {
+  let clock = 0;
+  const local = made(), keeper = makeKeeper({local, page: '1', now: () => ++clock});
+  keeper.keep(history('A', ['p'], ['p', 'q']), null, []);
+  assert.ok(keeper.rename('A', 'Rook study') && keeper.copy('A') && keeper.copy('A'));
+  keeper.keep(history('B', ['r']), null, []);
+  keeper.keep(history('A', ['p'], ['p', 'q', 's']), null, []);
+  const heads = keeper.list(), names = list => list.map(head => nameInList(head, heads));
+  assert.deepEqual(names(inOrder(heads, 'name')),
+    ['Empty', 'Rook study, version 1', 'Rook study, version 2', 'Rook study, version 3']);
+  assert.equal(names(inOrder(heads, 'time'))[0], 'Rook study, version 1');
+  assert.equal(names(inOrder(heads, 'name', true))[3], 'Empty');
+  const copy = heads.find(head => head.version === 2);
+  assert.deepEqual(keeper.linesOf(copy.id), ['p', 'q']);
+  assert.deepEqual(keeper.open(copy.id, false).history.past.map(d => d.lines), [['p']]);
+  const other = makeKeeper({local, page: '2', now: () => ++clock});
+  other.open('A', true);
+  other.keep(history('A', ['x']), null, []);
+  assert.deepEqual(names(inOrder(keeper.list(), 'name')).slice(4), ['Rook study, version 4']);
 });

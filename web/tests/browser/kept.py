@@ -45,7 +45,7 @@ def documents(user):
     rows = user.js(
         """return [...document.querySelectorAll('#documents tbody tr')].map(row => {
         const cells = [...row.cells].map(cell => cell.innerText.trim());
-        return [cells[0].split('\\n')[0], cells[1], cells[0].split('\\n').slice(1).join(' ')];
+        return [cells[1].split('\\n')[0], cells[2], cells[1].split('\\n').slice(1).join(' ')];
     })"""
     )
     user.keys(Keys.ESCAPE)
@@ -106,7 +106,7 @@ def test_two_tabs_and_a_copied_one(user):
     ours = script(user)
     assert copied != ours
     rows = documents(user)
-    assert [row[0] for row in rows].count("First") == 2 and len(rows) == 3, rows
+    assert sorted(row[0] for row in rows) == ["First, version 1", "First, version 2", "Second"], rows
     reload(user)
     assert script(user) == ours
     for handle in set(user.d.window_handles) - {first, second}:
@@ -127,7 +127,7 @@ def test_another_document_and_a_closed_browser(user):
     user.open_file("other.script", "position 8/3k4/8/3KP3/8/8/8/8 w - - 0 1\nstipulate white draw\ntag Event Another\n")
     user.until("document.getElementById('head').innerText.includes('Another')", 30)
     user.settle()
-    assert "Undo brings it back" in user.text("sayBoard")
+    assert "Documents lists it" in user.text("sayBoard")
     user.end()
     user.__init__(flags=(profile,))
     user.until("document.getElementById('head').innerText.includes('Another')", 30)
@@ -291,20 +291,70 @@ def test_a_refused_position_of_the_same_men(user):
     assert user.text("stamp") == "holds"
 
 
-def test_removed_for_good(user):
+def tick(user, title):
+    """Chooses a document of the open list by its name."""
+    row = f"//*[@id='documents']//tr[.//button[@data-kept][.='{title}']]//input[@data-tick]"
+    user.d.find_element(By.XPATH, row).click()
+    user.settle()
+
+
+def test_several_are_removed(user):
+    user.open_tables(TABLES, SMALL)
+    for name in ("First", "Second", "Third"):
+        started(user, FEN, name)
+    user.click("documentsButton")
+    for name in ("First", "Second", "Third"):
+        tick(user, name)
+    for words in ("Remove 2", "Remove 2 for good"):  # the one that is open here stays
+        assert user.text("removeKept") == words, user.text("removeKept")
+        user.click("removeKept")
+    user.keys(Keys.ESCAPE)
+    assert [row[0] for row in documents(user)] == ["Third"]
+    assert "Third" in user.text("head")
+
+
+def test_versions(user):
+    """A document has a diagram, a name and versions; two of them stand side by side with the moves that differ."""
+    user.open_tables(TABLES, SMALL)
+    started(user, FEN, "Pawn")
+    user.play("Kg3")
+    user.click("documentsButton")
+    user.d.find_element(By.CSS_SELECTOR, "#documents [data-copy]").click()
+    user.settle()
+    user.d.find_element(By.CSS_SELECTOR, "#documents [data-name]").click()
+    user.fill("nameKept", "Draft of a pawn study")
+    user.keys(Keys.ESCAPE)
+    names = [row[0] for row in documents(user)]
+    assert len(names) == 2 and any(name.startswith("Draft of a pawn study, version") for name in names), names
+    user.go("root")
+    user.play("b4")
+    user.go("root")
+    user.click("documentsButton")
+    assert len(user.d.find_elements(By.CSS_SELECTOR, "#documents tbody svg")) == 2
+    user.d.find_element(By.CSS_SELECTOR, '#documents [data-sort="name"]').click()
+    for box in range(2):
+        user.js("document.querySelectorAll('#documents [data-tick]')[arguments[0]].click()", box)
+        user.settle()
+    user.click("compare")
+    user.until("document.getElementById('sides')", 30)
+    rows = user.js(
+        "return [...document.querySelectorAll('#documents tbody tr')].map(r => [...r.cells].map(c => c.innerText))"
+    )
+    assert len(rows) == 1 and rows[0][0] == "1. b4" and sorted(rows[0][1:]) == ["lets the aim go", "not given"], rows
+    user.picture("versions", whole=False)
+    user.click("endComparing")
+    user.keys(Keys.ESCAPE)
+
+
+def test_undo_stays_in_its_document(user):
     user.open_tables(TABLES, SMALL)
     started(user, FEN, "First")
     started(user, FEN, "Second")
-    user.click("documentsButton")
-    button = "//*[@id='documents']//button[contains(., 'Remove')]"
-    for _ in range(2):
-        user.until(
-            "[...document.querySelectorAll('#documents button')].some(it => it.textContent.includes('Remove'))", 10
-        )
-        user.d.find_element(By.XPATH, button).click()
-    user.keys(Keys.ESCAPE)
-    assert [row[0] for row in documents(user)] == ["Second"]
-    assert "Second" in user.text("head")
+    while not user.js("return document.getElementById('undo').disabled"):
+        user.click("undo")
+        user.settle()
+    assert script(user).startswith("position") and "First" not in script(user)
+    assert sorted(row[0] for row in documents(user))[0] == "First"
 
 
 def test_storage_that_is_full(user):

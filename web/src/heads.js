@@ -1,0 +1,147 @@
+// @ts-check
+// What lists say of a kept document without its script: its name, its first position, its verdict, and which version of
+// another one it is.
+import {studyName} from './entries.js';
+import {stampOf} from './stamps.js';
+import {countsOf} from './entry_list.js';
+import {control} from './fen.js';
+import {counted} from './words.js';
+/** @typedef {import('./types.js').Doc} Doc @typedef {import('./types.js').KeptDraft} KeptDraft */
+/** @typedef {import('./types.js').Review} Review */
+/**
+ * @typedef {object} Head
+ * @property {string} id
+ * @property {string} page      the page that writes it
+ * @property {number} time      of its last change
+ * @property {number} seen
+ * @property {string} name      of its file
+ * @property {string} title      of its first study
+ * @property {string} label      the name that the user gave it
+ * @property {string} fen      the start of the study that is looked at
+ * @property {string} family      the document that it is a version of, or its own id
+ * @property {number} version      1 of the first
+ * @property {string} verdict
+ * @property {string} note
+ * @property {number} at
+ * @property {string} path
+ * @property {string[]} tables
+ * @property {KeptDraft | null} draft
+ */
+
+
+/**
+ * What a list says of a document: its first study, and the stamps of all, as far as their facts are known.
+ * @param {Doc} doc
+ * @param {(Review | null)[]} reviews
+ */
+export function summary(doc, reviews = []) {
+  const {studies} = doc, stamps = studies.map((s, i) => stampOf(doc, s, reviews[i] || null));
+  const counts =
+    countsOf(stamps).filter(([kind]) => kind !== 'not judged').map(([kind, n]) => `${n} ${kind}`).join(', ');
+  return {
+    title: (studies[0] ? studyName(studies[0]) : '') +
+      (studies.length > 1 ? ` and ${counted(studies.length - 1, 'more study', 'more studies')}` : ''),
+    verdict: (stamps.length === 1 ? stamps[0].text : counts) || 'not judged'
+  };
+}
+
+/** @param {any} list */
+export const texts = list => (Array.isArray(list) ? list.map(String) : []);
+/**
+ * A set-up as it was kept; one of a new document becomes the one whose place it has.
+ * @param {any} draft
+ * @param {string} id
+ * @returns {KeptDraft | null}
+ */
+function draftOf(draft, id) {
+  const [past, future] = [texts(draft && draft.past), texts(draft && draft.future)];
+  const isPlaced = (/** @type {any} */ text) => /^[1-8KQRBNPkqrbnp/]+ [wb] .*\|/.test(text);
+  if (!draft || ![draft.placed, ...past, ...future].every(isPlaced)) return null;
+  return {placed: draft.placed, past, future, anew: Boolean(draft.anew), more: Boolean(draft.more), id};
+}
+/**
+ * A head as it was written, by whatever page.
+ * @param {string} id
+ * @param {any} h
+ * @returns {Head}
+ */
+export function readHead(id, h) {
+  const text = (/** @type {any} */ x) => (typeof x === 'string' ? x : '');
+  return {
+    id,
+    page: text(h.page),
+    time: Number(h.time) || 0,
+    seen: Number(h.seen) || 0,
+    name: text(h.name),
+    title: text(h.title),
+    label: text(h.label),
+    fen: /^[1-8KQRBNPkqrbnp/]+ [wb] /.test(h.fen) ? h.fen : '',
+    family: text(h.family) || id,
+    version: Number(h.version) || 1,
+    verdict: text(h.verdict),
+    note: text(h.note),
+    at: Number(h.at) || 0,
+    path: text(h.path) || 'root',
+    tables: texts(h.tables),
+    draft: draftOf(h.draft, id)
+  };
+}
+/**
+ * The head of a document as it is now; its name and its version stay.
+ * @param {Doc} doc
+ * @param {KeptDraft | null} draft
+ * @param {(Review | null)[]} reviews
+ * @param {Head | null} old
+ */
+export function headOf(doc, draft, reviews, old) {
+  const only = !doc.lines.length && draft, shown = doc.studies[doc.at], placed = draft ? draft.placed : '',
+        {title, verdict} = only ? {title: `Set-up: ${control(placed)}`, verdict: ''} : summary(doc, reviews);
+  return {
+    name: doc.name,
+    title,
+    verdict,
+    fen: only ? placed.split('|')[0]
+      : shown ? shown.fen
+              : '',
+    label: old ? old.label : '',
+    family: old ? old.family : '',
+    version: old ? old.version : 1,
+    note: doc.note,
+    at: doc.at,
+    path: doc.path
+  };
+}
+/** @param {Head} head */
+const plainName = ({label, title}) => label || title || 'Empty';
+/**
+ * The name of a document in lists: versions of one have their number.
+ * @param {Head} head
+ * @param {Head[]} all
+ */
+export function nameInList(head, all) {
+  const many = all.some(other => other.family === head.family && other.id !== head.id);
+  return plainName(head) + (many || head.version > 1 ? `, version ${head.version}` : '');
+}
+/**
+ * The number of the next version of a document.
+ * @param {Head} head
+ * @param {Head[]} all
+ */
+export const nextVersion = (head, all) =>
+  1 + Math.max(...all.filter(({family}) => family === head.family).map(({version}) => version));
+const collator = new Intl.Collator();
+const ORDERS = /** @type {Record<string, (x: Head, y: Head) => number>} */ ({
+  name: (x, y) => collator.compare(plainName(x), plainName(y)) || x.version - y.version,
+  verdict: (x, y) => collator.compare(x.verdict, y.verdict),
+  time: (x, y) => y.time - x.time
+});
+/**
+ * Heads in an order: by name, by verdict, the one changed last first; else as they come.
+ * @param {Head[]} heads
+ * @param {string} by
+ * @param {boolean} [back]
+ */
+export function inOrder(heads, by, back = false) {
+  const sorted = ORDERS[by] ? [...heads].sort(ORDERS[by]) : [...heads];
+  return back ? sorted.reverse() : sorted;
+}
