@@ -10,6 +10,7 @@ import {app, doc, services, say} from './state.js';
 import {insertMoves} from './edits.js';
 import {draftFen, moveDraft, placeAt, removeAt} from './setup.js';
 import {overTree} from './tree_room.js';
+import {hear} from './voice.js';
 /** @typedef {import('./types.js').Move} Move */
 
 // ---- fingers
@@ -185,25 +186,20 @@ export function setupKey(e) {
     d.cursor = d.cursor === null ? at : to;
     showBoard();
     const letter = menOf(draftFen())[d.cursor];
-    announce(`${squareName(d.cursor)} ${letter ? manName(letter) : 'empty'}`);
+    hear('square', `${squareName(d.cursor)} ${letter ? manName(letter) : 'empty'}`);
     return true;
   }
   if (/^[kqrbnpKQRBNP]$/.test(e.key) && d.cursor !== null) {
     placeAt(d.cursor, e.key);
-    announce(`${manName(e.key)} ${squareName(d.cursor)}`);
+    hear('square', `${manName(e.key)} ${squareName(d.cursor)}`);
     return true;
   }
   if (/^(Delete|Backspace| )$/.test(e.key) && d.cursor !== null) {
     if (e.key === 'Delete' || e.key === 'Backspace') {
       removeAt(d.cursor);
-      announce(`${squareName(d.cursor)} empty`);
+      hear('square', `${squareName(d.cursor)} empty`);
     } else placeAt(d.cursor);
     return true;
   }
   return false;
 }
-/**
- * What a screen reader hears.
- * @param {string} text
- */
-export function announce(text) { $('spoken').textContent = text; }

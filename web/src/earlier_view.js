@@ -8,6 +8,7 @@ import {withMoves} from './edits.js';
 import {control, other, sideOf, squareName} from './fen.js';
 import {notesMoved, plain} from './notes.js';
 import {bareOf, insertions} from './turning.js';
+import {hearNew} from './voice.js';
 import {markSign} from './words.js';
 /** @typedef {import('./earlier.js').Before} Before */
 
@@ -86,7 +87,8 @@ function draw() {
     : offered === null ? 'The moves before are looked for …'
     : offered.length   ? `${mover}'s move before ${next}${marksIn(offered, study().aim?.hero === mover)}:`
                        : none;
-  put('earlier', panelHead('Begin earlier', close, 'closeEarlier'), h('p', {role: 'status', id: 'earlierState'}, words),
+  hearNew('earlier', words);
+  put('earlier', panelHead('Begin earlier', close, 'closeEarlier'), h('p', {id: 'earlierState'}, words),
     h('p', {class: 'chips'}, (offered || []).map(moveView)),
     offered && lacks.length > 0 &&
       h('p', {class: 'note'}, `Promotions are left out, since these tables are not there: ${lacks.join(' ')}.`),

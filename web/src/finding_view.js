@@ -9,6 +9,7 @@ import {THEMES, manMissing, narrowing, opened, search, searchText} from './findi
 import {openText} from './opening.js';
 import {toText} from './script.js';
 import {draftFen} from './setup.js';
+import {hearNew} from './voice.js';
 import {valueText, winner} from './words.js';
 /** @typedef {import('./finding.js').Search} Search @typedef {import('./finding.js').Found} Found */
 
@@ -185,6 +186,7 @@ function rowView(found) {
 }
 /** The panel, drawn again as it searches; what is typed in it stays. */
 export function showFinding() {
+  if (!state.going) hearNew('finding', soFar());
   if ($('finding').hidden) return;
   const focus = document.activeElement, id = focus && $('finding').contains(focus) ? focus.id : '',
         found = state.search ? state.search.found : [];
@@ -192,8 +194,7 @@ export function showFinding() {
     h('p', {class: 'note'},
       'All positions of these men that have the theme, each once up to symmetry, none missing: proved. ' +
         'A press opens one as a study.'),
-    formView(), h('p', {role: 'status', id: 'findState'}, soFar()),
-    h('ol', {class: 'found', id: 'foundList'}, found.map(rowView)));
+    formView(), h('p', {id: 'findState'}, soFar()), h('ol', {class: 'found', id: 'foundList'}, found.map(rowView)));
   const again = id && $(id);
   if (again) again.focus({preventScroll: true});
 }

@@ -121,7 +121,7 @@ function passedView(d) {
         square => h('option', {value: square, selected: square === now}, square === '-' ? 'no square' : square))));
 }
 /** @param {Draft} d */
-function judgedText({judged, men, waits}) {
+export function judgedText({judged, men, waits}) {
   if (!Object.keys(men).length) return 'Put the men on the board.';
   if (!judged) return waits.length ? `Building its tables: ${waits.join(' ')} …` : '…';
   if (judged.bad) return `Not a position yet: ${judged.bad}.`;
@@ -133,7 +133,7 @@ function judgedText({judged, men, waits}) {
 function judgedView(d) {
   const judged = d.judged, text = judgedText(d);
   return [
-    h('p', {id: 'judged', class: judged && judged.text && !judged.bad ? 'judged' : 'note', role: 'status'}, text),
+    h('p', {id: 'judged', class: judged && judged.text && !judged.bad ? 'judged' : 'note'}, text),
     judged && judged.lacking.length > 0 &&
       h('p', {},
         button('Build them now', 'some seconds for each; once for all', () => judgeDraft(true), {id: 'buildNow'}))

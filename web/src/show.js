@@ -1,14 +1,12 @@
 // @ts-check
 // What is shown: each part a function of the document, its view and its facts.
 import {$, button, h, put, onDocument} from './dom.js';
-import {spokenMove} from './fen.js';
 import {prefetch} from './prefetch.js';
 import {app, doc, node, study} from './state.js';
 import {showBoard} from './board.js';
-import {announce} from './board_input.js';
 import {listView, showDocuments} from './documents_view.js';
 import {reviewView} from './review_view.js';
-import {headView, numberText} from './head_view.js';
+import {headView, numberText, sameText} from './head_view.js';
 import {commentView} from './comments_view.js';
 import {hereView, navView} from './node_view.js';
 import {PAWN, SAAVEDRA} from './samples.js';
@@ -21,6 +19,7 @@ import {listFrom, listView as entriesView} from './list_view.js';
 import {knownEntries, later} from './list_facts.js';
 import {nameOf} from './entries.js';
 import {menuText} from './entry_list.js';
+import {speakDraft, speakNode, speakState, speakVerdict} from './spoken.js';
 import {textsView} from './texts_view.js';
 import {faultsView, verdictView} from './verdict_view.js';
 import {keyView, listenToTree, markCurrent, showTree} from './tree_view.js';
@@ -108,6 +107,8 @@ export function show() {
   const said = app.say && app.say.where === 'board' ? app.say : null;
   $('sayBoard').hidden = !said;
   $('sayBoard').className = said && said.good ? 'say good' : 'say';
+  if (said && !said.good) $('sayBoard').setAttribute('role', 'alert');
+  else $('sayBoard').removeAttribute('role');
   $('sayBoard').textContent = said ? said.text : '';
   const anew = app.setup && app.setup.anew;
   put('import', importView(Boolean(anew)));
@@ -120,7 +121,8 @@ export function show() {
   for (const id of ['tree', 'review', 'texts']) $(id).hidden = Boolean(anew && s);
   part('head',
     [
-      s && JSON.stringify([s.fen, s.aim, s.tags, s.originals, s.origin, Object.keys(s.place), numberText()]),
+      s &&
+        JSON.stringify([s.fen, s.aim, s.tags, s.originals, s.origin, Object.keys(s.place), numberText(), sameText()]),
       app.counts, ...saying()
     ],
     () => s && headView(s));
@@ -135,7 +137,10 @@ export function show() {
     setTimeout(checkWhole);
   }
   refocus(kept);
-  speak();
+  speakNode();
+  speakDraft();
+  speakVerdict();
+  speakState();
   hint();
   $('right').classList.toggle('behind', Boolean(app.setup && s && !anew));
   document.title = s ? `${nameOf(s, 'Event') || wordOf('untitled')} · Study board` : 'Study board';
@@ -164,6 +169,7 @@ function drawFacts() {
   part('mend', [s, app.view !== null, app.review], () => s && faultsView(s));
   part('review', [s, app.view !== null, app.review, app.noReview], () => s && reviewView(s));
   part('list', listFrom(), entriesView);
+  speakVerdict();
 }
 function drawKnown() {
   drawFacts();
@@ -173,15 +179,9 @@ export const showFacts = () => lately(drawKnown);
 function drawJudged() {
   showBoard();
   redrawJudged();
+  speakDraft();
 }
 export const showJudged = () => lately(drawJudged);
-let spoken = '';
-/** A screen reader announces the move that was gone to. */
-function speak() {
-  const n = node(), key = n && !app.setup ? n.path + n.fen : '';
-  if (n && n.parent && key !== spoken) announce(spokenMove(n.parent.fen, n));
-  spoken = key;
-}
 /** A study of the menu by its place; an entry that was left out by its line. */
 const menuValue = (/** @type {import('./entries.js').Entry} */ {at, line}) => (at < 0 ? `line ${line}` : `${at}`);
 function showBar() {
@@ -200,11 +200,13 @@ function showBar() {
 }
 export function showProgress() {
   const p = app.progress;
+  speakState();
   $('progress').hidden = !p;
   if (!p) return;
   $('progressText').textContent = p.text;
   $('progressBar').max = p.of;
   $('progressBar').value = p.done;
+  $('stop').hidden = Boolean(p.reading);
 }
 function welcomeView() {
   const sample = (/** @type {string[]} */ lines) => () => openText(toText(lines), 'board'), kept = listView(8);

@@ -38,7 +38,7 @@ const sign = cls =>
 /** @param {Spot[]} spots */
 function standsView(spots) {
   const only = spots.filter(t => t.sign === 'dot').map(t => t.text), more = spots.length - only.length;
-  return h('p', {class: 'note', role: 'status', id: 'stands'}, sign('dot'),
+  return h('p', {class: 'note', id: 'stands'}, sign('dot'),
     ` by one first move: ${only.length ? named(only, FIRST) : 'nowhere'}; `, sign('plain'),
     ` it holds on ${more}${only.length ? ' more' : ''}. A press on a square puts this man there.`);
 }
@@ -68,7 +68,7 @@ function treesView(d, spots) {
   const end = done < spots.length ? ` ${done} of ${spots.length} squares looked at …`
     : none ? ` On ${none} no move stays, or many go.`
            : '';
-  return h('p', {class: 'note', role: 'status', id: 'treesThere'},
+  return h('p', {class: 'note', id: 'treesThere'},
     'With the moves of this study: ', kept.slice(0, FIRST).map(spot => [thereView(d, spot), ' ']),
     more > 0 && `and ${more} more.`, end);
 }

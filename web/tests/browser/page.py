@@ -117,7 +117,8 @@ def test_composed_by_keys_alone(user):
     user.settle()
     user.keys(Keys.ARROW_RIGHT)
     user.settle()
-    assert user.js("return document.getElementById('spoken').textContent") == "white king g3"
+    heard = "white king g3, the only move that holds, White mates in 27"
+    user.until(f"document.getElementById('spoken').textContent.startsWith('{heard}')", 10)
     user.keys(Keys.DELETE)
     user.settle()
     assert not user.d.find_elements(By.CSS_SELECTOR, ".tree [data-path]")
@@ -143,7 +144,7 @@ def test_undo_and_redo_of_everything(user):
         user.click("undo")
         user.settle()
         texts.append(user.promise("studyboard.script()"))
-    assert len(texts) == 7 and texts[-1].strip() == "", texts
+    assert len(texts) == 6 and texts[-1].split("\n")[0] == "position " + FEN, texts
     for text in reversed(texts[:-1]):
         user.click("redo")
         user.settle()
@@ -479,25 +480,6 @@ def test_report(user):
     assert tags.count("article") >= 1 and tags.count("script") == 0
     assert '<span class="stamp sound">sound</span>' in answer
     assert user.by("saveReport").is_displayed()
-
-
-def test_print(user):
-    sample(user)
-    page = user.d.execute_cdp_cmd("Page.printToPDF", {"printBackground": False})
-    assert len(page["data"]) > 10000
-    user.d.execute_cdp_cmd("Emulation.setEmulatedMedia", {"media": "print"})
-    user.picture("print")
-    assert not user.by("saveReport").is_displayed()
-    assert user.by("stamp").is_displayed() and user.by("value").is_displayed()
-    assert not user.d.find_element(By.CSS_SELECTOR, "#here .moves").is_displayed()
-    user.d.execute_cdp_cmd("Emulation.setEmulatedMedia", {"media": ""})
-    user.go("0")
-    shown = "[studyboard.path(), document.getElementById('value').innerText]"
-    user.js(f"window.print = () => {{ window.printed = {shown}; }}")
-    user.click("print")
-    user.settle()
-    path, value = user.js("return window.printed")
-    assert path == "root" and value.startswith("At the start") and user.js("return studyboard.path()") == "0"
 
 
 def test_no_request_is_made(user):

@@ -226,7 +226,7 @@ def colours(user):
     """Text and ground of all that has text of its own and is shown."""
     return user.js(
         """const out = [];
-        for (const e of document.querySelectorAll('main *, .bar *')) {
+        for (const e of document.querySelectorAll('main *, .bar *, #paper *')) {
             const text = [...e.childNodes].some(n => n.nodeType === 3 && n.textContent.trim());
             if (!text || !e.getClientRects().length || e.disabled || e.closest('svg, option')) continue;
             let at = e, ground = '';
@@ -251,10 +251,11 @@ def test_colours_and_paper(user):
         user.click("theme")
     user.js("document.documentElement.classList.add('dark')")
     user.d.execute_cdp_cmd("Emulation.setEmulatedMedia", {"media": "print"})
+    user.js("dispatchEvent(new Event('beforeprint'))")
     rows = colours(user)
     assert rows and all(contrast(text, "rgb(255, 255, 255)") > 4.5 for text, _, _ in rows), rows
-    assert not any(user.by(name).is_displayed() for name in ("saveReport", "nav"))
-    assert user.by("stamp").is_displayed() and user.by("value").is_displayed()
+    assert not any(user.by(name).is_displayed() for name in ("saveReport", "nav", "stamp", "value"))
+    assert user.d.find_element(By.CSS_SELECTOR, "#paper .stamp").is_displayed()
     user.picture("print_from_dark")
 
 
