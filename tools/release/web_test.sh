@@ -44,6 +44,7 @@ if [ "$mode" = --short ]; then
 else
     try "$python" page.py "$tables"
     try "$python" entries.py "$tables"
+    try "$python" judging.py "$tables"
     try "$python" composing.py "$tables"
     try "$python" kept.py "$tables"
     try "$python" screen.py "$tables"

@@ -1,7 +1,7 @@
 // @ts-check
 // A man on another square: how many only moves in a row the side to move would have to find, and what a study's tree
 // would be. Both are for the program to say.
-import {hasHeroMove} from './entries.js';
+import {hasHeroMove} from './stamps.js';
 import {menOf, placement} from './fen.js';
 import {readReview, readView, refusalIn} from './parse_answers.js';
 import {toText} from './script.js';

@@ -2,20 +2,24 @@
 // The entries of a script, one a row: its studies with what is said of them, and those that were left out.
 import {isKnown} from './edits.js';
 import {control, sideOf} from './fen.js';
+import {byWeight, faultKind, faultText} from './fault_kinds.js';
 import {mostGames, originalsIn, sourceText} from './imported.js';
 import {leftOutBy, whyLeftOut} from './left_out.js';
+import {sameText, samePositions} from './same_positions.js';
 import {isCommand, isEdit, isPosition, wordsOf} from './script.js';
+import {acceptedOf, stampOf} from './stamps.js';
 import {bareTree} from './unmarked.js';
-import {wordOf} from './wording.js';
 import {aimText, reason} from './words.js';
 /** @typedef {import('./types.js').Study} Study @typedef {import('./types.js').Doc} Doc */
 /** @typedef {import('./types.js').Review} Review */
 /** @typedef {import('./types.js').Aim} Aim */
 /**
  * `kind` is what the list is filtered by; `at` the place of a study, -1 of an entry that was left out; `number` that of
- * its game; `against` what speaks against its stipulation.
+ * its game; `against` what speaks against its stipulation; `same` which other studies have its men; `fault` its first
+ * fault in words, and `faults` the kinds of all that are not accepted.
  * @typedef {{line: number, at: number, number: string, kind: string, title: string, author: string, fen: string,
- *   aim: string, against: string[], stamp: string, review: Review | null}} Entry
+ *   aim: string, against: string[], stamp: string, review: Review | null, same: string, fault: string,
+ *   faults: string[]}} Entry
  */
 
 /**
@@ -55,65 +59,6 @@ function listedName(s, name) {
 /** @param {string} line */
 const tagIn = line => /^ *tag +(\w+) +(.*?) *$/.exec(line);
 
-/**
- * Whether some move of the hero is in a tree: what a review calls `empty`, for a tree that has no review yet.
- * @param {{children: {children: any[]}[]}} root
- * @param {string} fen
- * @param {Aim} aim
- */
-export const hasHeroMove = ({children}, fen, aim) =>
-  children.some(child => sideOf(fen) === aim.hero || child.children.length > 0);
-/**
- * Whether some move of the hero is in the tree of a study.
- * @param {string[]} lines
- * @param {Study} s
- * @param {Review | null} review
- */
-export function hasSolution(lines, s, review) {
-  if (review) return !review.empty;
-  return s.aim !== null && hasHeroMove(bareTree(lines.slice(s.from, s.end)), s.fen, s.aim);
-}
-/**
- * The first refused line of a study that is as wanted.
- * @param {{refused: import('./types.js').Refused[]}} doc
- * @param {Study} s
- * @param {(line: string) => any} wanted
- */
-const refusedIn = (doc, s, wanted) => doc.refused.find(r => s.from < r.line && r.line < s.end && wanted(r.text));
-/** @param {import('./types.js').Refused} r */
-function refusedText({text}) {
-  const words = wordsOf(text);
-  return words.slice(words[0] === 'insert' ? 2 : 0).join(' ').slice(0, 40);
-}
-/** @param {import('./types.js').Refused} r */
-const unreadAt = ({line}) => wordOf('unread').replace('1', `${line + 1}`);
-/**
- * What a game says if its study was not read to the end: up to which move of the file it was read, or the first line
- * that was refused. Then its verdict is not the entry's.
- * @param {{refused: import('./types.js').Refused[]}} doc
- * @param {Study} s
- */
-export function unreadIn(doc, s) {
-  const unread = refusedIn(doc, s, isEdit), cut = s.origin && s.origin.cut;
-  return cut ? `not read: ${cut.move}` : unread ? `not read: ${refusedText(unread)}` : '';
-}
-/**
- * What is said of a study by one word and more: its verdict, but where a line of it was not read, where no move of the
- * solution was given, or where only time is lost.
- * @param {Doc} doc
- * @param {Study} s
- * @param {Review | null} review
- * @returns {{kind: string, text: string}}
- */
-export function stampOf(doc, s, review) {
-  const unread = refusedIn(doc, s, isEdit), [kind] = s.verdict.split(' ');
-  if (s.origin && s.origin.cut) return {kind: 'not read', text: unreadIn(doc, s)};
-  if (unread) return {kind: 'not read', text: `${unreadAt(unread)}, ${refusedText(unread)}`};
-  if (!kind) return {kind: 'not judged', text: 'not judged'};
-  if (kind === 'sound' && !hasSolution(doc.lines, s, review)) return {kind: 'holds', text: wordOf('holds')};
-  if (review && review.waste.startsWith('sound')) return {kind: 'time', text: review.waste};
-  return {kind, text: (review && review.waste) || s.verdict};
-}
 /**
  * The first edit that is refused now and was not before: what was refused already may be so for another reason.
  * @param {import('./types.js').Refused[]} before
@@ -205,7 +150,10 @@ const missing = (line, title, author, why) => ({
   aim: '',
   against: [],
   stamp: `left out: ${why}`,
-  review: null
+  review: null,
+  same: '',
+  fault: '',
+  faults: []
 });
 /**
  * The number of each study: that of its game in the PGN that was opened, and further ones for those that were added.
@@ -241,28 +189,46 @@ function listedAim(s) {
   return s.aim ? aimText(s.aim) + carried : '';
 }
 /**
+ * The faults that a judge does not accept: the worst one in words, and the kinds of all.
+ * @param {Doc} doc
+ * @param {Study} s
+ * @param {Review | null} review
+ */
+function faultsOf(doc, s, review) {
+  if (!review || !review.faults || !review.faults.length || !s.aim) return {fault: '', faults: []};
+  const accepted = new Set(acceptedOf(doc, s, review.faults)), begins = sideOf(s.fen) === s.aim.hero,
+        left = byWeight(review.faults.filter(({path}) => !accepted.has(path)), begins);
+  return {
+    fault: left.length ? faultText(left[0], review, s.fen, bareTree(doc.lines.slice(s.from, s.end))) : '',
+    faults: [...new Set(left.map(fault => faultKind(fault, begins)))]
+  };
+}
+/**
  * The entries in the order of the script.
  * @param {Doc} doc
  * @param {(Review | null)[]} reviews      of each study, as far as they are known
  * @returns {Entry[]}
  */
 export function entriesOf(doc, reviews = []) {
-  const numbers = numbersOf(doc), studies = doc.studies.map((s, at) => {
-    const {kind, text} = stampOf(doc, s, reviews[at] || null);
-    return {
-      line: s.from,
-      at,
-      number: numbers[at],
-      kind,
-      title: listedName(s, 'Event') || control(s.fen),
-      author: listedName(s, 'White'),
-      fen: s.fen,
-      aim: listedAim(s),
-      against: s.origin ? s.origin.against : [],
-      stamp: text,
-      review: kind === 'not read' ? null : reviews[at] || null
-    };
-  });
+  const numbers = numbersOf(doc), same = samePositions(doc.studies.map(s => s.fen)),
+        studies = doc.studies.map((s, at) => {
+          const {kind, text} = stampOf(doc, s, reviews[at] || null);
+          return {
+            line: s.from,
+            at,
+            number: numbers[at],
+            kind,
+            title: listedName(s, 'Event') || control(s.fen),
+            author: listedName(s, 'White'),
+            fen: s.fen,
+            aim: listedAim(s),
+            against: s.origin ? s.origin.against : [],
+            stamp: text,
+            review: kind === 'not read' ? null : reviews[at] || null,
+            same: sameText(same[at], numbers),
+            ...faultsOf(doc, s, kind === 'not read' ? null : reviews[at] || null)
+          };
+        });
   const refused = doc.refused.filter(r => isPosition(r.text)).map(r => {
     const {Event = '', White = '', Round = ''} = tagsAfter(doc.lines, r.line);
     return missing(r.line,
@@ -271,6 +237,6 @@ export function entriesOf(doc, reviews = []) {
                          : '',
       isKnown(White) ? White : '', reason(r.reply));
   });
-  const unread = doc.lines.flatMap((_, line) => leftOutAt(doc.lines, line));
+  const unread = doc.lines.flatMap((text, line) => (text.startsWith('#! game ') ? leftOutAt(doc.lines, line) : []));
   return [...studies, ...refused, ...unread].sort((x, y) => x.line - y.line);
 }

@@ -1,31 +1,83 @@
 // @ts-check
 // The list of entries: how many there are of each kind, as a menu, and as a file.
 import {studyName} from './entries.js';
+import {FAULT_KINDS} from './fault_kinds.js';
 import {againstText} from './imported.js';
 import {wordOf} from './wording.js';
 /** @typedef {import('./entries.js').Entry} Entry */
 
-const KINDS = ['sound', 'time', 'unsound', 'wrong', 'holds', 'not read', 'left out', 'not judged'];
-const DIFFER = 'differ';
+const KINDS = ['sound', 'time', 'accepted', 'unsound', 'wrong', 'holds', 'not read', 'left out', 'not judged'];
+/** @typedef {{kind: string, against?: string[], same?: string, faults?: string[]}} Kinds */
+/**
+ * What entries are filtered by besides their verdict, with the words behind a number.
+ * @typedef {{kind: string, words: string, is: (entry: Kinds) => boolean}} More
+ */
+const MORE = /** @type {More[]} */ ([
+  ...FAULT_KINDS.map(
+    ([kind, words]) => ({kind, words, is: (/** @type {Kinds} */ {faults = []}) => faults.includes(kind)})),
+  {kind: 'differ', words: 'whose sources differ', is: ({against = []}) => against.length > 0},
+  {kind: 'same', words: 'with the position of another', is: ({same = ''}) => same !== ''}
+]);
+const moreOf = (/** @type {string} */ kind) => MORE.find(more => more.kind === kind);
 /**
  * The words of a kind in the menu.
  * @param {string} kind
  */
-export const kindWords = kind => (kind === 'time' ? wordOf('time') : kind === DIFFER ? 'whose sources differ' : kind);
+export const kindWords = kind => (kind === 'time' ? wordOf('time')
+    : kind === 'accepted'                         ? 'sound but for accepted duals'
+                                                  : (moreOf(kind) || {words: kind}).words);
 /**
- * Whether an entry is of a kind; of those whose sources of a stipulation differ, whatever its verdict.
- * @param {{kind: string, against?: string[]}} entry
+ * Whether an entry is of a kind: by its verdict, or whatever its verdict by its faults, its sources or its men.
+ * @param {Kinds} entry
  * @param {string} kind
  */
-export const isOfKind = (entry, kind) =>
-  (kind === DIFFER ? Boolean(entry.against && entry.against.length) : entry.kind === kind);
+export function isOfKind(entry, kind) {
+  const more = moreOf(kind);
+  return more ? more.is(entry) : entry.kind === kind;
+}
 /**
  * How many entries there are of each kind, those alone that there are.
- * @param {{kind: string, against?: string[]}[]} entries
+ * @param {Kinds[]} entries
  * @returns {[string, number][]}
  */
-export const countsOf = entries => /** @type {[string, number][]} */ (
-  [...KINDS, DIFFER].map(kind => [kind, entries.filter(entry => isOfKind(entry, kind)).length]).filter(([, n]) => n));
+export const countsOf = entries => /** @type {[string, number][]} */ ([...KINDS,
+  ...MORE.map(({kind}) => kind)].map(kind => [kind, entries.filter(entry => isOfKind(entry, kind)).length])
+                                                                        .filter(([, n]) => n));
+/** @param {string} text */
+const letters = text => text.normalize('NFD').replace(/\p{M}/gu, '').toLowerCase();
+/**
+ * The entries with a text in title, author or number, whatever accents and capitals it has.
+ * @param {Entry[]} entries
+ * @param {string} text
+ */
+export function findEntries(entries, text) {
+  const words = letters(text).split(/\s+/).filter(Boolean);
+  return words.length ? entries.filter(({number, title, author}) => {
+    const all = letters([number, title, author].join(' '));
+    return words.every(word => all.includes(word));
+  })
+                      : entries;
+}
+const collator = new Intl.Collator(undefined, {numeric: true});
+/** @param {Entry} entry */
+const weight = ({kind, review}) => KINDS.indexOf(kind) * 1000 + (review ? review.faults.length : 0);
+const ORDERS = /** @type {Record<string, (x: Entry, y: Entry) => number>} */ ({
+  number: (x, y) => collator.compare(x.number, y.number),
+  title: (x, y) => collator.compare(x.title, y.title),
+  author: (x, y) => collator.compare(x.author, y.author),
+  aim: (x, y) => collator.compare(x.aim, y.aim),
+  verdict: (x, y) => weight(x) - weight(y)
+});
+/**
+ * The entries in the order of a column; else as they come.
+ * @param {Entry[]} entries
+ * @param {string} by
+ * @param {boolean} back
+ */
+export function sortEntries(entries, by, back) {
+  const sorted = ORDERS[by] ? [...entries].sort(ORDERS[by]) : [...entries];
+  return back ? sorted.reverse() : sorted;
+}
 /**
  * An entry in a line of the menu: a study by its own names alone.
  * @param {import('./types.js').Study[]} studies
@@ -43,19 +95,19 @@ export function menuText(studies, {at, number, title, author, stamp}) {
 const field = value => (/[",\r\n]/.test(`${value}`) ? `"${`${value}`.replace(/"/g, '""')}"` : `${value}`);
 /**
  * The list as comma-separated values, with CR LF at the end of each line: the numbers of duals, of duals that only lose
- * time, and of defences that are not in the tree, if they are known.
+ * time, and of defences that are not in the tree, and the first fault, if they are known.
  * @param {Entry[]} entries
  */
 export function csvOf(entries) {
-  const rows = entries.map(({number, title, author, fen, aim, against, stamp, review}) => {
+  const rows = entries.map(({number, title, author, fen, aim, against, stamp, review, fault, same}) => {
     const duals = review ? review.faults.filter(f => f.kind === 'dual') : [],
           facts =
             review ? [duals.length, duals.filter(f => f.time === f.duals).length, review.missing.length] : ['', '', ''];
-    return [number, title, author, fen, aim, stamp, ...facts, against.map(againstText).join('; ')];
+    return [number, title, author, fen, aim, stamp, ...facts, against.map(againstText).join('; '), fault, same];
   });
   const head = [
     'Number', 'Title', 'Author', 'FEN', 'Stipulation', 'Verdict', 'Duals', 'Duals that lose time', 'Missing defences',
-    'Sources that differ'
+    'Sources that differ', 'First fault', 'Same position'
   ];
   return [head, ...rows].map(row => row.map(field).join(',') + '\r\n').join('');
 }

@@ -20,8 +20,8 @@ const LABELS =
   /** @type {Record<string, string>} */ (
     {Event: 'Title or source', White: 'Author', Black: 'Second name', Site: 'Site', Date: 'Date', Round: 'Entry'});
 /** @param {string} where */
-export const messageAt = where =>
-  app.say && app.say.where === where && h('p', {class: app.say.good ? 'say good' : 'say', role: 'alert'}, app.say.text);
+export const messageAt = where => app.say && app.say.where === where &&
+  h('p', app.say.good ? {class: 'say good'} : {class: 'say', role: 'alert'}, app.say.text);
 const open = {
   tags: false
 };
@@ -43,7 +43,7 @@ export function headView(s) {
           'Clear')),
     h('div', {class: 'row'}, aimView(s.aim, setAim, 'aim'), s.aim && !isAimCarried(s) && sourceView(s),
       h('span', {class: 'note'}, app.counts)),
-    s.aim && isAimCarried(s) && carriedAim(s.aim), againstView(s), languageView(s),
+    s.aim && isAimCarried(s) && carriedAim(s.aim), againstView(s), sameView(), languageView(s),
     s.place.Date !== undefined && dateNote(t.Date), lettersNote(s), messageAt('head'),
     h('details', {
       id: 'tags',
@@ -61,6 +61,10 @@ export function numberText() {
   const number = numbersOf(doc())[doc().at];
   return number && knownEntries(doc()).length > 1 ? `No. ${number}` : '';
 }
+/** Which other studies of the script have the same position. */
+export const sameText = () => (knownEntries(doc()).find(({at}) => at === doc().at) || {same: ''}).same;
+export const sameView = () =>
+  sameText() !== '' && h('p', {class: 'note differs', id: 'same'}, `It has the ${sameText()}.`);
 /**
  * Where the stipulation is from.
  * @param {Study} s

@@ -7,12 +7,18 @@ import {readReview} from './parse_answers.js';
 import {editsTo, fensOf, toText} from './script.js';
 /** @typedef {import('./types.js').Doc} Doc @typedef {import('./types.js').Review} Review */
 
-const found = /** @type {Map<string, Review | null>} */ (new Map()), MOST = 3000, MOST_UNWANTED = 200;
+const found = /** @type {Map<string, Review | null>} */ (new Map()), MOST = 20000, MOST_UNWANTED = 200;
 /**
  * The lines of each study that is judged, alone.
  * @param {Doc} d
  */
-const textsOf = d => d.studies.map(s => (s.verdict ? toText(editsTo(d.lines, s)) : ''));
+function textsOf(d) {
+  const known = texts.get(d.studies),
+        list = known || d.studies.map(s => (s.verdict ? toText(editsTo(d.lines, s)) : ''));
+  if (!known) texts.set(d.studies, list);
+  return list;
+}
+const texts = /** @type {WeakMap<any[], string[]>} */ (new WeakMap());
 let last = /** @type {{studies: any[] | null, known: number, reviews: (Review | null)[]}} */ (
   {studies: null, known: 0, reviews: []});
 /**
@@ -34,6 +40,14 @@ export function knownEntries(d) {
   if (!from.every((thing, i) => thing === listed.from[i])) listed = {from, entries: entriesOf(d, knownReviews(d))};
   return listed.entries;
 }
+/**
+ * How many studies of a long list have facts that nobody wanted yet.
+ * @param {Doc} d
+ */
+export function unknownFacts(d) {
+  const count = textsOf(d).filter(text => text && !found.has(text)).length;
+  return count > MOST_UNWANTED ? count : 0;
+}
 const pause = (/** @type {number} */ ms) => new Promise(on => setTimeout(on, ms));
 /** @param {string} text */
 async function find(text) {
@@ -49,10 +63,11 @@ async function find(text) {
  * @param {boolean} wanted
  */
 export async function reviewAll(d, wanted) {
-  const texts = textsOf(d).filter(text => text && !found.has(text)), stamp = app.stamp;
-  if (!texts.length || (!wanted && texts.length > MOST_UNWANTED)) return;
-  for (const text of texts) {
-    if (!wanted) {
+  const open = textsOf(d).filter(text => text && !found.has(text)), stamp = app.stamp;
+  if (!open.length || (!wanted && open.length > MOST_UNWANTED)) return;
+  for (const [at, text] of open.entries()) {
+    if (wanted) services.reading(at, open.length, 'Finding the faults of study');
+    else {
       await pause(40);
       if (doc().lines !== d.lines || services.facts.waiting()) return void (stamp === app.stamp && later(d));
     }
@@ -60,6 +75,7 @@ export async function reviewAll(d, wanted) {
       found.set(text, null);
     });
   }
+  services.reading(0, 0);
   services.showFacts();
   services.keep();
 }

@@ -1,26 +1,33 @@
 // @ts-check
-// The list of a script's entries with their verdicts: how many of each kind, by which it is filtered, and as a file.
-import {button, download, h, smallButton} from './dom.js';
+// The list of a script's entries with their verdicts: filtered by kind and name, sorted by each column, and as a file.
+import {$, button, download, h, put, smallButton} from './dom.js';
 import {goStudy, track} from './actions.js';
 import {doc, say, services} from './state.js';
-import {countsOf, csvOf, isOfKind, kindWords} from './entry_list.js';
+import {countsOf, csvOf, findEntries, isOfKind, kindWords, sortEntries} from './entry_list.js';
 import {againstText} from './imported.js';
 import {canBeCut, leftOutBy} from './left_out.js';
 import {openLeftOut} from './mending.js';
-import {knownEntries, reviewAll} from './list_facts.js';
-import {table} from './review_view.js';
+import {knownEntries, reviewAll, unknownFacts} from './list_facts.js';
 import {verdictsBefore} from './script.js';
+import {sheetOf} from './sheet.js';
+import {sortHead, table} from './table.js';
 import {wordOf, wordsNamed} from './wording.js';
+import {counted} from './words.js';
 /** @typedef {import('./entries.js').Entry} Entry */
 
-let filter = '';
+const COLUMNS = ['number', 'title', 'author', 'aim', 'verdict'];
+const ui = {
+  filter: '',
+  find: '',
+  order: {by: '', back: false}
+};
 /** @param {string} kind */
 function toggleFilter(kind) {
-  filter = filter === kind ? '' : kind;
+  ui.filter = ui.filter === kind ? '' : kind;
   services.show();
 }
 /** All that the list is drawn from. */
-export const listFrom = () => [knownEntries(doc()), doc().at, filter];
+export const listFrom = () => [knownEntries(doc()), doc().at, ui.filter, ui.order];
 /**
  * What opens a game that was left out, where it can be read up to a bad move.
  * @param {Entry} entry
@@ -31,7 +38,8 @@ const upToButton = ({at, line, number}) => at < 0 && canBeCut(leftOutBy(doc().li
     'open up to there', 'the moves before the bad one, to be mended', () => showLeftOut(line), {'data-upto': number})
 ];
 /**
- * The verdict; of an entry that was left out why, and what to write instead, as wide as the row has room.
+ * The verdict, its first fault, and which studies have the same position; of an entry that was left out why, and what
+ * to write instead, as wide as the row has room.
  * @param {Entry} entry
  */
 function stampView(entry) {
@@ -39,7 +47,7 @@ function stampView(entry) {
         [, stamp, more] = /^(left out: )(.*)$/.exec(entry.stamp) || ['', entry.stamp, ''];
   return [
     h('b', {class: `stamped ${entry.kind.replace(' ', '-')}`}, stamp), more && h('span', {}, more), upToButton(entry),
-    before.map(text => h('div', {class: 'note'}, text))
+    [entry.fault, entry.same, ...before].filter(Boolean).map(text => h('div', {class: 'note'}, text))
   ];
 }
 /**
@@ -50,27 +58,65 @@ const aimCell = ({aim, against}) => {
   const [words, ...source] = aim.split(/(?= \(from )/);
   return [words, [...source, ...against.map(againstText)].map(text => h('div', {class: 'note'}, text.trim()))];
 };
+/**
+ * @param {Entry} entry
+ * @param {any} number
+ */
+const cellsOf =
+  (entry, number) => [number, entry.title, entry.author, ...(entry.aim ? [aimCell(entry)] : []), stampView(entry)];
+/** @param {Entry} entry */
+function numberButton(entry) {
+  const text = entry.number || '\u2013', here = entry.at === doc().at && 'true';
+  const props = {class: 'link', 'aria-current': here, 'aria-label': !entry.number && `Show ${entry.title}`};
+  return entry.at < 0 ? text : button(text, 'show it', () => goStudy(entry.at), props);
+}
+/** The rows that are wanted, in their order. */
+function rowsView() {
+  const all = knownEntries(doc()), kind = all.filter(entry => !ui.filter || isOfKind(entry, ui.filter)),
+        shown = sortEntries(findEntries(kind, ui.find), ui.order.by, ui.order.back);
+  const set = (/** @type {import('./table.js').Order} */ order) => {
+    ui.order = order;
+    services.show();
+  };
+  const heads =
+    wordsNamed('list-heads').map((head, i) => sortHead(head.replace('pul', 'pu\u00adl'), COLUMNS[i], ui.order, set));
+  return shown.length ? table(heads, shown, entry => cellsOf(entry, numberButton(entry)))
+                      : h('p', {class: 'note'}, 'No entry has this name.');
+}
+/** What can be done with the list as a whole. */
+function toolsView() {
+  const find = h('input', {
+    id: 'findEntry',
+    type: 'search',
+    placeholder: 'find a name',
+    'aria-label': 'Find a title, an author or a number',
+    value: ui.find,
+    oninput: (/** @type {any} */ e) => {
+      ui.find = e.target.value.slice(0, 200);
+      put('rows', rowsView());
+    }
+  });
+  const unknown = unknownFacts(doc());
+  return h('p', {class: 'row act'}, find,
+    unknown > 0 &&
+      button('Find all faults', `the facts of ${counted(unknown, 'study', 'studies')} that are not known yet`,
+        () => track(reviewAll(doc(), true)), {id: 'findFaults'}),
+    button('Save list', 'as comma-separated values, with the first fault and the numbers of duals', saveList,
+      {id: 'saveList'}),
+    button('Save sheet', 'the diagrams of all studies, twelve on a page', saveSheet, {id: 'saveSheet'}));
+}
 /** The entries in a table, below the numbers of each kind. */
 export function listView() {
   const entries = knownEntries(doc()), counts = countsOf(entries);
   if (entries.length < 2) return null;
-  if (!counts.some(([kind]) => kind === filter)) filter = '';
-  const shown = entries.filter(entry => !filter || isOfKind(entry, filter));
-  const number = (/** @type {Entry} */ entry) => {
-    const text = entry.number || '\u2013', here = entry.at === doc().at && 'true';
-    const props = {class: 'link', 'aria-current': here, 'aria-label': !entry.number && `Show ${entry.title}`};
-    return entry.at < 0 ? text : button(text, 'show it', () => goStudy(entry.at), props);
-  };
-  const count = (/** @type {[string, number]} */[kind, n]) =>
-    button(`${n} ${kindWords(kind)}`, 'show these alone', () => toggleFilter(kind),
-      {class: `chip act${filter === kind ? ' on' : ''}`, 'data-kind': kind, 'aria-pressed': `${filter === kind}`});
+  if (!counts.some(([kind]) => kind === ui.filter)) ui.filter = '';
+  const count = (/** @type {[string, number]} */[kind, n]) => button(`${n} ${kindWords(kind)}`, 'show these alone',
+    () => toggleFilter(kind),
+    {class: `chip act${ui.filter === kind ? ' on' : ''}`, 'data-kind': kind, 'aria-pressed': `${ui.filter === kind}`});
   return [
     h('h2', {id: 'studiesTitle'}, wordOf('list')),
-    h('p', {class: 'row', role: 'group', 'aria-label': 'Show one kind'}, counts.map(count), h('span', {class: 'gap'}),
-      button('Save list', 'as comma-separated values, with the numbers of duals and missing defences', saveList,
-        {id: 'saveList'})),
-    table(wordsNamed('list-heads').map(head => head.replace('pul', 'pu\u00adl')), shown,
-      entry => [number(entry), entry.title, entry.author, ...(entry.aim ? [aimCell(entry)] : []), stampView(entry)])
+    h('p', {class: 'row', role: 'group', 'aria-label': 'Show one kind'}, counts.map(count)), toolsView(),
+    h('div', {id: 'rows'}, rowsView())
   ];
 }
 /** All entries, for paper. */
@@ -78,8 +124,7 @@ export function paperList() {
   const entries = knownEntries(doc());
   return entries.length > 1 && [
     h('h2', {}, wordOf('list')),
-    table(wordsNamed('list-heads'), entries,
-      entry => [entry.number, entry.title, entry.author, ...(entry.aim ? [aimCell(entry)] : []), stampView(entry)])
+    table(wordsNamed('list-heads'), entries, entry => cellsOf(entry, entry.number || '\u2013'))
   ];
 }
 /**
@@ -96,4 +141,7 @@ export const showLeftOut = line => track((async () => {
 async function saveList() {
   await reviewAll(doc(), true);
   download(`${doc().name || 'studies'}.csv`, '\ufeff' + csvOf(knownEntries(doc())));
+}
+function saveSheet() {
+  download(`${doc().name || 'studies'}.sheet.html`, sheetOf(doc(), doc().name || $('studiesTitle').textContent));
 }

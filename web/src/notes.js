@@ -209,7 +209,7 @@ function withoutOurs(comment) {
 const isOwn = movetext => OPENING.test(oneLine((/\{([^}]*)\}/.exec(movetext) || [])[1] || ''));
 
 /** Remarks that stand at moves. */
-export const AT_MOVES = new Set(['note', 'note+', 'mark']);
+export const AT_MOVES = new Set(['note', 'note+', 'mark', 'accepted']);
 /**
  * The lines of a script with the notes of a study at other moves.
  * @param {string[]} lines

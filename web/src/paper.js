@@ -5,7 +5,7 @@ import {besideDiagram, diagramOf} from './drawing.js';
 import {isKnown} from './edits.js';
 import {nameOf} from './entries.js';
 import {control, other, sideOf} from './fen.js';
-import {numberText} from './head_view.js';
+import {numberText, sameView} from './head_view.js';
 import {againstText, sourceText} from './imported.js';
 import {paperList} from './list_view.js';
 import {dualsOf, reviewView} from './review_view.js';
@@ -21,10 +21,12 @@ import {aimText, counted, difference, moveName, readAim, valueText} from './word
  * The start as a diagram, with what is to be done, the numbers of men and the GBR code, the men, and the FEN.
  * @param {string} fen
  * @param {string} aim
+ * @param {string} source      of the stipulation
  * @param {string} counts
  */
-const startView = (fen, aim, counts) => h('figure', {class: 'start'}, diagramOf(fen),
-  h('figcaption', {}, h('b', {}, aim), ' ', counts, h('br', {}), control(fen), h('br', {}), h('code', {}, fen)));
+const startView = (fen, aim, source, counts) => h('figure', {class: 'start'}, diagramOf(fen),
+  h('figcaption', {}, h('b', {}, aim), source && ` (${source})`,
+    [counts, control(fen), h('code', {}, fen)].filter(Boolean).map(line => [h('br', {}), line])));
 /** @param {Study} s */
 function headOf(s) {
   const year = (s.tags.Date || '').replace(/(\.\?\?)+$/, ''), {Round} = s.tags;
@@ -35,7 +37,8 @@ function headOf(s) {
   const against = s.origin.against.map(againstText);
   return [
     h('h1', {}, nameOf(s, 'Event') || wordOf('untitled')), by.length > 0 && h('p', {class: 'by'}, by.join(' · ')),
-    against.length > 0 && h('p', {class: 'note'}, `Compare the sources of the stipulation: ${against.join('; ')}.`)
+    against.length > 0 && h('p', {class: 'note'}, `Compare the sources of the stipulation: ${against.join('; ')}.`),
+    sameView()
   ];
 }
 /**
@@ -66,20 +69,18 @@ function dualsView(s, root) {
 }
 /** @param {Study} s */
 function studyPaper(s) {
-  const view = app.view, root = view ? view.root : null, source = sourceText(s.origin),
-        aim = s.aim ? aimText(s.aim) + (source && ` (${source})`) : 'No stipulation';
+  const view = app.view, root = view ? view.root : null, aim = s.aim ? aimText(s.aim) : 'No stipulation',
+        start = startView(root ? root.fen : s.fen, aim, sourceText(s.origin), app.counts);
   return [
-    headOf(s),
-    h('div', {class: 'first'}, startView(root ? root.fen : s.fen, aim, app.counts),
-      h('div', {}, verdictView(s), faultsView(s))),
-    h('h2', {class: 'clear'}, 'Solution'), root ? treeView(s, root) : bareView(s), root && dualsView(s, root),
-    reviewView(s, true), paperList(), h('div', {class: 'meaning'}, keyView())
+    headOf(s), h('div', {class: 'first'}, start, h('div', {}, verdictView(s), faultsView(s))), h('h2', {}, 'Solution'),
+    root ? treeView(s, root) : bareView(s), root && dualsView(s, root), reviewView(s, true), paperList(),
+    h('div', {class: 'meaning'}, keyView())
   ];
 }
 /** A set-up that is no study yet: its diagram. */
 function draftPaper() {
   const d = app.setup, fen = d ? draftFen() : '';
-  return d && Object.keys(d.men).length > 0 ? startView(fen, aimText(readAim(d.aim)), '') : null;
+  return d && Object.keys(d.men).length > 0 ? startView(fen, aimText(readAim(d.aim)), '', '') : null;
 }
 /**
  * A part of the facts, also where it is folded on the screen.
@@ -93,7 +94,7 @@ function unfold(details) {
 export function layOut() {
   const s = study(), anew = app.setup && app.setup.anew, paper = $('paper');
   put('paper', s && !anew ? studyPaper(s) : draftPaper());
-  for (const more of paper.querySelectorAll('button.more')) more.click();
+  for (let more = paper.querySelector('button.more'); more; more = paper.querySelector('button.more')) more.click();
   for (const details of paper.querySelectorAll('details')) unfold(details);
   for (const named of paper.querySelectorAll('[id]')) named.removeAttribute('id');
 }

@@ -1,7 +1,7 @@
 // @ts-check
 // The games as they are saved: those of the program with what is the author's - his names and tags, his result, his
 // comments and glyphs - in them; with the program's marks or without.
-import {hasSolution, unreadIn} from './entries.js';
+import {hasSolution, unreadIn} from './stamps.js';
 import {AT_MOVES, RESULT, TOKEN, isMoveText, looseMove, noMove, oneLine, plain} from './notes.js';
 import {cutAt, ownRemark} from './remarks.js';
 import {isOfFile} from './imported.js';
@@ -78,7 +78,7 @@ export function notesAt(remarks, items) {
         nearly = new Map([...keys].reverse().map(key => [loose(key), key])), squares = bySquares(keys);
   for (const {word: kind, rest} of remarks.map(ownRemark)) {
     const [moves, text] = cutAt(rest, ': ');
-    if (!AT_MOVES.has(kind) || !text) continue;
+    if (!AT_MOVES.has(kind) || kind === 'accepted' || !text) continue;
     const key = moves === '-' ? '' : moves,
           at = keys.has(key) ? key : nearly.get(loose(key)) || squares.get(squaresOf(key));
     if (at === undefined) continue;

@@ -6,8 +6,9 @@ import {copyLink} from './copying.js';
 import {app, doc} from './state.js';
 import {tidy} from './edits.js';
 import {copyStudy, dropStudy, moveStudy} from './study_edits.js';
-import {byCause, numbersOf, unreadIn} from './entries.js';
-import {table} from './review_view.js';
+import {byCause, numbersOf} from './entries.js';
+import {unreadIn} from './stamps.js';
+import {table} from './table.js';
 import {messageAt} from './head_view.js';
 import {diagramView} from './diagram.js';
 import {isCutLine, whyLeftOut} from './left_out.js';
@@ -37,6 +38,8 @@ const pgnView = s => h('details', {
   }
 },
   h('summary', {}, 'PGN'), h('textarea', {id: 'pgn', readonly: true, 'aria-label': 'The game as PGN'}, s.pgn));
+/** A script with more letters is put into its field once that is opened. */
+const LONG = 100000;
 /** @param {Study | undefined} s */
 function scriptView(s) {
   const script = h('textarea', {
@@ -48,12 +51,16 @@ function scriptView(s) {
     }
   });
   const kept = unrun && unrun.lines === doc().lines ? unrun.text : doc().lines.join('\n');
-  script.value = app.say && app.say.field === 'script' ? app.say.typed : kept;
+  const fill = () => {
+    script.value = app.say && app.say.field === 'script' ? app.say.typed : kept;
+  };
   const isOpen = open.script || doc().refused.length > 0 || (app.say && app.say.where === 'script');
+  if (isOpen || kept.length < LONG) fill();
   return h('details', {id: 'scriptBox', open: isOpen},
     h('summary', {
       onclick: (/** @type {any} */ e) => {
         open.script = !e.target.parentNode.open;
+        if (open.script && !script.value) fill();
       }
     },
       'Script'),

@@ -2,11 +2,12 @@
 // The verdict of a study and its faults, each with its remedies.
 import {h} from './dom.js';
 import {moveNumber, other, sideOf} from './fen.js';
+import {accept} from './accepted.js';
 import {change, go, judgeAgain} from './actions.js';
 import {app, doc} from './state.js';
 import {insert} from './board_input.js';
 import {stipulate} from './edits.js';
-import {stampOf} from './entries.js';
+import {acceptedOf, stampOf} from './stamps.js';
 import {nodeAt, allNodes} from './parse_answers.js';
 import {promote, remove} from './node_view.js';
 import {verdictsBefore} from './script.js';
@@ -44,7 +45,7 @@ export function verdictView(s) {
 /** Why there are no marks: tables are on their way, or something failed. */
 function notJudged() {
   if (!app.noView)
-    return h('p', {class: 'note', role: 'status', id: 'unjudged'},
+    return h('p', {class: 'note', id: 'unjudged'},
       'Not judged yet: its tables are being built. The marks come then, and the board follows the moves.');
   return h('p', {class: 'say', id: 'unjudged'}, `This study is not judged: ${app.noView}. `,
     / table|ables /.test(app.noView) &&
@@ -151,7 +152,23 @@ function faultView(s, root, f) {
   if (f.kind === 'mistake') return mistakeView(s, n);
   return [
     nodeLink(n), ': also ', alsoView(s, n, all.slice(0, 6)), all.length > 6 && `and ${all.length - 6} more `,
-    cut(n, 'End before it')
+    cut(n, 'End before it'), acceptView(s, root, f)
+  ];
+}
+/**
+ * The tick of a judge who accepts a dual.
+ * @param {Study} s
+ * @param {TreeNode} root
+ * @param {import('./types.js').Fault} f
+ */
+function acceptView(s, root, f) {
+  const is = acceptedOf(doc(), s, [f]).length > 0;
+  const tick = (/** @type {any} */ e) => change(
+    now => (now.studies[now.at] ? accept(now.lines, now.studies[now.at], root, f.path, e.target.checked) : null));
+  return [
+    h('label', {class: 'act tick'}, h('input', {type: 'checkbox', checked: is, onchange: tick, 'data-accept': f.path}),
+      ' accepted'),
+    is && h('i', {class: 'on-paper'}, ' (accepted)')
   ];
 }
 /**

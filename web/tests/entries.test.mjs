@@ -3,7 +3,8 @@ import './stand_in.mjs';
 import test from 'node:test';
 import assert from 'node:assert/strict';
 import {setTag} from '../src/edits.js';
-import {byCause, entriesOf, hasSolution, nameOf, newlyRefused, numbersOf, stampOf, studyName} from '../src/entries.js';
+import {byCause, entriesOf, nameOf, newlyRefused, numbersOf, studyName} from '../src/entries.js';
+import {hasSolution, stampOf} from '../src/stamps.js';
 import {countsOf, csvOf, isOfKind, menuText} from '../src/entry_list.js';
 import {readReview, readReviews} from '../src/parse_answers.js';
 import {assumeAccepted, readScript} from '../src/script.js';
@@ -42,7 +43,8 @@ test('each entry has a row and a stamp', () => {
     ],
     ['not read', 'Kh8 Pc6 / Ka6 Ph5', '', 'not read: line 18, Kz9']
   ]);
-  assert.deepEqual(countsOf(rows), [['time', 1], ['holds', 1], ['not read', 1], ['left out', 2]]);
+  assert.deepEqual(
+    countsOf(rows), [['time', 1], ['holds', 1], ['not read', 1], ['left out', 2], ['waste', 1], ['same', 3]]);
   assert.equal(stampOf(d, d.studies[0], null).text, 'unsound 1');
   assert.deepEqual(d.studies.map(s => hasSolution(d.lines, s, null)), [true, false, false]);
   assert.equal(nameOf({...d.studies[0], originals: {White: 'Réti'}}, 'White'), 'Réti');
@@ -102,12 +104,13 @@ test('an entry stays an entry: its number is its place in the file, and its stip
   assert.equal(menuText(d.studies, rows[1]), '4. Entry 4, Müller, Jürgen: left out');
   assert.equal(menuText(d.studies, {...rows[2], stamp: 'sound'}), '6. Entry 6: sound');
   assert.deepEqual(rows.filter(row => isOfKind(row, 'differ')).map(row => row.number), ['6', '11']);
-  assert.deepEqual(countsOf(rows).slice(-1), [['differ', 2]]);
+  assert.deepEqual(countsOf(rows).slice(-2), [['differ', 2], ['same', 4]]);
+  assert.equal(rows[0].same, 'same position as No. 6, No. 13, No. 11');
   const csv = csvOf(rows).split('\r\n');
-  assert.equal(csv[0].split(',').pop(), 'Sources that differ');
+  assert.ok(csv[0].endsWith('Sources that differ,First fault,Same position'));
   assert.ok(csv[1].startsWith(`2,Kh8 Pc6 / Ka6 Ph5,,${FEN},White to win (from the Result),`), csv[1]);
-  assert.ok(csv[3].endsWith(',its tag Result differs; its result differs'), csv[3]);
-  assert.ok(csv[5].endsWith(',its comment is not understood'), csv[5]);
+  assert.ok(csv[3].includes(',its tag Result differs; its result differs,,'), csv[3]);
+  assert.ok(csv[5].includes(',its comment is not understood,,'), csv[5]);
   const copied = assumeAccepted(copyStudy(ENTRIES, d.studies, 1).lines);
   assert.deepEqual(copied.studies.map(s => s.origin.game), [2, 6, 0, 0, 11]);
   const moved = assumeAccepted(moveStudy(ENTRIES, d.studies, 0, 1).lines);
@@ -116,8 +119,12 @@ test('an entry stays an entry: its number is its place in the file, and its stip
 test('the list as comma-separated values', () => {
   const text = csvOf(entriesOf(doc(['unsound 1', 'sound', 'sound']), readReviews(REVIEW)));
   const [, first, second] = text.split('\r\n');
-  assert.equal(first, `10,"A, ""first""",Reti,${FEN},White to win,sound but for loss of time,1,1,1,`);
-  assert.equal(second, `11,B,Reti (set for an earlier study),${FEN},White to win (set for an earlier study),holds,,,,`);
+  assert.equal(first,
+    `10,"A, ""first""",Reti,${
+      FEN},White to win,sound but for loss of time,1,1,1,,1. Kg7,"same position as No. 11, a study without a number"`);
+  assert.equal(second,
+    `11,B,Reti (set for an earlier study),${
+      FEN},White to win (set for an earlier study),holds,,,,,,"same position as No. 10, a study without a number"`);
   assert.equal(text.split('\r\n').length, 7);
 });
 test('a name that was refused is not that of the study before, and facts of a part are not those of the entry', () => {

@@ -1,0 +1,70 @@
+// @ts-check
+// Duals that a judge accepts: a tick at each, kept as a remark of the script at the moves that lead to it.
+import {plain} from './notes.js';
+import {cutAt, ownRemark} from './remarks.js';
+/** @typedef {import('./types.js').Study} Study */
+/** @typedef {{path: string, san: string, children: Node[]}} Node      of a tree, whether it is judged or not */
+
+/** @param {string} line */
+const movesOf = line => {
+  const {word, rest} = ownRemark(line);
+  return word === 'accepted' ? cutAt(rest, ':')[0] : '';
+};
+/**
+ * The moves that lead to a node.
+ * @param {Node} root
+ * @param {string} path
+ */
+function movesTo(root, path) {
+  const moves = [];
+  let node = /** @type {Node | undefined} */ (root);
+  for (const place of path.split('.')) {
+    node = node && node.children[Number(place)];
+    moves.push(node ? plain(node.san) : '');
+  }
+  return moves.join(' ');
+}
+/**
+ * The paths of the duals that are accepted, among some.
+ * @param {string[]} lines
+ * @param {{head: number, from: number}} study
+ * @param {Node} root
+ * @param {string[]} paths
+ */
+export function acceptedAmong(lines, study, root, paths) {
+  const ticked = new Set(lines.slice(study.head, study.from).map(movesOf).filter(Boolean));
+  return ticked.size ? paths.filter(path => ticked.has(movesTo(root, path))) : [];
+}
+/**
+ * Whether some dual of a study is accepted, whatever became of its moves.
+ * @param {string[]} lines
+ * @param {{head: number, from: number}} study
+ */
+export const hasAccepted = (lines, study) => lines.slice(study.head, study.from).some(movesOf);
+/**
+ * The lines of a script once a dual is accepted, or is not any more.
+ * @param {string[]} lines
+ * @param {Study} study
+ * @param {Node} root
+ * @param {string} path
+ * @param {boolean} yes
+ * @returns {import('./types.js').Change}
+ */
+export function accept(lines, study, root, path, yes) {
+  const moves = movesTo(root, path), head = lines.slice(study.head, study.from).filter(line => movesOf(line) !== moves);
+  const tick = yes ? [`#! accepted ${moves}: dual`] : [];
+  return {lines: [...lines.slice(0, study.head), ...head, ...tick, ...lines.slice(study.from)]};
+}
+/**
+ * The stamp of a study with duals that are accepted: of all faults, or of some.
+ * @param {string} text      the stamp without them
+ * @param {number} accepted
+ * @param {number} faults
+ * @returns {{kind: string, text: string} | null}
+ */
+export function acceptedStamp(text, accepted, faults) {
+  if (!accepted) return null;
+  return accepted === faults
+    ? {kind: 'accepted', text: `sound but for ${accepted} accepted ${accepted === 1 ? 'dual' : 'duals'}`}
+    : {kind: 'unsound', text: `${text}, ${accepted} accepted`};
+}

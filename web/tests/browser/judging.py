@@ -1,0 +1,185 @@
+"""What judges and editors do, and what goes on paper: in headless Chromium, by mouse and keys.
+
+    judging.py TABLES [NAME ..]
+
+TABLES has those of two and three men at least.
+"""
+import base64
+import os
+import re
+import subprocess
+import sys
+import tempfile
+
+from user import By, Keys, run
+
+TABLES = os.path.abspath(sys.argv[1])
+FEN = "8/8/8/6k1/8/8/1P5K/8 w - - 0 1"
+MIRRORED = "8/8/8/1k6/8/8/K5P1/8 w - - 0 1"
+SMALL = "KK KQK KRK KBK KNK KPK".split()
+GAME = '[Event "{event}"]\n[White "{author}"]\n[Result "{result}"]\n[FEN "{fen}"]\n\n{moves} {result}\n\n'
+PGN = (
+    GAME.format(event="One", author="Réti, R.", fen=FEN, result="1-0", moves="{Quiet.} 1. Kg3! {The only move} Kf5")
+    + GAME.format(event="Two", author="Čech, A.", fen=MIRRORED, result="1-0", moves="1. Kb3 Kb6 2. Kc4")
+    + GAME.format(event="Three", author="Novák", fen=FEN, result="1-0", moves="1. b4 Kf6")
+    + GAME.format(event="Four", author="Novák", fen="8/3k4/8/3KP3/8/8/8/8 w - - 0 1", result="1-0", moves="1. Kh9")
+)
+ROWS = "return [...document.querySelectorAll('#list tbody tr')].map(r => r.cells[1].innerText.split('\\n')[0])"
+SMALLER = """return [...document.querySelectorAll('button, select, input, summary, textarea')]
+    .filter(e => e.offsetParent).map(e => [e.id || e.textContent, e.getBoundingClientRect()])
+    .filter(([, r]) => r.width < 43.5 || r.height < 43.5).map(([name, r]) => [name, r.width, r.height])"""
+HEARD = "return document.getElementById('spoken').textContent.trim()"
+
+
+def opened(user, text=PGN):
+    user.open_tables(TABLES, SMALL)
+    user.open_file("entries.pgn", text)
+    user.until("document.getElementById('stamp')", 60)
+    user.settle()
+    user.until("[...document.querySelectorAll('#list .stamped')].length > 3", 60)
+    user.until("document.querySelector('[data-kind=cook], [data-kind=main], [data-kind=fails]')", 60)
+
+
+def script(user):
+    return user.promise("studyboard.script()").split("\n")
+
+
+def pages(user, name):
+    """The page as a PDF, as the browser prints it: its text; SHOTS has its first page as a picture."""
+    paper = {"printBackground": False, "paperWidth": 8.27, "paperHeight": 11.7}
+    done = user.d.execute_cdp_cmd("Page.printToPDF", paper)
+    folder = os.environ.get("SHOTS") or tempfile.mkdtemp()
+    os.makedirs(folder, exist_ok=True)
+    path = os.path.join(folder, name + ".pdf")
+    with open(path, "wb") as file:
+        file.write(base64.b64decode(done["data"]))
+    try:
+        subprocess.run(["pdftoppm", "-r", "60", "-png", path, path[:-4]], check=True)
+        return subprocess.run(["pdftotext", "-layout", path, "-"], stdout=subprocess.PIPE, check=True, text=True).stdout
+    except FileNotFoundError:
+        return None  # no poppler-utils
+
+
+def test_paper(user):
+    """Whatever node is shown, in light and in dark: the start with its men, its FEN and its code, and the facts in the
+    order of the report; and the page is as before once it is printed."""
+    opened(user)
+    user.go("0.0")
+    before = user.text("middle")
+    for name in ("paper_light", "paper_dark"):
+        text = pages(user, name)
+        if text is None:
+            return
+        order = ["One", "White to win (from the Result)", "2 + 1, 0000.10 h2g5", "Kh2 Pb2 / Kg5", FEN, "Solution",
+                 "Quiet.", "The only move", "Mutual zugzwangs", "Defences that are not in the tree",
+                 "Best play from the open ends", "Entries and verdicts", "Two"]
+        flat = re.sub(r"\s+", " ", text)
+        places = [flat.find(words) for words in order]
+        assert -1 not in places, [words for words, at in zip(order, places) if at < 0]
+        assert places[5:] == sorted(places[5:]), list(zip(order, places))
+        assert "After 1... Kf5" not in flat and "Save report" not in flat and "accepted" not in flat
+        user.click("theme")
+    assert user.text("middle") == before and not user.js("return document.getElementById('paper').children.length")
+
+
+def test_words(user):
+    """The comments and signs of a PGN are shown; others are written at a node and above the study, and saved."""
+    opened(user)
+    assert "Quiet." in user.text("tree") and "The only move" in user.text("tree")
+    user.go("0.0")
+    user.fill("note", "Black goes to the pawn.")
+    user.choose("signOfMove", "$5")
+    assert "Black goes to the pawn." in user.text("tree") and "!?" in user.text("tree")
+    user.go("root")
+    user.fill("note", "A quiet study")
+    user.picture("words", whole=False)
+    lines = script(user)
+    for line in ("#! note -: A quiet study", "#! note Kg3 Kf5: $5", "#! note Kg3 Kf5: Black goes to the pawn."):
+        assert line in lines, lines
+    assert "#! note -: Quiet." not in lines
+    saved = re.sub(r"\s+", " ", user.download("savePgn")[1])
+    assert ". A quiet study} 1. Kg3 $1 {The only move. White mates in 27} 1... Kf5 $5 {Black goes to the pawn." in saved
+    plain = re.sub(r"\s+", " ", user.download("savePlain")[1])
+    assert "{A quiet study} 1. Kg3 $1 {The only move} 1... Kf5 $5 {Black goes to the pawn.} 1-0" in plain, plain
+    for _ in range(3):
+        user.click("undo")
+        user.settle()
+    assert "Black goes" not in user.text("tree") and "Quiet." in user.text("tree")
+
+
+def test_the_list(user):
+    """It sorts by each column, finds names, filters by kinds of faults, and says which have the same position."""
+    opened(user)
+    assert user.js(ROWS) == ["One", "Two", "Three", "Four"]
+    sort = "#list [data-sort='{}']"
+    for column, names in (("title", ["Four", "One", "Three", "Two"]), ("author", ["Two", "Three", "Four", "One"])):
+        user.d.find_element(By.CSS_SELECTOR, sort.format(column)).click()
+        user.settle()
+        assert user.js(ROWS) == names, user.js(ROWS)
+    user.d.find_element(By.CSS_SELECTOR, sort.format("number")).click()
+    user.by("findEntry").send_keys("novak")
+    assert user.js(ROWS) == ["Three", "Four"]
+    user.by("findEntry").send_keys(Keys.BACK_SPACE * 5)
+    user.settle()
+    user.d.find_element(By.CSS_SELECTOR, "[data-kind=fails]").click()
+    user.settle()
+    assert user.js(ROWS) == ["Three"] and "1. b4 lets the aim go" in user.text("list"), user.text("list")
+    user.d.find_element(By.CSS_SELECTOR, "[data-kind=fails]").click()
+    user.settle()
+    assert "same position as No. 2 (mirrored), No. 3" in user.text("list"), user.text("list")
+    assert "It has the same position as No. 2 (mirrored), No. 3." == user.text("same")
+    user.picture("judging_list", whole=False)
+    name, text = user.download("saveSheet")
+    assert name == "entries.checked.sheet.html" and text.count("<figure>") == 3 and "1. White to win" in text
+    name, text = user.download("saveList")
+    assert "First fault,Same position" in text and "1. b4 lets the aim go" in text
+
+
+def test_accepted_duals(user):
+    """A tick at a dual is kept as a remark, and the verdict says so."""
+    opened(user)
+    user.d.find_element(By.XPATH, "//*[@id='rows']//button[.='2']").click()
+    user.settle()
+    user.until("document.querySelector('[data-accept]')", 60)
+    duals = len(user.d.find_elements(By.CSS_SELECTOR, "[data-accept]"))
+    for at in range(duals):
+        user.d.find_elements(By.CSS_SELECTOR, "[data-accept]")[at].click()
+        user.settle()
+        user.until("document.querySelectorAll('[data-accept]').length", 60)
+    words = "1 accepted dual" if duals == 1 else f"{duals} accepted duals"
+    assert user.text("stamp") == f"sound but for {words}", user.text("stamp")
+    assert sum(line.startswith("#! accepted Kb3 ") for line in script(user)) == duals
+    assert f"1 sound but for accepted duals" in user.text("list")
+    user.picture("accepted", whole=False)
+    assert "accepted" in (pages(user, "accepted") or "accepted")
+
+
+def test_what_is_heard(user):
+    """One region says the move with its mark and value, and the verdict; a set-up too; and no other is live."""
+    opened(user)
+    live = "return [...document.querySelectorAll('[role=status], [aria-live]')].map(e => e.id)"
+    assert user.js(live) == ["spoken"], user.js(live)
+    user.go("0")
+    user.until("document.getElementById('spoken').textContent.includes('g3')", 10)
+    assert user.js(HEARD).startswith("white king g3, the only move that holds, White mates in 27"), user.js(HEARD)
+    assert "The only move" in user.js(HEARD)
+    user.d.find_element(By.XPATH, "//*[@id='rows']//button[.='3']").click()
+    user.until("document.getElementById('spoken').textContent.includes('Verdict: unsound')", 30)
+    user.click("setUp")
+    user.until("document.getElementById('spoken').textContent.includes('White to win: holds')", 30)
+
+
+def test_targets_on_a_phone(user):
+    user.end()
+    user.__init__(phone=True)
+    opened(user)
+    user.go("0")
+    assert not user.js(SMALLER), user.js(SMALLER)
+    assert user.js("return document.documentElement.scrollWidth") <= 390
+    user.picture("phone_targets")
+    user.click("setUp")
+    user.settle()
+    assert not user.js(SMALLER), user.js(SMALLER)
+
+
+run(globals(), sys.argv[2:])

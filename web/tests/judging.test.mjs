@@ -1,0 +1,92 @@
+// What a judge has of a list: kinds of faults, duals that are accepted, the same position twice, names and orders.
+import './stand_in.mjs';
+import test from 'node:test';
+import assert from 'node:assert/strict';
+import {accept, acceptedStamp} from '../src/accepted.js';
+import {differences} from '../src/comparing.js';
+import {entriesOf} from '../src/entries.js';
+import {countsOf, findEntries, isOfKind, sortEntries} from '../src/entry_list.js';
+import {faultKind} from '../src/fault_kinds.js';
+import {readReview, readView} from '../src/parse_answers.js';
+import {samePositions, sameText} from '../src/same_positions.js';
+import {assumeAccepted} from '../src/script.js';
+import {bareTree} from '../src/unmarked.js';
+
+const FEN = '7K/8/k1P5/7p/8/8/8/8 w - - 0 1', MIRRORED = 'K7/8/5P1k/p7/8/8/8/8 w - - 0 1',
+      COLOURS = '8/8/8/8/7P/K1p5/8/7k b - - 0 1';
+/** Moves of Réti's study of 1921, with faults that are made up. */
+const LINES = [
+  `position ${FEN}`, 'stipulate white win', 'tag Event Réti', 'tag White Réti, Richard', 'insert root Kg7',
+  'insert 0 h4', 'insert 0.0 Kf6', 'insert 0 Kb6', 'insert 0.1 Kf6', 'insert 0.1.0 h4', 'insert 0.1.0.0 Ke7', 'pgn', '',
+  `position ${MIRRORED}`, 'stipulate white draw', 'tag Event Opposition', 'tag White Čech', 'insert root Kb7', 'pgn',
+  '', `position ${COLOURS}`, 'stipulate black draw', 'tag Event Third', 'tag White A', 'insert root Kg2', 'pgn'
+];
+const REVIEW = readReview('study 1 x\nfault 0.0.0 Kf6 win 3 dual 1 time 0\nfault 0.1.0.0.0 Ke7 draw dual 2 time 2\n' +
+  'also 0.0.0 Kf7 win 3 -\nalso 0.1.0.0.0 Ke6 draw time 1\nalso 0.1.0.0.0 Kd6 draw time 1\n');
+const judged = lines => {
+  const d = {...assumeAccepted(lines), at: 0, path: 'root', name: '', id: 'x', note: '', judged: true};
+  for (const s of d.studies) s.verdict = 'sound';
+  d.studies[0].verdict = 'unsound 2';
+  return d;
+};
+const [first] = judged(LINES).studies, root = bareTree(LINES.slice(0, first.end));
+
+test('kinds of faults, and the worst one in words', () => {
+  const [row] = entriesOf(judged(LINES), [REVIEW]);
+  assert.deepEqual([row.faults, row.fault], [['main', 'waste'], '2. Kf6: also Kf7']);
+  assert.deepEqual(countsOf([row]), [['unsound', 1], ['main', 1], ['waste', 1], ['same', 1]]);
+  const fault = (path, kind, duals = 1, time = 0) => faultKind({path, kind, duals, time}, true);
+  assert.deepEqual(
+    [
+      fault('0', 'mistake'), fault('0', 'dual'), fault('0.0.0', 'dual'), fault('0.1.0', 'dual'),
+      fault('0', 'dual', 2, 2)
+    ],
+    ['fails', 'cook', 'main', 'side', 'waste']);
+  assert.equal(faultKind({path: '0.0', kind: 'dual', duals: 1, time: 0}, false), 'cook');
+});
+test('a dual that is accepted is kept as a remark, and said', () => {
+  let d = judged(LINES);
+  for (const [path, stamp, kind, faults] of [['0.0.0', 'unsound 2, 1 accepted', 'unsound', ['waste']],
+         ['0.1.0.0.0', 'sound but for 2 accepted duals', 'accepted', []]]) {
+    d = judged(accept(d.lines, d.studies[0], root, path, true).lines);
+    const [row] = entriesOf(d, [REVIEW]);
+    assert.deepEqual([row.stamp, row.kind, row.faults], [stamp, kind, faults]);
+  }
+  assert.deepEqual(d.lines.slice(0, 2), ['#! accepted Kg7 h4 Kf6: dual', '#! accepted Kg7 Kb6 Kf6 h4 Ke7: dual']);
+  const {lines} = accept(d.lines, d.studies[0], root, '0.0.0', false);
+  assert.equal(entriesOf(judged(lines), [REVIEW])[0].stamp, 'unsound 2, 1 accepted');
+  assert.equal(acceptedStamp('unsound 1', 1, 1).text, 'sound but for 1 accepted dual');
+  const away = lines.map(line => (line === 'insert 0.1.0 h4' ? 'insert 0.1.0 Kc7' : line));
+  assert.equal(entriesOf(judged(away), [REVIEW])[0].stamp, 'unsound 2');
+});
+test('the same position as it is, mirrored, with colours exchanged', () => {
+  const same = samePositions([FEN, MIRRORED, COLOURS, FEN, '7K/8/k1P5/7p/8/8/8/8 b - - 0 1']);
+  assert.deepEqual(same.map(({first}) => first.map(({at, how}) => `${at} ${how}`.trim())), [
+    ['1 mirrored', '2 colours exchanged', '3'], ['0 mirrored', '2 mirrored, colours exchanged', '3 mirrored'],
+    ['0 colours exchanged', '1 mirrored, colours exchanged', '3 colours exchanged'],
+    ['0', '1 mirrored', '2 colours exchanged'], []
+  ]);
+  assert.equal(sameText(same[1], ['2', '5', '12', '']),
+    'same position as No. 2 (mirrored), No. 12 (mirrored, colours exchanged), a study without a number (mirrored)');
+});
+test('names are found whatever their accents, and each column sorts', () => {
+  const rows = entriesOf(judged(LINES), [REVIEW]), names = list => list.map(({title}) => title);
+  assert.deepEqual(names(findEntries(rows, 'reti')), ['Réti']);
+  assert.deepEqual(names(findEntries(rows, 'ČECH opp')), ['Opposition']);
+  assert.deepEqual(names(findEntries(rows, '')).length, 3);
+  assert.deepEqual(names(sortEntries(rows, 'title', false)), ['Opposition', 'Réti', 'Third']);
+  assert.deepEqual(names(sortEntries(rows, 'author', true)), ['Réti', 'Opposition', 'Third']);
+  assert.deepEqual(names(sortEntries(rows, 'verdict', false)).pop(), 'Réti');
+  assert.deepEqual(names(sortEntries(rows, 'number', true)), ['Third', 'Opposition', 'Réti']);
+  assert.ok(rows.every(row => isOfKind(row, 'same')));
+});
+test('two versions differ in these moves', () => {
+  const view = (...rows) =>
+    readView(`study ${FEN}\n${rows.map(row => `node ${row} 0 ${FEN}\n`).join('')}`.replace(/0 (7K)/g, '0 0 $1'));
+  const one = view('root - - draw reply', '0 Kg7 h8g7 draw only', '0.0 h4 h5h4 draw reply', '1 c7 c6c7 loss 9 mistake'),
+        two = view('root - - draw reply', '0 Kg7 h8g7 draw dual 1', '0.0 Kb6 a6b6 draw reply');
+  assert.deepEqual(differences(one.root, two.root, ['White', 'White']).map(({name, said}) => [name, ...said]), [
+    ['1. Kg7', 'the only move that holds', 'dual: one other move holds'], ['1. h4', 'given', 'not given'],
+    ['1. Kb6', 'not given', 'given'], ['1. c7', 'lets the aim go', 'not given']
+  ]);
+});
