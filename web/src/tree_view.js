@@ -26,7 +26,7 @@ function moveView(s, n, first) {
   return h('span', {class: 'mv'},
     h('button', {class: `m ${n.mark}`, 'data-path': n.path, title, 'aria-label': `${moveName(n)}: ${title}`},
       num + n.san, sign && h('b', {}, sign)),
-    own && h('span', {class: 'sign', title: 'the author\'s sign'}, own),
+    own && h('span', {class: 'sign', title: 'the author\'s sign'}, `[${own}]`),
     s.aim && h('sub', {}, valueSign(s.aim.hero, sideOf(n.fen), n.value)),
     n.mark === 'dual' && h('span', {class: 'tag'}, `dual ${n.duals}`),
     n.zugzwang && h('span', {class: 'tag zugzwang', title: `mutual zugzwang: ${zugzwangText(n.zugzwang)}`}, '⊙'));
