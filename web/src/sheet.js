@@ -9,8 +9,9 @@ import {aimText} from './words.js';
 
 const STYLE =
   `@page{size:A4;margin:12mm}body{font:11px/1.3 "Liberation Serif","Times New Roman",serif;margin:0;color:#111}
-.sheet{display:grid;grid-template-columns:repeat(3,1fr);gap:5mm 7mm}figure{margin:0;break-inside:avoid}
-figcaption{min-height:13mm}svg{width:100%;height:auto;display:block}.lt{fill:#fff}.dk{fill:#c9c9c9}
+.sheet{display:grid;grid-template-columns:repeat(3,1fr);gap:4mm 7mm}
+figure{margin:0 auto;width:51mm;break-inside:avoid}
+figcaption{min-height:10mm}svg{width:100%;height:auto;display:block}.lt{fill:#fff}.dk{fill:#c9c9c9}
 .fr{fill:none;stroke:#111;stroke-width:1.6}use{stroke:#111;stroke-width:1.5;stroke-linejoin:round;stroke-linecap:round}
 use.w{fill:#fff;--in:#111}use.b{fill:#1c1a18;--in:#fff}symbol .i{fill:none;stroke:var(--in)}
 symbol .d{fill:var(--in);stroke:none}symbol .x{fill:none;stroke-width:2.6;stroke:#111}.defs{position:absolute}`;
