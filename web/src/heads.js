@@ -3,7 +3,7 @@
 // another one it is.
 import {studyName} from './entries.js';
 import {stampOf} from './stamps.js';
-import {countsOf} from './entry_list.js';
+import {countsOf, kindWords} from './entry_list.js';
 import {control} from './fen.js';
 import {counted} from './words.js';
 /** @typedef {import('./types.js').Doc} Doc @typedef {import('./types.js').KeptDraft} KeptDraft */
@@ -37,7 +37,7 @@ import {counted} from './words.js';
 export function summary(doc, reviews = []) {
   const {studies} = doc, stamps = studies.map((s, i) => stampOf(doc, s, reviews[i] || null));
   const counts =
-    countsOf(stamps).filter(([kind]) => kind !== 'not judged').map(([kind, n]) => `${n} ${kind}`).join(', ');
+    countsOf(stamps).filter(([kind]) => kind !== 'not judged').map(([kind, n]) => `${n} ${kindWords(kind)}`).join(', ');
   return {
     title: (studies[0] ? studyName(studies[0]) : '') +
       (studies.length > 1 ? ` and ${counted(studies.length - 1, 'more study', 'more studies')}` : ''),
