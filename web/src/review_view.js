@@ -62,7 +62,7 @@ export function reviewView(s, paper = false) {
     return app.noReview ? h('p', {class: 'note'}, `The facts were not found: ${app.noReview}.`)
                         : h('p', {class: 'note'}, 'The facts are being found …');
   return [
-    !paper && dualsView(s, review, view.root), triesView(s, review, view.root), zugzwangView(view.root),
+    !paper && dualsView(s, review, view.root), triesView(s, review, view.root, paper), zugzwangView(view.root),
     defencesView(s, review, view.root), endsView(review, view.root)
   ];
 }
@@ -81,24 +81,29 @@ function dualsView(s, review, root) {
  * @param {Study} s
  * @param {Review} review
  * @param {TreeNode} root
+ * @param {boolean} paper
  */
-function triesView(s, review, root) {
+function triesView(s, review, root, paper) {
   const rows = byNode(review.refuted, root).sort((x, y) => depth(x[0]) - depth(y[0])), wrong = s.verdict === 'wrong';
   return rows.length > 0 &&
     section('tries', wrong ? 'What refutes the moves' : wordOf('tries'), null,
-      table([...wordsNamed('tries-heads'), 'In the tree'], rows, ([n, list]) => tryView(n, list)));
+      table(
+        [...wordsNamed('tries-heads'), 'In the tree'], rows, ([n, list]) => tryView(n, list, paper ? s.aim : null)));
 }
 /**
  * @param {TreeNode} n
  * @param {import('./types.js').Refutation[]} list
+ * @param {import('./types.js').Aim | null} aim      on paper, where all moves are given with their values
  */
-function tryView(n, list) {
+function tryView(n, list, aim) {
   const given = n.children.map(c => c.san), stalemate = list.some(r => r.value === null),
         refuting = list.filter(r => r.value !== null).map(r => r.san);
-  const open = refuting.filter(san => !given.includes(san)), one = refuting.length === 1;
+  const open = refuting.filter(san => !given.includes(san)), one = refuting.length === 1, after = other(sideOf(n.fen));
   const cell = stalemate ? 'stalemate' : [
-    open.slice(0, 10).map(san => add(n.path, [san], san)), open.length > 10 && ` and ${open.length - 10} more`,
-    one && !open.length && refuting[0], one ? h('b', {}, ' only') : h('small', {}, ` (${refuting.length} in all)`)
+    aim ? list.map(({san, value}) => [h('b', {}, san), value && h('sub', {}, valueSign(aim.hero, after, value)), ' '])
+        : open.slice(0, 10).map(san => add(n.path, [san], san)),
+    !aim && open.length > 10 && ` and ${open.length - 10} more`, !aim && one && !open.length && refuting[0],
+    one ? h('b', {}, ' only') : h('small', {}, ` (${refuting.length} in all)`)
   ];
   return [
     nodeLink(n), valueText(sideOf(n.fen), n.value), cell,
