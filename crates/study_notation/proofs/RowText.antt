@@ -126,9 +126,9 @@ length-ranks_text men (suc k) =
     let there : occupied men (0 + 8 * (k + 1)) 8 ≡ occupied men (8 * suc k) 8 = ap (λ a. occupied men a 8) f in
     rw e (omega (arith, sum, there, length-append (rank_field men (suc k)) (47 ∷ ranks_text men k), length-rank_field men (suc k), length-ranks_text men k))
 
-pub length-placement_text : (men : List Man) → length men ≤ 4 → length (placement_text men) ≤ 23
+pub placement_is_short : (men : List Man) → length men ≤ 4 → length (placement_text men) ≤ 23
 unfolding placement_text
-length-placement_text men few = omega (arith, length-ranks_text men 7, occupied-le men 0 64)
+placement_is_short men few = omega (arith, length-ranks_text men 7, occupied-le men 0 64)
 
 -- the text after a rank: a stroke and the ranks below it
 unfoldable pub below : List Man → ℕ → List ℕ

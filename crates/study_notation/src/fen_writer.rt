@@ -47,9 +47,9 @@ fn find_piece(men: &[Man], at: u8) -> Option<Piece>
 }
 
 /// One digit for a run of empty squares.
-fn push_run(out: &mut ArrayString<64>, n: u8)
+fn push_run<const N: usize>(out: &mut ArrayString<N>, n: u8)
     requires small { n ≤ 8 }
-    requires room { array_string_len out.old + length (run n) ≤ 64 }
+    requires room { array_string_len out.old + length (run n) ≤ N }
     ensures { out.new.bytes ≡ out.old.bytes ++ run n }
 {
     if n > 0 {
@@ -58,9 +58,9 @@ fn push_run(out: &mut ArrayString<64>, n: u8)
 }
 
 /// The squares of a rank.
-fn write_rank(out: &mut ArrayString<64>, men: &[Man], rank: u8)
+fn write_rank<const N: usize>(out: &mut ArrayString<N>, men: &[Man], rank: u8)
     requires low { rank < 8 }
-    requires room { array_string_len out.old + length (rank_field men.now rank) ≤ 64 }
+    requires room { array_string_len out.old + length (rank_field men.now rank) ≤ N }
     ensures { out.new.bytes ≡ out.old.bytes ++ rank_field men.now rank }
 {
     let mut empty = 0u8;
@@ -77,8 +77,9 @@ fn write_rank(out: &mut ArrayString<64>, men: &[Man], rank: u8)
     push_run(out, empty);
 }
 
-fn push_number(out: &mut ArrayString<64>, n: u16)
-    requires { array_string_len out.old + 5 ≤ 64 }
+/// Adds a number in decimal digits.
+pub fn push_number<const N: usize>(out: &mut ArrayString<N>, n: u16)
+    requires { array_string_len out.old + 5 ≤ N }
     ensures bytes { out.new.bytes ≡ out.old.bytes ++ decimal n }
     ensures len { array_string_len out.new ≤ array_string_len out.old + 5 }
 {
@@ -86,8 +87,9 @@ fn push_number(out: &mut ArrayString<64>, n: u16)
     out.push_str(buffer.format(n));
 }
 
-fn push_passed(out: &mut ArrayString<64>, passed: Option<Square>)
-    requires room { array_string_len out.old + 2 ≤ 64 }
+/// Adds the passed square, or `-`.
+pub fn push_passed<const N: usize>(out: &mut ArrayString<N>, passed: Option<Square>)
+    requires room { array_string_len out.old + 2 ≤ N }
     ensures bytes { out.new.bytes ≡ out.old.bytes ++ passed_text passed }
     ensures len { array_string_len out.new ≤ array_string_len out.old + 2 }
 {
@@ -98,11 +100,11 @@ fn push_passed(out: &mut ArrayString<64>, passed: Option<Square>)
 }
 
 /// The ranks, the eighth first, separated by strokes.
-fn write_placement(out: &mut ArrayString<64>, men: &[Man])
-    requires few { length men.now ≤ 4 }
+pub fn write_placement<const N: usize>(out: &mut ArrayString<N>, men: &[Man])
+    requires room { length (placement_text men.now) ≤ N }
     requires empty { out.old.bytes ≡ [] }
     ensures bytes { out.new.bytes ≡ placement_text men.now }
-    ensures len { array_string_len out.new ≤ 23 }
+    ensures len { array_string_len out.new ≡ length (placement_text men.now) }
 {
     write_rank(out, men, 7);
     for down in 1..8u8 {
@@ -111,7 +113,8 @@ fn write_placement(out: &mut ArrayString<64>, men: &[Man])
     }
 }
 
-fn side_letter(side: Side) -> u8
+/// The letter of the side to move.
+pub fn side_letter(side: Side) -> u8
     ensures value { result ∷ [] ≡ side_text side }
     ensures ascii { result < 128 }
 {
@@ -125,7 +128,7 @@ fn side_letter(side: Side) -> u8
 ///
 /// Six fields separated by one space, `-` for castling, one digit for each run of empty squares, the passed square whenever the position
 /// has one, and numbers without leading zeros.
-#[tactic(auto, unfolding(crate::specs::FenSpelling::fen_text))]
+#[tactic(auto, unfolding(crate::specs::FenSpelling::fen_text), using(crate::proofs::RowText::placement_is_short))]
 pub fn write_fen(start: &Start) -> ArrayString<64>
     ensures { result.bytes ≡ fen_text start.now }
 {

@@ -24,11 +24,17 @@ mod start;
 pub use digits::read_digits;
 pub use fault::{FenFault, SanFault};
 pub use fen_reader::read_fen;
-pub use fen_writer::write_fen;
+pub use fen_writer::{push_number, push_passed, side_letter, write_fen, write_placement};
+pub use fields::{FenFields, is_dash, read_count, read_passed, read_side, split_fields};
 pub use laws::{
     fen_is_read_again, fen_is_settled, san_is_read_again, san_is_read_exactly,
     san_parts_are_spelled,
 };
-pub use san_reader::read_san;
-pub use san_writer::write_san;
-pub use start::Start;
+pub use placement::read_placement;
+pub use push_text::{push_byte, push_square};
+pub use san::San;
+pub use san_parser::parse_san;
+pub use san_parts::is_ending;
+pub use san_reader::{fits_given, fits_takes, read_san};
+pub use san_writer::{push_kind, push_promotion, push_takes, write_san};
+pub use start::{Start, number_after, one_more};

@@ -79,7 +79,8 @@ fn agrees(p: &Position, san: &San, man: &Man, m: &Move) -> bool
         )
 }
 
-fn fits_given(given: Option<u8>, n: u8) -> bool
+/// Whether a file or rank, if it is written, is this one.
+pub fn fits_given(given: Option<u8>, n: u8) -> bool
     ensures { result ≡ fits_given given n }
 {
     match given {
@@ -89,7 +90,7 @@ fn fits_given(given: Option<u8>, n: u8) -> bool
 }
 
 /// Whether an `x`, written or not, agrees with a move.
-fn fits_takes(written: bool, capture: bool, pawn: bool) -> bool
+pub fn fits_takes(written: bool, capture: bool, pawn: bool) -> bool
     ensures { result ≡ fits_takes written capture pawn }
 {
     if capture { written || !pawn } else { !written }

@@ -46,8 +46,9 @@ fn push_san(out: &mut ArrayString<8>, san: &San)
     push_promotion(out, san.promoted);
 }
 
-fn push_kind(out: &mut ArrayString<8>, kind: Kind)
-    requires { array_string_len out.old < 8 }
+/// Adds the letter of a piece; of a pawn, nothing.
+pub fn push_kind<const N: usize>(out: &mut ArrayString<N>, kind: Kind)
+    requires { array_string_len out.old < N }
     ensures bytes { out.new.bytes ≡ out.old.bytes ++ kind_text kind }
     ensures len { array_string_len out.new ≤ array_string_len out.old + 1 }
 {
@@ -77,8 +78,9 @@ fn push_origin(out: &mut ArrayString<8>, file: Option<u8>, rank: Option<u8>)
     }
 }
 
-fn push_takes(out: &mut ArrayString<8>, is_capture: bool)
-    requires { array_string_len out.old < 8 }
+/// Adds the `x` of a capture.
+pub fn push_takes<const N: usize>(out: &mut ArrayString<N>, is_capture: bool)
+    requires { array_string_len out.old < N }
     ensures bytes { out.new.bytes ≡ out.old.bytes ++ takes_text is_capture }
     ensures len { array_string_len out.new ≤ array_string_len out.old + 1 }
 {
@@ -87,8 +89,9 @@ fn push_takes(out: &mut ArrayString<8>, is_capture: bool)
     }
 }
 
-fn push_promotion(out: &mut ArrayString<8>, promoted: Option<Kind>)
-    requires { array_string_len out.old ≤ 6 }
+/// Adds `=` and the letter of the piece that a pawn becomes.
+pub fn push_promotion<const N: usize>(out: &mut ArrayString<N>, promoted: Option<Kind>)
+    requires { array_string_len out.old + 2 ≤ N }
     ensures bytes { out.new.bytes ≡ out.old.bytes ++ promotion_text true promoted }
     ensures len { array_string_len out.new ≤ array_string_len out.old + 2 }
 {

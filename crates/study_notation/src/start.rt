@@ -50,14 +50,16 @@ impl Start {
     }
 }
 
+/// One more, up to 65,535.
 #[inline]
-fn one_more(n: u16) -> u16
+pub fn one_more(n: u16) -> u16
     ensures { result ≡ one_more n }
 {
     n.saturating_add(1)
 }
 
-fn number_after(side: Side, number: u16) -> u16
+/// The number of the move after a move of the side.
+pub fn number_after(side: Side, number: u16) -> u16
     ensures { result ≡ number_after side number }
 {
     match side {

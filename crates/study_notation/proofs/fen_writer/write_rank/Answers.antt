@@ -1,48 +1,47 @@
-use Rattle.std.proofs.Common.{ℕ, ◌<◌, ◌+◌, ◌*◌, ◌-◌, ◌++◌, List, length, sym, ap, ◌∙◌, arith, length-append}
-use Rattle.arrayvec.specs.ArrayString.{array_string_len}
+use Rattle.std.proofs.Common.{ℕ, ◌+◌, ◌*◌, ◌-◌, ◌++◌, List, length, sym, ap, ◌∙◌, arith, length-append}
 use Rattle.study_notation.specs.FenSpelling.{run, rank_field}
 use Rattle.study_notation.proofs.RowText.{rest_text, rest_init, rest_none, rest_end, len_both, len_some, some_written}
 use Rattle.study_notation.proofs.fen_writer.write_rank.Goals as goal
 use Rattle.study_notation.proofs.fen_writer.write_rank.Goals.{in-None, in-Some}
 
 pub loop-file-init : goal.loop-file-init
-loop-file-init c = (ap (λ (t : List ℕ). c.args.out.now.bytes ++ t) (rest_init c.args.men.now c.args.rank (8 * c.args.rank + 0) (omega arith)), omega arith)
+loop-file-init g c = (ap (λ (t : List ℕ). c.args.out.now.bytes ++ t) (rest_init c.args.men.now c.args.rank (8 * c.args.rank + 0) (omega arith)), omega arith)
 
-pub push_run-requires-clause-room : goal.push_run-requires-clause-room
-push_run-requires-clause-room c =
+pub push_run-requires : goal.push_run-requires
+push_run-requires g c =
     let at = 8 * c.args.rank + c.loop-file.file in
     let n = 8 - c.loop-file.file in
     let m = 8 - (c.loop-file.file + 1) in
-    omega (
-      arith,
-      c.requires.room,
-      len_both c.loop-file.out.bytes
-          (rest_text c.args.men.now (8 * c.args.rank + c.loop-file.file) (8 - c.loop-file.file) c.loop-file.empty)
-          c.args.out.now.bytes (rank_field c.args.men.now c.args.rank) c.loop-file.invariant.0,
-      len_some c.args.men.now
-          at (at + 1) n m c.loop-file.empty c.in-Some.piece (omega arith) (omega arith) (sym c.in-Some.ensures),
-    )
+    let room = len_some c.args.men.now at (at + 1) n m c.loop-file.empty c.in-Some.piece (omega arith) (omega arith) (sym c.in-Some.ensures) in
+    let both = len_both c.loop-file.out.bytes
+    (rest_text c.args.men.now (8 * c.args.rank + c.loop-file.file) (8 - c.loop-file.file) c.loop-file.empty)
+    c.args.out.now.bytes (rank_field c.args.men.now c.args.rank) c.loop-file.invariant.0 in
+    (omega arith, (omega (arith, c.loop-file.invariant.1), omega (arith, c.requires.room, both, room)))
 
 pub push_byte-requires : goal.push_byte-requires
-push_byte-requires c =
+push_byte-requires g c =
     let at = 8 * c.args.rank + c.loop-file.file in
     let n = 8 - c.loop-file.file in
-    let m = 8 - (c.loop-file.file + 1) in
-    let room : array_string_len c.push_run.new.out < 64 = omega (
-      arith,
-      c.requires.room,
-      len_both c.loop-file.out.bytes
-          (rest_text c.args.men.now (8 * c.args.rank + c.loop-file.file) (8 - c.loop-file.file) c.loop-file.empty)
-          c.args.out.now.bytes (rank_field c.args.men.now c.args.rank) c.loop-file.invariant.0,
-      ap length c.push_run.ensures,
-      length-append c.loop-file.out.bytes (run c.loop-file.empty),
-      len_some c.args.men.now at (at + 1) n m c.loop-file.empty c.in-Some.piece (omega arith) (omega arith)
-          (sym c.in-Some.ensures),
-    ) in
-    (omega arith, (c.letter_of.ensures.ascii, room))
+    let m = 8 - (c.loop-file.file + 1) in (
+      omega arith,
+      (
+        c.letter_of.ensures.ascii,
+        omega (
+          arith,
+          c.requires.room,
+          len_both c.loop-file.out.bytes
+              (rest_text c.args.men.now (8 * c.args.rank + c.loop-file.file) (8 - c.loop-file.file) c.loop-file.empty)
+              c.args.out.now.bytes (rank_field c.args.men.now c.args.rank) c.loop-file.invariant.0,
+          ap length c.push_run.ensures,
+          length-append c.loop-file.out.bytes (run c.loop-file.empty),
+          len_some c.args.men.now at (at + 1) n m c.loop-file.empty c.in-Some.piece (omega arith) (omega arith)
+              (sym c.in-Some.ensures),
+        ),
+      ),
+    )
 
 pub loop-file-preserved : goal.loop-file-preserved
-loop-file-preserved c =
+loop-file-preserved g c =
     let at = 8 * c.args.rank + c.loop-file.file in
     let at' = 8 * c.args.rank + (c.loop-file.file + 1) in
     let n = 8 - c.loop-file.file in
@@ -64,8 +63,11 @@ loop-file-preserved c =
       )
     ]
 
-pub push_run-requires-2-clause-room : goal.push_run-requires-2-clause-room
-push_run-requires-2-clause-room c =
+pub push_run-requires-2 : goal.push_run-requires-2
+push_run-requires-2 g c = (
+  omega arith,
+  (
+    omega (arith, c.loop-file.invariant.1),
     omega (
       arith,
       c.requires.room,
@@ -74,9 +76,11 @@ push_run-requires-2-clause-room c =
           c.args.out.now.bytes (rank_field c.args.men.now c.args.rank) c.loop-file.invariant.0,
       ap length (rest_end c.args.men.now (8 * c.args.rank + c.loop-file.file) (8 - c.loop-file.file)
           c.loop-file.empty (omega arith)),
-    )
+    ),
+  ),
+)
 
 pub returns : goal.returns
-returns c = c.push_run-2.ensures ∙ ap (λ (t : List ℕ). c.loop-file.out.bytes ++ t)
+returns g c = c.push_run-2.ensures ∙ ap (λ (t : List ℕ). c.loop-file.out.bytes ++ t)
     (sym (rest_end c.args.men.now (8 * c.args.rank + c.loop-file.file) (8 - c.loop-file.file) c.loop-file.empty
     (omega arith))) ∙ c.loop-file.invariant.0
