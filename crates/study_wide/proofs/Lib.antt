@@ -1,0 +1,10 @@
+pub mod FewMen
+pub mod SameGames
+pub mod AfterPlain
+pub mod AfterCastling
+pub mod Playing
+pub mod Placed
+pub mod Movers
+pub mod MovesOfMan
+pub mod PossibleTargets
+pub mod FewMovesOfMan

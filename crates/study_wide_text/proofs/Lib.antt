@@ -1,0 +1,14 @@
+pub mod FieldsAgain
+pub mod StepsRead
+pub mod RightsAgain
+pub mod WideFen
+pub mod FenAgrees
+pub mod PlacementLength
+pub mod Candidates
+pub mod OneMoveAgrees
+pub mod FindMove
+pub mod CastlingTexts
+pub mod WideMoveAgain
+pub mod WideReadExactly
+pub mod SanAgrees
+pub mod MeansLegal
