@@ -14,8 +14,7 @@ use study_board::Position;
 use study_marks::{holds, value_words};
 use study_moves::{Move, played};
 use study_notation::write_san;
-use study_text::Text;
-use study_tree::add_path;
+use study_text::{Piece, Text, add_pieces};
 use study_values::Value;
 
 /// A word, and a number after it.
@@ -39,16 +38,17 @@ pub fn add_value<A: Allocator>(text: &mut Text<'_, A>, value: Value) -> Result<(
 
 /// A kind of line, and a path, with a space after it.
 #[tactic(auto, unfolding(crate::specs::Words::front_words))]
-pub fn add_line_start<A: Allocator>(
+pub fn add_line_start<'t, A: Allocator>(
     text: &mut Text<'_, A>,
-    kind: &[u8],
-    steps: &[u16],
+    kind: &'t [u8],
+    steps: &'t [u16],
 ) -> Result<(), AllocError>
     ensures { OnOk result (text.new ≡ text.old ++ front_words kind.now steps.now) }
 {
-    text.add(kind)?;
-    add_path(text, steps)?;
-    text.add(b" ")
+    add_pieces(
+        text,
+        &[Piece::Bytes(kind), Piece::Path(steps), Piece::Bytes(b" ")],
+    )
 }
 
 fn add_san<A: Allocator>(text: &mut Text<'_, A>, p: &Position, m: Move) -> Result<(), AllocError>

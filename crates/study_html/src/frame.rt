@@ -5,7 +5,7 @@ ghost use Rattle.study_text.specs.Taken.{TakesPrefix};
 ghost use Rattle.study_html.specs.Frame.{front, back, page_opening, sheet_style, sheet_opening, page_closing};
 
 use std::io::Write;
-use study_text::{DeviceFailed, write_text};
+use study_text::{DeviceFailed, Piece, write_pieces, write_text};
 
 /// The text before the end of the style.
 fn front() -> &'static [u8]
@@ -87,17 +87,6 @@ fn page_closing() -> &'static [u8]
     b"</body></html>\n"
 }
 
-/// Writes two texts, one after the other.
-fn write_both<W: Write>(out: &mut W, first: &[u8], second: &[u8]) -> Result<(), DeviceFailed>
-    ensures ok { OnOk result
-        (Appends (W.contents out.old) (W.contents out.new) (first.now ++ second.now)) }
-    ensures prefix { OnErr result
-        (TakesPrefix (W.contents out.old) (W.contents out.new) (first.now ++ second.now)) }
-{
-    write_text(out, first)?;
-    write_text(out, second)
-}
-
 /// Writes the text before the first page.
 #[tactic(auto, unfolding(crate::specs::Frame::page_opening))]
 pub fn write_opening<W: Write>(out: &mut W) -> Result<(), DeviceFailed>
@@ -105,7 +94,7 @@ pub fn write_opening<W: Write>(out: &mut W) -> Result<(), DeviceFailed>
     ensures prefix { OnErr result (TakesPrefix (W.contents out.old)
         (W.contents out.new) page_opening) }
 {
-    write_both(out, front(), back())
+    write_pieces(out, &[Piece::Bytes(front()), Piece::Bytes(back())])
 }
 
 /// Writes the text before the first diagram of a sheet.
@@ -115,8 +104,14 @@ pub fn write_sheet_opening<W: Write>(out: &mut W) -> Result<(), DeviceFailed>
     ensures prefix { OnErr result
         (TakesPrefix (W.contents out.old) (W.contents out.new) sheet_opening) }
 {
-    write_text(out, front())?;
-    write_both(out, sheet_style(), back())
+    write_pieces(
+        out,
+        &[
+            Piece::Bytes(front()),
+            Piece::Bytes(sheet_style()),
+            Piece::Bytes(back()),
+        ],
+    )
 }
 
 /// Writes the text after the last page.

@@ -6,13 +6,11 @@ use Rattle.study_board.specs.declared.men.Side.TheVariants.{White}
 use Rattle.study_material.specs.declared.class.Class.TheVariants.{KK, KQK, KRK}
 use Rattle.study_material.specs.Class.{name_of}
 use Rattle.study_values.specs.declared.value.Value.TheVariants.{Win, Loss}
-use Rattle.study_text.specs.Words.{words}
 use Rattle.study_values.specs.declared.fault.FileFault.TheVariants.{Version}
 use Rattle.study_marks.specs.declared.mark.MoveMark.TheVariants.{Dual}
 use Rattle.study_marks.specs.declared.stipulation.Goal.TheVariants.{MateIn}
 use Rattle.study_reply.specs.declared.refusal.Refusal.TheVariants.{NoTable, AlreadyThere, File, TableReadPage}
-use Rattle.study_tree.specs.Paths.{path_text}
-use Rattle.study_command.specs.Parser.{stipulate, insert, solve}
+use Rattle.study_text.specs.Paths.{path_text}
 use Rattle.study_reply.specs.Names.{words_of}
 use Rattle.study_reply.specs.Words.{stipulation_words, mark_text, solve_text, insert_text, built_text, loaded_text, saved_text, verified_text}
 

@@ -12,7 +12,7 @@ use Rattle.study_values.specs.declared.values.ProbeFault.{ProbeFault}
 use Rattle.study_values.specs.declared.values.ProbeFault.TheVariants as probe
 use Rattle.study_command.specs.declared.command.SyntaxFault.{SyntaxFault}
 use Rattle.study_command.specs.declared.command.SyntaxFault.TheVariants as form
-use Rattle.study_tree.specs.Paths.{path_text}
+use Rattle.study_text.specs.Paths.{path_text}
 use Rattle.study_marks.specs.declared.refusal.Refusal.{Refusal as EditRefusal}
 use Rattle.study_marks.specs.declared.refusal.Refusal.TheVariants as edit
 use Rattle.study_reply.specs.declared.refusal.Refusal.{Refusal}

@@ -11,7 +11,7 @@ use Rattle.study_values.specs.declared.fault.FileFault.TheVariants as file
 use Rattle.study_values.specs.declared.fault.SourceFault.TheVariants as source
 use Rattle.study_command.specs.declared.command.SyntaxFault.{SyntaxFault}
 use Rattle.study_command.specs.declared.command.SyntaxFault.TheVariants as form
-use Rattle.study_tree.specs.Paths.{path_text}
+use Rattle.study_text.specs.Paths.{path_text}
 use Rattle.study_reply.specs.declared.refusal.Refusal.{Refusal}
 use Rattle.study_reply.specs.declared.refusal.Refusal.TheVariants.{Form, NoPosition, NoStudy, OutOfMemory}
 use Rattle.study_reply.specs.declared.refusal.Refusal.TheVariants.{NotAClass, NoSuchNode, Fen, San}

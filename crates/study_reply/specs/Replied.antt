@@ -2,7 +2,7 @@
 use Rattle.std.specs.Prelude.{ℕ, List, [], ◌∷◌, ◌++◌, Option, Some, None, Result, Ok, Err, codes}
 use Rattle.study_notation.specs.FenSpelling.{fen_text}
 use Rattle.study_marks.specs.Study.{tag_name}
-use Rattle.study_tree.specs.Paths.{path_text}
+use Rattle.study_text.specs.Paths.{path_text}
 use Rattle.study_reply.specs.declared.reply.Reply.{Reply}
 use Rattle.study_reply.specs.declared.reply.Reply.TheVariants as done
 use Rattle.study_reply.specs.declared.reply.LineRefusal.{LineRefusal}

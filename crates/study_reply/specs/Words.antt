@@ -15,7 +15,7 @@ use Rattle.study_marks.specs.declared.mark.Mark.{Mark}
 use Rattle.study_board.specs.declared.men.Side.{Side}
 use Rattle.study_board.specs.declared.men.Side.TheVariants.{White, Black}
 use Rattle.study_marks.specs.Marks.{value_words, on_move_text}
-use Rattle.study_tree.specs.Paths.{path_text}
+use Rattle.study_text.specs.Paths.{path_text}
 
 -- words and a line feed
 abbrev pub reply_line : List ℕ → List ℕ → List ℕ
@@ -40,10 +40,13 @@ goal_words (MateIn k) = codes "mate in " ++ decimal k
 abbrev pub stipulation_words : Stipulation → List ℕ
 stipulation_words s = codes "stipulate " ++ side_word s.hero ++ reply_line (codes " to ") (goal_words s.goal)
 
--- `mark 0 loss 0 dual 21 faults 1`
+-- `mark 0 loss 0 dual 21 faults 1`: the path, the words of the value and of the move, and the number of faults
+abbrev pub marked_text : List ℕ → List ℕ → List ℕ → ℕ → List ℕ
+marked_text steps value on_move faults =
+    codes "mark " ++ (path_text steps ++ (32 ∷ (value ++ (32 ∷ (on_move ++ reply_line (codes " faults ") (decimal faults))))))
+
 abbrev pub mark_text : List ℕ → Mark → List ℕ
-mark_text steps m =
-    codes "mark " ++ (path_text steps ++ (32 ∷ (value_words m.value ++ (32 ∷ (on_move_text m.on_move ++ reply_line (codes " faults ") (decimal m.faults))))))
+mark_text steps m = marked_text steps (value_words m.value) (on_move_text m.on_move) m.faults
 
 -- the moves, each after a space
 abbrev pub moves_listed : Position → List Move → List ℕ

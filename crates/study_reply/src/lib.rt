@@ -5,7 +5,6 @@
 
 mod game;
 mod laws;
-mod path_text;
 mod reason;
 mod refusal;
 mod reply;
@@ -17,8 +16,7 @@ pub use laws::texts_have_reasons;
 pub use reason::reason_of;
 pub use refusal::{Argument, Refusal};
 pub use reply::{
-    Answer, LineAnswer, LineRefusal, Reply, of_command, refused_words, write_refused_words,
-    write_reply,
+    Answer, LineAnswer, LineRefusal, Reply, of_command, refused_pieces, refused_words, write_reply,
 };
-pub use reply_text::{of_probe, put_line, write_refusal};
+pub use reply_text::{of_probe, word_pieces, write_refusal};
 pub use table_reply::TableReply;

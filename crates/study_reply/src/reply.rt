@@ -1,19 +1,21 @@
 //! The outcome of a line, decided before its reply is written.
-ghost use Rattle.std.specs.Prelude.{◌≡◌, ◌++◌, ◌∷◌, [], codes, is_err, IfOk, OnOk, OnErr};
+ghost use Rattle.std.specs.Prelude.{◌≡◌, ◌++◌, ◌∷◌, [], is_err, IfOk, OnOk, OnErr};
 ghost use Rattle.std.specs.Io.KnownBytes.{Appends};
 ghost use Rattle.study_notation.specs.FenSpelling.{fen_text};
 ghost use Rattle.study_text.specs.Taken.{TakesPrefix};
+ghost use Rattle.study_text.specs.Pieces.{piece_text};
+ghost use Rattle.study_reply.specs.Names.{edit_words};
 ghost use Rattle.study_reply.specs.Words.{reply_line, insert_text};
 ghost use Rattle.study_reply.specs.Reasons.{reason_of};
 ghost use Rattle.study_reply.specs.Replied.{reply_text, refused_words, error_text, of_command, line_text};
 
 use crate::game::Game;
 use crate::laws::texts_have_reasons;
-use crate::path_text::{put_child, put_node, put_promoted};
 use crate::reason::edit_reason;
 use crate::refusal::Refusal;
 use crate::reply_text::{
-    put_edit_words, put_line, put_mark, put_solution, put_stipulation, put_words, write_moves,
+    of_probe, put_error, put_line, put_mark, put_node, put_promoted, put_solution, put_stipulation,
+    word_pieces, write_moves,
 };
 use crate::table_reply::{TableReply, put_table_reply};
 use arrayvec::ArrayString;
@@ -21,7 +23,7 @@ use std::alloc::{AllocError, Allocator};
 use std::io::Write;
 use study_marks::{Mark, Refusal as EditRefusal, Stipulation, TagName, tag_name};
 use study_notation::{Start, write_fen};
-use study_text::{DeviceFailed, write_text};
+use study_text::{DeviceFailed, Piece, write_pieces, write_text};
 use study_tree::Path;
 
 /// The effect of a line, with the data of its reply.
@@ -105,19 +107,36 @@ impl<'a, A: Allocator> LineRefusal<'a, A> {
     }
 }
 
-/// Writes the words of a refusal, such as `NoTable KRK`.
-pub fn write_refused_words<'a, W: Write, A: Allocator>(
-    out: &mut W,
-    refused: &LineRefusal<'a, A>,
-) -> Result<(), DeviceFailed>
-    ensures ok { OnOk result
-        (Appends (W.contents out.old) (W.contents out.new) (refused_words refused.now)) }
-    ensures err { OnErr result
-        (TakesPrefix (W.contents out.old) (W.contents out.new) (refused_words refused.now)) }
+/// The words of a refusal in two pieces.
+pub fn refused_pieces<'t, 'a, A: Allocator>(
+    refused: &'t LineRefusal<'a, A>,
+) -> (Piece<'t>, Piece<'t>)
+    ensures { piece_text result.0 ++ piece_text result.1 ≡ refused_words refused.now }
 {
     match refused {
-        LineRefusal::Line(refusal) => put_words(out, *refusal),
-        LineRefusal::Edit(refusal) => put_edit_words(out, refusal),
+        LineRefusal::Line(refusal) => word_pieces(*refusal),
+        LineRefusal::Edit(refusal) => edit_pieces(refusal),
+    }
+}
+
+fn edit_pieces<'t, 'a, A: Allocator>(refusal: &'t EditRefusal<'a, A>) -> (Piece<'t>, Piece<'t>)
+    ensures { piece_text result.0 ++ piece_text result.1 ≡ edit_words refusal.now }
+{
+    match refusal {
+        EditRefusal::NoSuchNode => word_pieces(Refusal::NoSuchNode),
+        EditRefusal::RootNotAllowed => word_pieces(Refusal::RootNotAllowed),
+        EditRefusal::AlreadyFirst => word_pieces(Refusal::AlreadyFirst),
+        EditRefusal::IllegalMove => word_pieces(Refusal::IllegalMove),
+        EditRefusal::AlreadyThere(place) => word_pieces(Refusal::AlreadyThere(*place)),
+        EditRefusal::TooDeep => word_pieces(Refusal::TooDeep),
+        EditRefusal::TreeFull => word_pieces(Refusal::TreeFull),
+        EditRefusal::ShiftBroken(path) => {
+            (Piece::Bytes(b"ShiftBroken "), Piece::Path(path.steps()))
+        }
+        EditRefusal::TagText => word_pieces(Refusal::TagText),
+        EditRefusal::OutOfMemory => word_pieces(Refusal::OutOfMemory),
+        EditRefusal::NoTable(class) => word_pieces(Refusal::NoTable(*class)),
+        EditRefusal::TableRead(fault) => word_pieces(of_probe(*fault)),
     }
 }
 
@@ -128,8 +147,9 @@ pub fn refused_words<'a, 'b, A: Allocator, B: Allocator>(
 ) -> Result<Vec<u8, &'a A>, AllocError>
     ensures { IfOk result (λ words. words.items ≡ refused_words refused.now) }
 {
+    let (name, argument) = refused_pieces(refused);
     let mut words = Vec::new(alloc);
-    match write_refused_words(&mut words, refused) {
+    match write_pieces(&mut words, &[name, argument]) {
         Ok(()) => Ok(words),
         Err(_) => Err(AllocError),
     }
@@ -146,9 +166,7 @@ fn put_refused<'a, W: Write, A: Allocator>(
         (TakesPrefix (W.contents out.old) (W.contents out.new)
         (error_text refused.now)) }
 {
-    write_text(out, b"error ")?;
-    write_refused_words(out, refused)?;
-    write_text(out, b"\n")
+    put_error(out, refused_pieces(refused))
 }
 
 fn put_reply<'a, W: Write, A: Allocator>(
@@ -193,11 +211,11 @@ fn put_start<W: Write>(out: &mut W, word: &[u8], start: &Start) -> Result<(), De
 }
 
 /// The path of the new node, and its move in SAN.
-fn put_inserted<W: Write>(
+fn put_inserted<'t, W: Write>(
     out: &mut W,
-    steps: &[u16],
+    steps: &'t [u16],
     place: u16,
-    san: &[u8],
+    san: &'t [u8],
 ) -> Result<(), DeviceFailed>
     ensures ok { OnOk result
         (Appends (W.contents out.old) (W.contents out.new)
@@ -206,7 +224,14 @@ fn put_inserted<W: Write>(
         (TakesPrefix (W.contents out.old) (W.contents out.new)
         (insert_text (steps.now ++ place ∷ []) san.now)) }
 {
-    write_text(out, b"insert ")?;
-    put_child(out, steps, place)?;
-    put_line(out, b" ", san)
+    write_pieces(
+        out,
+        &[
+            Piece::Bytes(b"insert "),
+            Piece::Child(steps, place),
+            Piece::Bytes(b" "),
+            Piece::Bytes(san),
+            Piece::Bytes(b"\n"),
+        ],
+    )
 }

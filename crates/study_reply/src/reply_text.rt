@@ -1,42 +1,61 @@
 //! The replies, piece by piece.
-ghost use Rattle.std.specs.Prelude.{◌≡◌, ◌++◌, ◌∷◌, [], true, codes, decimal, OnOk, OnErr};
+ghost use Rattle.std.specs.Prelude.{◌≡◌, ◌++◌, ◌∷◌, [], true, codes, OnOk, OnErr};
 ghost use Rattle.std.specs.Io.KnownBytes.{Appends};
 ghost use Rattle.std.specs.List.{All};
 ghost use Rattle.study_moves.specs.Rules.{is_legal};
 ghost use Rattle.study_notation.specs.SanSpelling.{move_text};
 ghost use Rattle.study_text.specs.Taken.{TakesPrefix};
-ghost use Rattle.study_tree.specs.Paths.{path_text};
-ghost use Rattle.study_reply.specs.Names.{argument_text, words_of, edit_words, of_probe};
-ghost use Rattle.study_reply.specs.Words.{reply_line, moves_listed, list_text, moves_text};
-ghost use Rattle.study_reply.specs.Words.{side_word};
-ghost use Rattle.study_reply.specs.Words.{solve_text, stipulation_words, goal_words};
-ghost use Rattle.study_marks.specs.Marks.{value_words, on_move_text};
-ghost use Rattle.study_reply.specs.Words.{mark_text};
+ghost use Rattle.study_text.specs.Pieces.{piece_text};
+ghost use Rattle.study_text.specs.Paths.{path_text};
+ghost use Rattle.study_reply.specs.Names.{argument_text, words_of, of_probe};
+ghost use Rattle.study_reply.specs.Words.{reply_line, moves_listed, list_text, moves_text, path_after_move_up};
+ghost use Rattle.study_reply.specs.Words.{side_word, goal_words, solve_text, stipulation_words, mark_text, marked_text};
 
-use crate::path_text::put_path;
 use crate::refusal::{Argument, Refusal};
-use itoa::Buffer;
-use std::alloc::Allocator;
 use std::io::Write;
 use study_board::{Position, Side};
-use study_marks::{
-    Goal, Mark, MoveMark, Refusal as EditRefusal, Stipulation, on_move_text, value_words,
-};
-use study_moves::{Move, in_check, legal_moves};
+use study_marks::{Goal, Mark, Stipulation, on_move_text, value_words};
+use study_moves::{Move, MoveList, in_check, legal_moves};
 use study_notation::write_san;
-use study_text::{DeviceFailed, write_text};
-use study_values::{ProbeFault, Value};
+use study_text::{DeviceFailed, Piece, write_pieces};
+use study_values::ProbeFault;
 
 /// Writes words and a line feed.
-pub fn put_line<W: Write>(out: &mut W, front: &[u8], back: &[u8]) -> Result<(), DeviceFailed>
+pub(crate) fn put_line<'t, W: Write>(
+    out: &mut W,
+    front: &'t [u8],
+    back: &'t [u8],
+) -> Result<(), DeviceFailed>
     ensures ok { OnOk result
         (Appends (W.contents out.old) (W.contents out.new) (reply_line front.now back.now)) }
     ensures err { OnErr result
         (TakesPrefix (W.contents out.old) (W.contents out.new) (reply_line front.now back.now)) }
 {
-    write_text(out, front)?;
-    write_text(out, back)?;
-    write_text(out, b"\n")
+    write_pieces(
+        out,
+        &[Piece::Bytes(front), Piece::Bytes(back), Piece::Bytes(b"\n")],
+    )
+}
+
+/// The words of a refusal in two pieces.
+#[tactic(auto, unfolding(crate::specs::Names::words_of))]
+pub fn word_pieces(refusal: Refusal) -> (Piece<'static>, Piece<'static>)
+    ensures { piece_text result.0 ++ piece_text result.1 ≡ words_of refusal }
+{
+    (
+        Piece::Bytes(refusal.name()),
+        argument_piece(refusal.argument()),
+    )
+}
+
+fn argument_piece(argument: Argument) -> Piece<'static>
+    ensures { piece_text result ≡ argument_text argument }
+{
+    match argument {
+        Argument::None => Piece::Bytes(b""),
+        Argument::Class(class) => Piece::Bytes(class.name().as_bytes()),
+        Argument::Number(number) => Piece::Number(number),
+    }
 }
 
 /// Writes the reply to a refused line.
@@ -48,37 +67,26 @@ pub fn write_refusal<W: Write>(out: &mut W, refusal: Refusal) -> Result<(), Devi
         (TakesPrefix (W.contents out.old) (W.contents out.new)
         (reply_line (codes "error ") (words_of refusal))) }
 {
-    write_text(out, b"error ")?;
-    put_words(out, refusal)?;
-    write_text(out, b"\n")
+    put_error(out, word_pieces(refusal))
 }
 
-/// A refusal in words.
-#[tactic(auto, unfolding(crate::specs::Names::words_of))]
-pub(crate) fn put_words<W: Write>(out: &mut W, refusal: Refusal) -> Result<(), DeviceFailed>
+/// Writes the reply to a line that is refused in these words.
+pub(crate) fn put_error<'t, W: Write>(
+    out: &mut W,
+    words: (Piece<'t>, Piece<'t>),
+) -> Result<(), DeviceFailed>
     ensures ok { OnOk result
-        (Appends (W.contents out.old) (W.contents out.new) (words_of refusal)) }
+        (Appends (W.contents out.old) (W.contents out.new)
+        (reply_line (codes "error ") (piece_text words.entry.0 ++ piece_text words.entry.1))) }
     ensures err { OnErr result
-        (TakesPrefix (W.contents out.old) (W.contents out.new) (words_of refusal)) }
+        (TakesPrefix (W.contents out.old) (W.contents out.new)
+        (reply_line (codes "error ") (piece_text words.entry.0 ++ piece_text words.entry.1))) }
 {
-    write_text(out, refusal.name())?;
-    put_argument(out, refusal.argument())
-}
-
-fn put_argument<W: Write>(out: &mut W, argument: Argument) -> Result<(), DeviceFailed>
-    ensures ok { OnOk result
-        (Appends (W.contents out.old) (W.contents out.new) (argument_text argument)) }
-    ensures err { OnErr result
-        (TakesPrefix (W.contents out.old) (W.contents out.new) (argument_text argument)) }
-{
-    match argument {
-        Argument::None => write_text(out, b""),
-        Argument::Class(class) => write_text(out, class.name().as_bytes()),
-        Argument::Number(number) => {
-            let mut buffer = Buffer::new();
-            write_text(out, buffer.format(number).as_bytes())
-        }
-    }
+    let (name, argument) = words;
+    write_pieces(
+        out,
+        &[Piece::Bytes(b"error "), name, argument, Piece::Bytes(b"\n")],
+    )
 }
 
 /// Writes the legal moves of a position, or why there are none.
@@ -88,24 +96,25 @@ pub fn write_moves<W: Write>(out: &mut W, p: &Position) -> Result<(), DeviceFail
     ensures err { OnErr result
         (TakesPrefix (W.contents out.old) (W.contents out.new) (moves_text p.now)) }
 {
-    let moves = legal_moves(p);
-    put_list(out, p, moves.as_slice())
+    put_list(out, p, &legal_moves(p))
 }
 
-fn put_list<W: Write>(out: &mut W, p: &Position, moves: &[Move]) -> Result<(), DeviceFailed>
-    requires { All (λ m. is_legal p.now m ≡ true) moves.now }
+fn put_list<W: Write>(out: &mut W, p: &Position, moves: &MoveList) -> Result<(), DeviceFailed>
+    requires { All (λ m. is_legal p.now m ≡ true) moves.now.items }
     ensures ok { OnOk result
-        (Appends (W.contents out.old) (W.contents out.new) (list_text p.now moves.now)) }
+        (Appends (W.contents out.old) (W.contents out.new) (list_text p.now moves.now.items)) }
     ensures err { OnErr result
-        (TakesPrefix (W.contents out.old) (W.contents out.new) (list_text p.now moves.now)) }
+        (TakesPrefix (W.contents out.old) (W.contents out.new) (list_text p.now moves.now.items)) }
 {
     if moves.is_empty() {
         return put_no_moves(out, p);
     }
-    write_text(out, b"moves ")?;
-    put_number(out, moves.len())?;
-    put_moves(out, p, moves)?;
-    write_text(out, b"\n")
+    write_pieces(
+        out,
+        &[Piece::Bytes(b"moves "), Piece::Number(moves.len() as u32)],
+    )?;
+    put_moves(out, p, moves.as_slice())?;
+    write_pieces(out, &[Piece::Bytes(b"\n")])
 }
 
 fn put_no_moves<W: Write>(out: &mut W, p: &Position) -> Result<(), DeviceFailed>
@@ -115,19 +124,10 @@ fn put_no_moves<W: Write>(out: &mut W, p: &Position) -> Result<(), DeviceFailed>
         (TakesPrefix (W.contents out.old) (W.contents out.new) (list_text p.now [])) }
 {
     if in_check(p) {
-        write_text(out, b"moves 0 mate\n")
+        write_pieces(out, &[Piece::Bytes(b"moves 0 mate\n")])
     } else {
-        write_text(out, b"moves 0 stalemate\n")
+        write_pieces(out, &[Piece::Bytes(b"moves 0 stalemate\n")])
     }
-}
-
-fn put_number<W: Write>(out: &mut W, number: usize) -> Result<(), DeviceFailed>
-    ensures ok { OnOk result (Appends (W.contents out.old) (W.contents out.new) (decimal number)) }
-    ensures err { OnErr result
-        (TakesPrefix (W.contents out.old) (W.contents out.new) (decimal number)) }
-{
-    let mut buffer = Buffer::new();
-    write_text(out, buffer.format(number).as_bytes())
 }
 
 fn put_moves<W: Write>(out: &mut W, p: &Position, moves: &[Move]) -> Result<(), DeviceFailed>
@@ -151,48 +151,30 @@ fn put_move<W: Write>(out: &mut W, p: &Position, m: Move) -> Result<(), DeviceFa
     ensures err { OnErr result
         (TakesPrefix (W.contents out.old) (W.contents out.new) (32 ∷ move_text p.now m)) }
 {
-    write_text(out, b" ")?;
-    let text = write_san(p, m);
-    write_text(out, text.as_str().as_bytes())
+    let san = write_san(p, m);
+    write_pieces(
+        out,
+        &[Piece::Bytes(b" "), Piece::Bytes(san.as_str().as_bytes())],
+    )
 }
 
-/// Writes in how many moves the side to move forces mate.
+/// Writes in how many plies the side to move forces mate.
 pub fn put_solution<W: Write>(out: &mut W, plies: Option<u8>) -> Result<(), DeviceFailed>
     ensures ok { OnOk result
         (Appends (W.contents out.old) (W.contents out.new) (solve_text plies)) }
     ensures err { OnErr result
         (TakesPrefix (W.contents out.old) (W.contents out.new) (solve_text plies)) }
 {
-    let Some(plies) = plies else {
-        return write_text(out, b"solve none\n");
-    };
-    let mut buffer = Buffer::new();
-    put_line(out, b"solve plies ", buffer.format(plies).as_bytes())
-}
-
-/// Writes the words of the refusal of an edit.
-pub(crate) fn put_edit_words<'a, W: Write, A: Allocator>(
-    out: &mut W,
-    refusal: &EditRefusal<'a, A>,
-) -> Result<(), DeviceFailed>
-    ensures ok { OnOk result
-        (Appends (W.contents out.old) (W.contents out.new) (edit_words refusal.now)) }
-    ensures err { OnErr result
-        (TakesPrefix (W.contents out.old) (W.contents out.new) (edit_words refusal.now)) }
-{
-    match refusal {
-        EditRefusal::NoSuchNode => put_words(out, Refusal::NoSuchNode),
-        EditRefusal::RootNotAllowed => put_words(out, Refusal::RootNotAllowed),
-        EditRefusal::AlreadyFirst => put_words(out, Refusal::AlreadyFirst),
-        EditRefusal::IllegalMove => put_words(out, Refusal::IllegalMove),
-        EditRefusal::AlreadyThere(place) => put_words(out, Refusal::AlreadyThere(*place)),
-        EditRefusal::TooDeep => put_words(out, Refusal::TooDeep),
-        EditRefusal::TreeFull => put_words(out, Refusal::TreeFull),
-        EditRefusal::ShiftBroken(path) => put_shift_words(out, path.steps()),
-        EditRefusal::TagText => put_words(out, Refusal::TagText),
-        EditRefusal::OutOfMemory => put_words(out, Refusal::OutOfMemory),
-        EditRefusal::NoTable(class) => put_words(out, Refusal::NoTable(*class)),
-        EditRefusal::TableRead(fault) => put_words(out, of_probe(*fault)),
+    match plies {
+        None => write_pieces(out, &[Piece::Bytes(b"solve none\n")]),
+        Some(plies) => write_pieces(
+            out,
+            &[
+                Piece::Bytes(b"solve plies "),
+                Piece::Number(plies as u32),
+                Piece::Bytes(b"\n"),
+            ],
+        ),
     }
 }
 
@@ -207,17 +189,6 @@ pub fn of_probe(fault: ProbeFault) -> Refusal
     }
 }
 
-/// `ShiftBroken 0.1`
-fn put_shift_words<W: Write>(out: &mut W, steps: &[u16]) -> Result<(), DeviceFailed>
-    ensures ok { OnOk result (Appends (W.contents out.old) (W.contents out.new)
-        (codes "ShiftBroken " ++ path_text steps.now)) }
-    ensures err { OnErr result (TakesPrefix (W.contents out.old) (W.contents out.new)
-        (codes "ShiftBroken " ++ path_text steps.now)) }
-{
-    write_text(out, b"ShiftBroken ")?;
-    put_path(out, steps)
-}
-
 /// Writes a stipulation.
 pub fn put_stipulation<W: Write>(out: &mut W, stipulation: Stipulation) -> Result<(), DeviceFailed>
     ensures ok { OnOk result
@@ -225,33 +196,40 @@ pub fn put_stipulation<W: Write>(out: &mut W, stipulation: Stipulation) -> Resul
     ensures err { OnErr result
         (TakesPrefix (W.contents out.old) (W.contents out.new) (stipulation_words stipulation)) }
 {
-    write_text(out, b"stipulate ")?;
-    put_side(out, stipulation.hero)?;
-    write_text(out, b" to ")?;
-    put_goal(out, stipulation.goal)?;
-    write_text(out, b"\n")
+    let (task, number) = goal_pieces(stipulation.goal);
+    write_pieces(
+        out,
+        &[
+            Piece::Bytes(b"stipulate "),
+            Piece::Bytes(side_word(stipulation.hero)),
+            Piece::Bytes(b" to "),
+            task,
+            number,
+            Piece::Bytes(b"\n"),
+        ],
+    )
 }
 
-fn put_side<W: Write>(out: &mut W, side: Side) -> Result<(), DeviceFailed>
-    ensures ok { OnOk result (Appends (W.contents out.old) (W.contents out.new) (side_word side)) }
-    ensures err { OnErr result
-        (TakesPrefix (W.contents out.old) (W.contents out.new) (side_word side)) }
+/// The words of a goal in two pieces.
+fn goal_pieces(goal: Goal) -> (Piece<'static>, Piece<'static>)
+    ensures { piece_text result.0 ++ piece_text result.1 ≡ goal_words goal }
 {
-    match side {
-        Side::White => write_text(out, b"White"),
-        Side::Black => write_text(out, b"Black"),
+    match goal {
+        Goal::Win => (Piece::Bytes(b"win"), Piece::Bytes(b"")),
+        Goal::Draw => (Piece::Bytes(b"draw"), Piece::Bytes(b"")),
+        Goal::MateIn(moves) => (
+            Piece::Bytes(b"mate in "),
+            Piece::Number(moves.count() as u32),
+        ),
     }
 }
 
-fn put_goal<W: Write>(out: &mut W, goal: Goal) -> Result<(), DeviceFailed>
-    ensures ok { OnOk result (Appends (W.contents out.old) (W.contents out.new) (goal_words goal)) }
-    ensures err { OnErr result
-        (TakesPrefix (W.contents out.old) (W.contents out.new) (goal_words goal)) }
+fn side_word(side: Side) -> &'static [u8]
+    ensures { result.now ≡ side_word side }
 {
-    match goal {
-        Goal::Win => write_text(out, b"win"),
-        Goal::Draw => write_text(out, b"draw"),
-        Goal::MateIn(moves) => put_counted(out, b"mate in ", moves.count() as usize),
+    match side {
+        Side::White => b"White",
+        Side::Black => b"Black",
     }
 }
 
@@ -262,42 +240,90 @@ pub fn put_mark<W: Write>(out: &mut W, steps: &[u16], mark: &Mark) -> Result<(),
     ensures err { OnErr result
         (TakesPrefix (W.contents out.old) (W.contents out.new) (mark_text steps.now mark.now)) }
 {
-    write_text(out, b"mark ")?;
-    put_path(out, steps)?;
-    write_text(out, b" ")?;
-    put_value(out, mark.value)?;
-    write_text(out, b" ")?;
-    put_on_move(out, mark.on_move)?;
-    write_text(out, b" faults ")?;
-    put_number(out, mark.faults as usize)?;
-    write_text(out, b"\n")
+    put_mark_words(
+        out,
+        steps,
+        value_words(mark.value).as_str().as_bytes(),
+        on_move_text(mark.on_move).as_str().as_bytes(),
+        mark.faults,
+    )
 }
 
-fn put_value<W: Write>(out: &mut W, value: Value) -> Result<(), DeviceFailed>
+/// Writes the mark of a node from the words of its value and of its move.
+fn put_mark_words<'t, W: Write>(
+    out: &mut W,
+    steps: &'t [u16],
+    value: &'t [u8],
+    on_move: &'t [u8],
+    faults: u32,
+) -> Result<(), DeviceFailed>
     ensures ok { OnOk result
-        (Appends (W.contents out.old) (W.contents out.new) (value_words value)) }
+        (Appends (W.contents out.old) (W.contents out.new)
+        (marked_text steps.now value.now on_move.now faults)) }
     ensures err { OnErr result
-        (TakesPrefix (W.contents out.old) (W.contents out.new) (value_words value)) }
+        (TakesPrefix (W.contents out.old) (W.contents out.new)
+        (marked_text steps.now value.now on_move.now faults)) }
 {
-    write_text(out, value_words(value).as_str().as_bytes())
+    write_pieces(
+        out,
+        &[
+            Piece::Bytes(b"mark "),
+            Piece::Path(steps),
+            Piece::Bytes(b" "),
+            Piece::Bytes(value),
+            Piece::Bytes(b" "),
+            Piece::Bytes(on_move),
+            Piece::Bytes(b" faults "),
+            Piece::Number(faults),
+            Piece::Bytes(b"\n"),
+        ],
+    )
 }
 
-fn put_on_move<W: Write>(out: &mut W, mark: Option<MoveMark>) -> Result<(), DeviceFailed>
+/// Writes words, a path and a line feed.
+pub fn put_node<'t, W: Write>(
+    out: &mut W,
+    front: &'t [u8],
+    steps: &'t [u16],
+) -> Result<(), DeviceFailed>
     ensures ok { OnOk result
-        (Appends (W.contents out.old) (W.contents out.new) (on_move_text mark)) }
+        (Appends (W.contents out.old) (W.contents out.new)
+        (reply_line front.now (path_text steps.now))) }
     ensures err { OnErr result
-        (TakesPrefix (W.contents out.old) (W.contents out.new) (on_move_text mark)) }
+        (TakesPrefix (W.contents out.old) (W.contents out.new)
+        (reply_line front.now (path_text steps.now))) }
 {
-    write_text(out, on_move_text(mark).as_str().as_bytes())
+    write_pieces(
+        out,
+        &[Piece::Bytes(front), Piece::Path(steps), Piece::Bytes(b"\n")],
+    )
 }
 
-/// A word, and a number after it.
-fn put_counted<W: Write>(out: &mut W, word: &[u8], number: usize) -> Result<(), DeviceFailed>
+/// Writes the reply to `promote`.
+pub fn put_promoted<W: Write>(out: &mut W, steps: &[u16]) -> Result<(), DeviceFailed>
     ensures ok { OnOk result
-        (Appends (W.contents out.old) (W.contents out.new) (word.now ++ decimal number)) }
+        (Appends (W.contents out.old) (W.contents out.new)
+        (reply_line (codes "promote ") (path_text (path_after_move_up steps.now)))) }
     ensures err { OnErr result
-        (TakesPrefix (W.contents out.old) (W.contents out.new) (word.now ++ decimal number)) }
+        (TakesPrefix (W.contents out.old) (W.contents out.new)
+        (reply_line (codes "promote ") (path_text (path_after_move_up steps.now)))) }
 {
-    write_text(out, word)?;
-    put_number(out, number)
+    write_pieces(
+        out,
+        &[
+            Piece::Bytes(b"promote "),
+            piece_after_move_up(steps),
+            Piece::Bytes(b"\n"),
+        ],
+    )
+}
+
+/// The path of a node after it moved up by one place.
+fn piece_after_move_up(steps: &[u16]) -> Piece<'_>
+    ensures { piece_text result ≡ path_text (path_after_move_up steps.now) }
+{
+    match steps.split_last() {
+        None => Piece::Path(steps),
+        Some((last, front)) => Piece::Child(front, last.saturating_sub(1)),
+    }
 }

@@ -7,14 +7,13 @@ ghost use Rattle.study_report.specs.Lines.{refusal_line, unread_line, review_rem
 
 use crate::remarks::{behind, is_not_read};
 use crate::report::Report;
-use itoa::Buffer;
 use std::alloc::Allocator;
 use std::io::Write;
 use study_facts::{EntryInfo, ReviewFault, WriteFault};
 use study_marks::Bench;
-use study_reply::{LineRefusal, write_refused_words};
+use study_reply::{LineRefusal, refused_pieces};
 use study_review::write_review;
-use study_text::{DeviceFailed, write_text};
+use study_text::{DeviceFailed, Piece, write_pieces};
 use study_values::Values;
 
 /// Studies as their reviews, refused lines as `refused 7 NoTable KRK`, and a game that was read only up to a fault as `unread game 3, ..`.
@@ -80,9 +79,14 @@ fn put_unread<W: Write>(out: &mut W, line: &[u8]) -> Result<(), DeviceFailed>
     ensures err { OnErr result
         (TakesPrefix (W.contents out.old) (W.contents out.new) (unread_line line.now)) }
 {
-    write_text(out, b"unread ")?;
-    write_text(out, behind(line, 3))?;
-    write_text(out, b"\n")
+    write_pieces(
+        out,
+        &[
+            Piece::Bytes(b"unread "),
+            Piece::Bytes(behind(line, 3)),
+            Piece::Bytes(b"\n"),
+        ],
+    )
 }
 
 /// Writes `refused 7 NoTable KRK`.
@@ -98,24 +102,16 @@ fn put_refusal<'b, W: Write, B: Allocator>(
         (TakesPrefix (W.contents out.old) (W.contents out.new)
         (refusal_line number (error_text refused.now))) }
 {
-    write_text(out, b"refused ")?;
-    let mut buffer = Buffer::new();
-    write_text(out, buffer.format(number).as_bytes())?;
-    write_text(out, b" ")?;
-    write_refused_line(out, refused)
-}
-
-/// Writes the words of a refusal as a line.
-fn write_refused_line<'b, W: Write, B: Allocator>(
-    out: &mut W,
-    refused: &LineRefusal<'b, B>,
-) -> Result<(), DeviceFailed>
-    ensures ok { OnOk result
-        (Appends (W.contents out.old) (W.contents out.new) (refused_words refused.now ++ 10 ∷ [])) }
-    ensures err { OnErr result
-        (TakesPrefix (W.contents out.old) (W.contents out.new)
-        (refused_words refused.now ++ 10 ∷ [])) }
-{
-    write_refused_words(out, refused)?;
-    write_text(out, b"\n")
+    let (name, argument) = refused_pieces(refused);
+    write_pieces(
+        out,
+        &[
+            Piece::Bytes(b"refused "),
+            Piece::Number(number),
+            Piece::Bytes(b" "),
+            name,
+            argument,
+            Piece::Bytes(b"\n"),
+        ],
+    )
 }

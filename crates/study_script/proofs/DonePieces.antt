@@ -22,7 +22,7 @@ use Rattle.study_reply.proofs.LineEnds.{ends-behind}
 use Rattle.study_script.proofs.Behind.{behind2, behind4, behind6}
 use Rattle.study_values.specs.Number.{cells_of}
 use Rattle.study_values.specs.Size.{pages_of}
-use Rattle.study_tree.specs.Paths.{path_text}
+use Rattle.study_text.specs.Paths.{path_text}
 use Rattle.study_marks.specs.Study.{tag_name}
 use Rattle.study_marks.specs.Marks.{value_words, on_move_text}
 use Rattle.study_script.specs.Written.{fronts, IsDone, IsPieceWhere}

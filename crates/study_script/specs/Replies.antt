@@ -49,7 +49,7 @@ use Rattle.study_command.specs.declared.command.NodeCommand.{NodeCommand}
 use Rattle.study_command.specs.declared.command.NodeCommand.TheVariants.{Delete, Promote, Mark as MarkWord}
 use Rattle.study_command.specs.declared.command.TableCommand.{TableCommand}
 use Rattle.study_command.specs.declared.command.TableCommand.TheVariants.{Build, Load, Save, Verify}
-use Rattle.study_tree.specs.Paths.{path_text}
+use Rattle.study_text.specs.Paths.{path_text}
 use Rattle.study_command.specs.Parser.{Asked, fen_command, node_query, node_command, table_command, stipulate, insert, tag, solve, pgn, Asks, command_of}
 use Rattle.study_reply.specs.declared.refusal.Refusal.{Refusal}
 use Rattle.study_reply.specs.declared.refusal.Refusal.TheVariants.{Form, NoPosition, NoStudy, OutOfMemory}

@@ -2,3 +2,5 @@ pub mod Counts
 pub mod Words
 pub mod Taken
 pub mod Devices
+pub mod Paths
+pub mod Pieces

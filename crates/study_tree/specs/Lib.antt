@@ -5,4 +5,3 @@ pub mod Rows
 pub mod Changes
 pub mod Laws
 pub mod Codes
-pub mod Paths

@@ -9,7 +9,6 @@ mod fault;
 mod laws;
 mod node;
 mod path;
-mod path_text;
 mod tree;
 
 pub use branch::{Child, Subtree};
@@ -17,5 +16,4 @@ pub use changes::{LabelChange, Rewriting};
 pub use fault::TreeFault;
 pub use laws::{edits_in_rows, nodes_in_rows, places_are_shown, rows_are_written};
 pub use path::Path;
-pub use path_text::add_path;
 pub use tree::{MAX_DEPTH, MAX_NODES, NodeRef, Tree};

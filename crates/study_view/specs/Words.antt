@@ -53,7 +53,7 @@ counts_line p = codes "counts " ++ (counts_words p.men ++ codes "\n")
 unfoldable pub start_lines : Start → List ℕ
 start_lines start = study_line start ++ counts_line start.position
 
--- `sentence The stipulation does not hold. At the start: draw.`
+-- `sentence The stipulation is wrong. At the start: draw.`
 unfoldable pub sentence_line : Judgement → List ℕ
 sentence_line j = codes "sentence " ++ (verdict_words j ++ codes "\n")
 

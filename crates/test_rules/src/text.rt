@@ -5,7 +5,8 @@ use std::io::{ErrorKind, Read, Write};
 use std::process::Abort;
 use std::test::Fail;
 use study_text::{
-    DeviceFailed, MemoryReader, MemoryWriter, Text, WhenFull, next_word, space_len, write_text,
+    DeviceFailed, MemoryReader, MemoryWriter, Piece, Text, WhenFull, add_pieces, next_word,
+    space_len, write_pieces, write_text,
 };
 
 /// Writes three letters, and compares the result, the letters accepted, and that the writer was not called again after it was full.
@@ -123,6 +124,56 @@ fn a_text_grows_until_memory_ends(rt: HostRuntime) -> Result<(), Fail> {
     let mut small = Text::new(&heap);
     assert!(rt; small.add(&[7u8; 64]).is_ok() && small.add(&[7u8; 1024]).is_err());
     Ok(())
+}
+
+const PIECES: [Piece<'static>; 6] = [
+    Piece::Bytes(b"at "),
+    Piece::Path(&[]),
+    Piece::Bytes(b" and "),
+    Piece::Child(&[], 7),
+    Piece::Bytes(b", "),
+    Piece::Number(4_294_967_295),
+];
+
+const PLACES: [Piece<'static>; 3] = [
+    Piece::Path(&[0, 65_535, 12]),
+    Piece::Bytes(b" "),
+    Piece::Child(&[3, 0], 10),
+];
+
+/// Pieces become one text, in a text or in a writer.
+#[test]
+fn pieces_become_one_text(rt: HostRuntime) {
+    let alloc = rt.alloc();
+    let mut text = Text::new(&alloc);
+    assert!(rt; add_pieces(&mut text, &PIECES).is_ok());
+    assert!(rt; is_text(text.as_slice(), "at root and 7, 4294967295"));
+    assert!(rt; add_pieces(&mut text, &PLACES).is_ok());
+    assert!(rt;
+        is_text(
+            text.as_slice(),
+            "at root and 7, 42949672950.65535.12 3.0.10"
+        )
+    );
+    let mut writer = MemoryWriter::new(&alloc);
+    assert!(rt; write_pieces(&mut writer, &PIECES).is_ok());
+    assert!(rt; is_text(writer.taken.as_slice(), "at root and 7, 4294967295"));
+    let mut places = MemoryWriter::new(&alloc);
+    assert!(rt; write_pieces(&mut places, &PLACES).is_ok());
+    assert!(rt; is_text(places.taken.as_slice(), "0.65535.12 3.0.10"));
+}
+
+/// A writer that is full at any byte of the pieces has the bytes before it.
+#[test]
+fn a_full_writer_has_the_front_of_the_pieces(rt: HostRuntime) {
+    let alloc = rt.alloc();
+    for room in 0..17usize {
+        let mut full = MemoryWriter::with_room(&alloc, room, WhenFull::Fail);
+        assert!(rt; write_pieces(&mut full, &PLACES) == Err(DeviceFailed));
+        assert!(rt;
+            full.taken.len() == room && b"0.65535.12 3.0.10".starts_with(full.taken.as_slice())
+        );
+    }
 }
 
 /// Words are separated only by spaces.

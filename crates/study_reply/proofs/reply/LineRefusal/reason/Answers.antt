@@ -1,6 +1,4 @@
-use Rattle.std.proofs.Common.{sym, ap, ◌∙◌}
-use Rattle.study_reply.specs.Reasons.{reason_of}
-use Rattle.study_reply.specs.Replied.{refused_words}
+use Rattle.std.proofs.Common.{sym, ◌∙◌}
 use Rattle.study_reply.proofs.ReasonsFound.{of-edit}
 use Rattle.study_reply.proofs.reply.LineRefusal.reason.Goals as goal
 
