@@ -86,10 +86,6 @@ faults_below hero (more m l b r) = l.faults + (if hero then 0 else all_faults r)
 abbrev pub own_fault : Aim → ℕ → Evaluation → Value → ℕ
 own_fault a d q v = own_faults (hero_moves a d) (Some (mark_by_label a d q v))
 
--- the mark of a new node, from the evaluation of the node before it
-abbrev pub mark_of_new_node : Aim → ℕ → Evaluation → Value → Mark
-mark_of_new_node a d q v = record { value = v; on_move = Some (mark_by_label a d q v); faults = own_fault a d q v }
-
 abbrev pub FaultsAddUp : Aim → ℕ → Evaluation → Forest NodeLabel → Type 0
 FaultsAddUp a d q none = Unit {0}
 FaultsAddUp a d q (more m l b r) =

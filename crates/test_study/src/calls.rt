@@ -105,15 +105,6 @@ pub(crate) fn mark<'a, A: Allocator>(bench: &Bench<'a, A>, at: &Path<'a, A>) -> 
     bench.mark(at)
 }
 
-pub(crate) fn mark_of<'a, A: Allocator, V: Values>(
-    bench: &Bench<'a, A>,
-    at: &Path<'a, A>,
-    m: Move,
-    values: &mut V,
-) -> Result<Mark, Refusal<'a, A>> {
-    bench.mark_of(at, m, values)
-}
-
 pub(crate) fn move_at<'a, A: Allocator>(bench: &Bench<'a, A>, at: &Path<'a, A>) -> Option<Move> {
     bench.move_at(at)
 }
