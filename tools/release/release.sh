@@ -15,7 +15,7 @@ if [ "$1" = --board ]; then
     [ -z "$(git status --porcelain)" ] || { echo "the checkout is not clean"; exit 1; }
     mkdir -p dist
     cp web/out/studyboard.html dist/studyboard.html
-    version=$(sed -n 's/^pub const VERSION: &str = "\([^ ]*\) .*/\1/p' crates/study_program/src/options.rt)
+    version=$(sed -n 's/^pub const VERSION: &str = "\([^ ]*\) .*/\1/p' crates/study_console/src/command_line.rt)
     sum=$(sha256sum < dist/studyboard.html | cut -d' ' -f1)
     printf 'version %s\ncommit %s\nsha256 %s\n' "$version" "$(git rev-parse HEAD)" "$sum" | tee dist/studyboard.txt
     exit 0

@@ -67,8 +67,8 @@ def digest(text):
 
 def version():
     """The version of the programs, which the board has too."""
-    options = read(os.path.join(WEB, "..", "crates", "study_program", "src", "options.rt"))
-    return re.search(r'^pub const VERSION: &str = "([^ ]*) ', options, re.M).group(1)
+    console = read(os.path.join(WEB, "..", "crates", "study_console", "src", "command_line.rt"))
+    return re.search(r'^pub const VERSION: &str = "([^ ]*) ', console, re.M).group(1)
 
 
 def main():

@@ -4,9 +4,10 @@ ghost use Rattle.std.specs.Prelude.{◌≤◌, ◌<◌, length};
 use clap::builder::ValueParser;
 use clap::{Arg, ArgAction, Command, Error, value_parser};
 use std::alloc::{AllocError, Global};
+use study_console::VERSION;
 use study_listing::{Form, Request, Unread, read_request};
 use study_material::Class;
-use study_program::{VERSION, folder_of};
+use study_program::folder_of;
 
 const ABOUT: &str =
     "Lists the positions of a class of material that have a theme, from the tables of a folder: each once up to symmetry, none missing.";

@@ -1,7 +1,5 @@
 //! The program, over the streams of its process or over any others.
-ghost use Rattle.std.specs.Prelude.{◌≡◌, Bool, false, OnOk, IfErr, IfSome, IfNone};
-ghost use Rattle.clap.specs.Values.{kind_of};
-ghost use Rattle.study_program.specs.Status.{status_unread};
+ghost use Rattle.std.specs.Prelude.{◌≡◌, false, OnOk, IfErr, IfSome, IfNone};
 ghost use Rattle.study_find_program.specs.Status.{status_of};
 ghost use Rattle.study_find_program.specs.Listed.{HasAnswered};
 ghost use Rattle.study_find_program.specs.Stopped.{IsStopped};
@@ -11,16 +9,16 @@ use crate::lists::answer;
 use crate::options::{Options, WordFault, read_words};
 use crate::progress::Progress;
 use crate::status::{put_stop, status_of};
-use clap::Error;
 use std::alloc::Allocator;
-use std::io;
-use std::io::{ErrorKind, LineWriter, Write};
+use std::io::{LineWriter, Write};
 use std::process::ExitCode;
 use std::rt::Files;
+use study_console::{print_usage, report_stop, words_of};
 use study_listing::{NoWatch, Stop};
 use study_prober::{CellPages, PagedTables};
-use study_program::{FolderStore, open_tables, status_without_options, words_of};
-use study_text::write_text;
+use study_program::{FolderStore, open_tables};
+
+const PROGRAM: &[u8] = b"studymine";
 
 /// Writes the positions of the request to standard output as they are found.
 ///
@@ -29,32 +27,15 @@ use study_text::write_text;
 ///
 /// No contract: no clause can name the content of the streams and the words of a process. `list_over_values` and `list_over_files` have one.
 pub fn studymine(rt: &HostRuntime) -> ExitCode {
-    let words = match words_of(rt) {
+    let words = match words_of(rt, PROGRAM) {
         Ok(words) => words,
-        Err(error) => return ExitCode::from(not_read(rt, &error)),
+        Err(status) => return ExitCode::from(status),
     };
     match read_words(rt.alloc(), words.as_slice()) {
         Ok(Ok(options)) => ExitCode::from(list_to_streams(rt, &options)),
         Ok(Err(fault)) => ExitCode::from(not_known(rt, fault)),
-        Err(error) => ExitCode::from(print_usage(rt, &error)),
+        Err(error) => ExitCode::from(print_usage(rt, PROGRAM, &error)),
     }
-}
-
-/// There is no memory.
-fn without_memory(rt: &HostRuntime) -> u8
-    ensures { result ≡ 3 }
-{
-    let _ = write_text(&mut rt.stderr(), b"studymine: OutOfMemory\n");
-    3
-}
-
-/// The words of the command line cannot be read.
-fn not_read(rt: &HostRuntime, error: &io::Error) -> u8 {
-    if error.kind() == ErrorKind::OutOfMemory {
-        return without_memory(rt);
-    }
-    let _ = eprintln!(rt; "error: a word of the command line is not UTF-8");
-    2
 }
 
 /// The words are not a request.
@@ -71,30 +52,15 @@ fn not_known(rt: &HostRuntime, fault: WordFault) -> u8
     2
 }
 
-/// Prints help, the version, or why the words are refused.
-fn print_usage(rt: &HostRuntime, error: &Error) -> u8
-    ensures { (printed : Bool) × (result ≡ status_unread (kind_of error.now) printed) }
-{
-    if error.kind() == clap::error::ErrorKind::OutOfMemory {
-        return without_memory(rt);
-    }
-    let printed = error.print(rt).is_ok();
-    let status = status_without_options(error, printed);
-    if status == 3 {
-        let _ = write_text(&mut rt.stderr(), b"studymine: WriteDevice\n");
-    }
-    status
-}
-
 fn list_to_streams(rt: &HostRuntime, options: &Options<'_>) -> u8 {
     let alloc = rt.alloc();
     let mut errors = rt.stderr();
     let Ok(mut out) = LineWriter::new(alloc, rt.stdout()) else {
-        return without_memory(rt);
+        return report_stop(&mut rt.stderr(), PROGRAM, b"OutOfMemory");
     };
     match list_over_files(rt, &alloc, options, &mut out, &mut errors) {
         Some(status) => status,
-        None => without_memory(rt),
+        None => report_stop(&mut rt.stderr(), PROGRAM, b"OutOfMemory"),
     }
 }
 

@@ -1,8 +1,6 @@
 -- The exit status of the program, and the message when a run stops.
-use Rattle.std.specs.Prelude.{ℕ, Bool, true, false, nat_lt, ◌&&◌, ◌==◌, ◌⊎◌, List, Option, Result, Ok, Err, if◌then◌else◌, codes}
+use Rattle.std.specs.Prelude.{ℕ, nat_lt, ◌&&◌, ◌==◌, ◌⊎◌, List, Option, Result, Ok, Err, if◌then◌else◌, codes}
 use Rattle.std.specs.Io.KnownBytes.{Appends, Keeps}
-use Rattle.clap.specs.declared.error.kind.ErrorKind.{ErrorKind}
-use Rattle.clap.specs.declared.error.kind.ErrorKind.TheVariants as word
 use Rattle.study_text.specs.Taken.{TakesPrefix}
 use Rattle.study_import.specs.declared.importer.Imported.{Imported}
 use Rattle.study_import_program.specs.declared.streaming.ImportFault.{ImportFault}
@@ -12,17 +10,6 @@ use Rattle.study_import_program.specs.declared.streaming.ImportFault.TheVariants
 abbrev pub status_reported : Result Imported ImportFault → ℕ
 status_reported (Ok imported) = if nat_lt 0 imported.reported && imported.reported == imported.studies then 0 else 1
 status_reported (Err fault) = 3
-
--- help or the version was requested: 0 if it was printed; elsewhere the words were refused
-abbrev pub status_shown : Bool → ℕ
-status_shown true = 0
-status_shown false = 3
-
-abbrev pub status_unread : ErrorKind → Bool → ℕ
-status_unread word.OutOfMemory printed = 3
-status_unread word.DisplayHelp printed = status_shown printed
-status_unread word.DisplayVersion printed = status_shown printed
-status_unread _ printed = 2
 
 -- `studyimport: ReadDevice`
 abbrev pub stop_text : ImportFault → List ℕ

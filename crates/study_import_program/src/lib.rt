@@ -13,7 +13,7 @@ mod streaming;
 
 pub use code_page::{CodePage, PageReader};
 pub use line_ends::LineReader;
-pub use options::{Options, VERSION, read_words};
+pub use options::{Options, read_words};
 pub use program::{import_stream, studyimport};
-pub use status::{put_games, put_stop, status_of, status_without_options};
+pub use status::{put_games, put_stop, status_of};
 pub use streaming::{ImportFault, import_games};

@@ -5,12 +5,10 @@ use clap::builder::ValueParser;
 use clap::{Arg, ArgAction, Command, Error, value_parser};
 use std::alloc::{AllocError, Global};
 use study_command::{Command as ScriptCommand, read_command};
+use study_console::VERSION;
 use study_import::Choice;
 use study_marks::Stipulation;
 use study_text::Text;
-
-/// The version, and the kits that prove it, as `studyimport --version` prints them.
-pub const VERSION: &str = "1.7.0 (rattle-kit-13b or 13f, logic dac8208d650f15bf)";
 
 const ABOUT: &str =
     "Turns games of PGN, from standard input, into a script of studybench and studyreport, to standard output.";

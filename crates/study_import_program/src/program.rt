@@ -9,13 +9,12 @@ ghost use Rattle.study_import_program.specs.Texts.{text_of};
 use crate::code_page::PageReader;
 use crate::line_ends::LineReader;
 use crate::options::{Options, read_words};
-use crate::status::{put_stop, status_of, status_without_options};
+use crate::status::{put_stop, status_of};
 use crate::streaming::{ImportFault, import_games};
-use clap::Error;
 use std::alloc::Allocator;
-use std::io::{BufReader, BufWriter, ErrorKind, Read, Write};
+use std::io::{BufReader, BufWriter, Read, Write};
 use std::process::ExitCode;
-use std::{env, io};
+use study_console::{print_usage, words_of};
 use study_import::Imported;
 
 /// Reads games of PGN from standard input and writes their script to standard output.
@@ -25,29 +24,15 @@ use study_import::Imported;
 ///
 /// No contract: no clause can name the content of the streams and the words of a process. `import_stream` has one.
 pub fn studyimport(rt: &HostRuntime) -> ExitCode {
-    let words = match words_of(rt) {
+    let words = match words_of(rt, b"studyimport") {
         Ok(words) => words,
-        Err(error) => return ExitCode::from(not_read(rt, &error)),
+        Err(status) => return ExitCode::from(status),
     };
     match read_words(rt.alloc(), words.as_slice()) {
         Ok(Some(options)) => ExitCode::from(import_streams(rt, &options)),
         Ok(None) => ExitCode::from(no_stipulation(rt)),
-        Err(error) => ExitCode::from(print_usage(rt, &error)),
+        Err(error) => ExitCode::from(print_usage(rt, b"studyimport", &error)),
     }
-}
-
-/// The words of the command line, the first of which is the program's name.
-fn words_of(rt: &HostRuntime) -> io::Result<Vec<String>> {
-    Ok(env::args(rt)?.collect(rt.alloc())?)
-}
-
-/// The words of the command line cannot be read.
-fn not_read(rt: &HostRuntime, error: &io::Error) -> u8 {
-    if error.kind() == ErrorKind::OutOfMemory {
-        return report_end(&mut rt.stderr(), &Err(ImportFault::OutOfMemory));
-    }
-    let _ = eprintln!(rt; "error: a word of the command line is not UTF-8");
-    2
 }
 
 fn no_stipulation(rt: &HostRuntime) -> u8 {
@@ -55,19 +40,6 @@ fn no_stipulation(rt: &HostRuntime) -> u8 {
         "error: --stipulate wants a side and a goal: white win, black draw, white mate 3"
     );
     2
-}
-
-/// Prints help, the version, or why the words are refused.
-fn print_usage(rt: &HostRuntime, error: &Error) -> u8 {
-    if error.kind() == clap::error::ErrorKind::OutOfMemory {
-        return report_end(&mut rt.stderr(), &Err(ImportFault::OutOfMemory));
-    }
-    let printed = error.print(rt).is_ok();
-    let status = status_without_options(error, printed);
-    if status == 3 {
-        return report_end(&mut rt.stderr(), &Err(ImportFault::WriteDevice));
-    }
-    status
 }
 
 fn import_streams(rt: &HostRuntime, options: &Options) -> u8 {

@@ -1,17 +1,13 @@
 //! The exit status of the program, and what it writes to standard error.
 ghost use Rattle.std.specs.Prelude.{◌≡◌, ◌++◌, codes, decimal, OnOk, OnErr};
 ghost use Rattle.std.specs.Io.KnownBytes.{Appends};
-ghost use Rattle.clap.specs.Values.{kind_of};
 ghost use Rattle.study_text.specs.Taken.{TakesPrefix};
-ghost use Rattle.study_import_program.specs.Status.{status_reported, status_unread, stop_text};
+ghost use Rattle.study_import_program.specs.Status.{status_reported, stop_text};
 
 use crate::streaming::ImportFault;
-use clap::Error;
-use clap::error::ErrorKind;
-use itoa::Buffer;
 use std::io::Write;
 use study_import::Imported;
-use study_text::{DeviceFailed, write_text};
+use study_text::{DeviceFailed, Piece, write_pieces, write_text};
 
 /// The exit status after a run.
 pub fn status_of(answer: &Result<Imported, ImportFault>) -> u8
@@ -21,17 +17,6 @@ pub fn status_of(answer: &Result<Imported, ImportFault>) -> u8
         Ok(imported) if imported.reported > 0 && imported.reported == imported.studies => 0,
         Ok(_) => 1,
         Err(_) => 3,
-    }
-}
-
-/// The exit status if the words of the command line give no options, by clap's message and whether that was printed.
-pub fn status_without_options(error: &Error, printed: bool) -> u8
-    ensures { result ≡ status_unread (kind_of error.now) printed }
-{
-    match error.kind() {
-        ErrorKind::OutOfMemory => 3,
-        ErrorKind::DisplayHelp | ErrorKind::DisplayVersion => { if printed { 0 } else { 3 } }
-        _ => 2,
     }
 }
 
@@ -56,16 +41,5 @@ pub fn put_games<W: Write>(out: &mut W, count: u32) -> Result<(), DeviceFailed>
         (TakesPrefix (W.contents out.old) (W.contents out.new)
         (decimal count ++ codes " games\n")) }
 {
-    let mut buffer = Buffer::new();
-    put_both(out, buffer.format(count).as_bytes(), b" games\n")
-}
-
-fn put_both<W: Write>(out: &mut W, front: &[u8], back: &[u8]) -> Result<(), DeviceFailed>
-    ensures ok { OnOk result
-        (Appends (W.contents out.old) (W.contents out.new) (front.now ++ back.now)) }
-    ensures err { OnErr result
-        (TakesPrefix (W.contents out.old) (W.contents out.new) (front.now ++ back.now)) }
-{
-    write_text(out, front)?;
-    write_text(out, back)
+    write_pieces(out, &[Piece::Number(count), Piece::Bytes(b" games\n")])
 }

@@ -1,9 +1,7 @@
 -- The exit status of the program, and the message when a run stops.
-use Rattle.std.specs.Prelude.{ℕ, Bool, true, false, ◌==◌, ◌⊎◌, List, [], ◌∷◌, ◌++◌, Option, Result, Ok, Err, if◌then◌else◌}
+use Rattle.std.specs.Prelude.{ℕ, ◌==◌, ◌⊎◌, List, [], ◌∷◌, ◌++◌, Option, Result, Ok, Err, if◌then◌else◌}
 use Rattle.std.specs.Prelude.{codes, decimal}
 use Rattle.std.specs.Io.KnownBytes.{Appends, Keeps}
-use Rattle.clap.specs.declared.error.kind.ErrorKind.{ErrorKind}
-use Rattle.clap.specs.declared.error.kind.ErrorKind.TheVariants as word
 use Rattle.study_text.specs.Taken.{TakesPrefix}
 use Rattle.study_script.specs.declared.running.Summary.{Summary}
 use Rattle.study_script.specs.declared.running.RunFault.{RunFault}
@@ -13,17 +11,6 @@ use Rattle.study_script.specs.declared.running.RunFault.TheVariants.{ReadDevice,
 abbrev pub status_reported : Result Summary RunFault → ℕ
 status_reported (Ok summary) = if summary.refused == 0 then 0 else 1
 status_reported (Err fault) = 3
-
--- help or the version was requested: 0 if it was printed; elsewhere the words were refused
-abbrev pub status_shown : Bool → ℕ
-status_shown true = 0
-status_shown false = 3
-
-abbrev pub status_unread : ErrorKind → Bool → ℕ
-status_unread word.OutOfMemory printed = 3
-status_unread word.DisplayHelp printed = status_shown printed
-status_unread word.DisplayVersion printed = status_shown printed
-status_unread _ printed = 2
 
 -- `studybench: LineTooLong 3`
 abbrev pub stop_text : RunFault → List ℕ

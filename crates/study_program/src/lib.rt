@@ -11,7 +11,7 @@ mod status;
 mod tables;
 
 pub use folder::{FilePages, FolderStore};
-pub use options::{Options, VERSION, folder_of, read_words};
-pub use program::{answer_script, run_over_files, studybench, words_of};
-pub use status::{put_stop, status_of, status_without_options};
+pub use options::{Options, folder_of, read_words};
+pub use program::{answer_script, run_over_files, studybench};
+pub use status::{put_stop, status_of};
 pub use tables::open_tables;

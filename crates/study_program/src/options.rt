@@ -5,9 +5,7 @@ ghost use Rattle.std.proofs.Props.{props};
 use clap::builder::ValueParser;
 use clap::{Arg, ArgAction, Command, Error, value_parser};
 use std::alloc::Global;
-
-/// The version, and the kits that prove it, as `studybench --version` prints them.
-pub const VERSION: &str = "1.7.0 (rattle-kit-13b or 13f, logic dac8208d650f15bf)";
+use study_console::VERSION;
 
 const ABOUT: &str =
     "Answers a script of commands on chess endgame studies, one reply a line, from standard input to standard output.";

@@ -1,18 +1,16 @@
 //! The program, over the streams of its process or over any others.
-ghost use Rattle.std.specs.Prelude.{◌≡◌, Bool, is_some};
-ghost use Rattle.clap.specs.Values.{kind_of};
+ghost use Rattle.std.specs.Prelude.{◌≡◌, is_some};
 ghost use Rattle.study_program.specs.Ended.{EndsBy, HasRun};
-ghost use Rattle.study_program.specs.Status.{status_reported, status_unread, IsReported};
+ghost use Rattle.study_program.specs.Status.{status_reported, IsReported};
 
 use crate::folder::FolderStore;
 use crate::options::{Options, read_words};
-use crate::status::{put_stop, status_of, status_without_options};
-use clap::Error;
+use crate::status::{put_stop, status_of};
 use std::alloc::Allocator;
-use std::io::{BufReader, ErrorKind, LineWriter, Read, Write};
+use std::io::{BufReader, LineWriter, Read, Write};
 use std::process::ExitCode;
 use std::rt::Files;
-use std::{env, io};
+use study_console::{print_usage, words_of};
 use study_script::{RunFault, Settings, Summary, run};
 
 /// Reads the script from standard input and writes each reply to standard output as soon as its line is answered.
@@ -22,45 +20,14 @@ use study_script::{RunFault, Settings, Summary, run};
 ///
 /// No contract: no clause can name the content of the streams and the words of a process. `answer_script` has one.
 pub fn studybench(rt: &HostRuntime) -> ExitCode {
-    let words = match words_of(rt) {
+    let words = match words_of(rt, b"studybench") {
         Ok(words) => words,
-        Err(error) => return ExitCode::from(not_read(rt, &error)),
+        Err(status) => return ExitCode::from(status),
     };
     match read_words(rt.alloc(), words.as_slice()) {
         Ok(options) => ExitCode::from(answer_streams(rt, &options)),
-        Err(error) => ExitCode::from(print_usage(rt, &error)),
+        Err(error) => ExitCode::from(print_usage(rt, b"studybench", &error)),
     }
-}
-
-/// The words of the command line, the first of which is the program's name.
-///
-/// No contract: no clause can name the words with which a process was started.
-pub fn words_of(rt: &HostRuntime) -> io::Result<Vec<String>> {
-    Ok(env::args(rt)?.collect(rt.alloc())?)
-}
-
-/// The words of the command line cannot be read.
-fn not_read(rt: &HostRuntime, error: &io::Error) -> u8 {
-    if error.kind() == ErrorKind::OutOfMemory {
-        return report_end(&mut rt.stderr(), &Err(RunFault::OutOfMemory));
-    }
-    let _ = eprintln!(rt; "error: a word of the command line is not UTF-8");
-    2
-}
-
-/// Prints help, the version, or why the words are refused.
-fn print_usage(rt: &HostRuntime, error: &Error) -> u8
-    ensures { (printed : Bool) × (result ≡ status_unread (kind_of error.now) printed) }
-{
-    if error.kind() == clap::error::ErrorKind::OutOfMemory {
-        return report_end(&mut rt.stderr(), &Err(RunFault::OutOfMemory));
-    }
-    let printed = error.print(rt).is_ok();
-    let status = status_without_options(error, printed);
-    if status == 3 {
-        return report_end(&mut rt.stderr(), &Err(RunFault::WriteDevice));
-    }
-    status
 }
 
 fn answer_streams(rt: &HostRuntime, options: &Options<'_>) -> u8 {

@@ -4,7 +4,8 @@ ghost use Rattle.std.specs.Prelude.{◌≤◌, ◌<◌, length};
 use clap::builder::ValueParser;
 use clap::{Arg, ArgAction, Command, Error, value_parser};
 use std::alloc::Global;
-use study_program::{VERSION, folder_of};
+use study_console::VERSION;
+use study_program::folder_of;
 
 const ABOUT: &str =
     "Prints the studies of a script, from standard input to standard output, as HTML: each line 'pgn' that is accepted adds the study's page.";

@@ -1,8 +1,7 @@
 //! The program, over the streams of its process or over any others.
-ghost use Rattle.std.specs.Prelude.{◌≡◌, Bool, false, codes};
+ghost use Rattle.std.specs.Prelude.{◌≡◌, false, codes};
 ghost use Rattle.study_material.specs.Class.{class_list};
-ghost use Rattle.clap.specs.Values.{kind_of};
-ghost use Rattle.study_program.specs.Status.{status_reported, status_unread};
+ghost use Rattle.study_program.specs.Status.{status_reported};
 ghost use Rattle.study_report_program.specs.Ended.{EndsBy, HasReported, IsReported};
 ghost use Rattle.study_program.specs.Errors.{AreFaultsOf};
 ghost use Rattle.study_report_program.specs.Errors.{IsStopReported};
@@ -11,16 +10,15 @@ use crate::old_remarks::OldRemarks;
 use crate::options::{Form, Options, read_words};
 use crate::progress::Progress;
 use crate::status::{put_old_remarks, put_stop};
-use clap::Error;
 use std::alloc::Allocator;
-use std::io;
-use std::io::{BufReader, ErrorKind, LineWriter, Read, Write};
+use std::io::{BufReader, LineWriter, Read, Write};
 use std::process::ExitCode;
 use std::rt::Files;
+use study_console::{print_usage, words_of};
 use study_list::write_list;
 use study_print::{Unwatched, write_pages};
 use study_prober::PagedTables;
-use study_program::{FolderStore, open_tables, status_of, status_without_options, words_of};
+use study_program::{FolderStore, open_tables, status_of};
 use study_report::{Lines, write_report};
 use study_script::{RunFault, Summary, Tables};
 use study_sheet::write_sheet;
@@ -32,38 +30,14 @@ use study_sheet::write_sheet;
 ///
 /// No contract: no clause can name the content of the streams and the words of a process. `report_script` has one.
 pub fn studyreport(rt: &HostRuntime) -> ExitCode {
-    let words = match words_of(rt) {
+    let words = match words_of(rt, b"studyreport") {
         Ok(words) => words,
-        Err(error) => return ExitCode::from(not_read(rt, &error)),
+        Err(status) => return ExitCode::from(status),
     };
     match read_words(rt.alloc(), words.as_slice()) {
         Ok(options) => ExitCode::from(report_streams(rt, &options)),
-        Err(error) => ExitCode::from(print_usage(rt, &error)),
+        Err(error) => ExitCode::from(print_usage(rt, b"studyreport", &error)),
     }
-}
-
-/// The words of the command line cannot be read.
-fn not_read(rt: &HostRuntime, error: &io::Error) -> u8 {
-    if error.kind() == ErrorKind::OutOfMemory {
-        return report_end(&mut rt.stderr(), &Err(RunFault::OutOfMemory));
-    }
-    let _ = eprintln!(rt; "error: a word of the command line is not UTF-8");
-    2
-}
-
-/// Prints help, the version, or why the words are refused.
-fn print_usage(rt: &HostRuntime, error: &Error) -> u8
-    ensures { (printed : Bool) × (result ≡ status_unread (kind_of error.now) printed) }
-{
-    if error.kind() == clap::error::ErrorKind::OutOfMemory {
-        return report_end(&mut rt.stderr(), &Err(RunFault::OutOfMemory));
-    }
-    let printed = error.print(rt).is_ok();
-    let status = status_without_options(error, printed);
-    if status == 3 {
-        return report_end(&mut rt.stderr(), &Err(RunFault::WriteDevice));
-    }
-    status
 }
 
 /// Reports the script of standard input. It is a call of its own, so that nothing of the command line is on the stack while the studies are read.
