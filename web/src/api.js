@@ -72,6 +72,14 @@ export function makeApi(spawn) {
      */
     report: script => factsOf('report', script),
     /**
+     * The script of the games of a PGN.
+     * @param {string} pgn
+     * @param {string} stipulation      of games that state none, as `white win`; or nothing
+     * @param {boolean} upToFaults      whether a game with a bad move is read up to there
+     */
+    import: (pgn, stipulation = '', upToFaults = false) =>
+      answer(`${upToFaults ? 'import-up-to-faults' : 'import'} ${stipulation}`.trim(), pgn, services.core, 0),
+    /**
      * @param {string} fen
      * @param {string} square
      * @param {string} stipulation      as `white win`, `black draw`, `white mate 3`

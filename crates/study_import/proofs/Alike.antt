@@ -1,5 +1,6 @@
 -- The study of a game depends on no number.
-use Rattle.std.proofs.Common.{◌≡◌, ℕ, Bool, true, false, List, length, Option, Some, None, Result, Ok, Err, refl, ap}
+use Rattle.std.proofs.Common.{◌≡◌, ℕ, Bool, true, false, List, length, Option, Some, None, Result, Ok, Err, refl, sym, ap, ◌∙◌}
+use Rattle.std.proofs.lemmas.Bool.{false≢true}
 use Rattle.std.specs.Prelude.{◌==◌, codes, if◌then◌else◌}
 use Rattle.study_notation.specs.declared.start.Start.{Start}
 use Rattle.study_notation.specs.declared.fault.FenFault.{FenFault}
@@ -22,35 +23,35 @@ use Rattle.study_import.specs.Laws.{entry_of, remark_above, text_read, study_blo
 module _ (c : Choice) (text : List ℕ) where
   abbrev Alike : (ℕ → ℕ → Block) → Type 0
   Alike make = (start : Start) × (aim : Aim) × (reported : Reported) × (fault : Option MovesFault)
-      × ((number line : ℕ) → make number line ≡ study_block (entry_of number line text) start aim reported fault)
+      × (c.up_to_faults ≡ false → fault ≡ None) × ((number line : ℕ) → make number line ≡ study_block (entry_of number line text) start aim reported fault)
 
   aimed_alike : (start : Start) (t : Reported) (s : Sources) (aim : Option Aim) (m k : ℕ) → (aimed_block (entry_of m k text) start t s aim).is_study ≡ true
       → Alike (λ number line. aimed_block (entry_of number line text) start t s aim)
   aimed_alike start t s None m k e = absurd cc
-  aimed_alike start t s (Some aim) m k e = (start, aim, t, None, λ number line. refl)
+  aimed_alike start t s (Some aim) m k e = (start, aim, t, None, λ off. refl, λ number line. refl)
 
-  aimed_up_to_alike : (start : Start) (fault : MovesFault) (t : Reported) (aim : Option Aim) (m k : ℕ)
+  aimed_up_to_alike : c.up_to_faults ≡ true → (start : Start) (fault : MovesFault) (t : Reported) (aim : Option Aim) (m k : ℕ)
       → (aimed_up_to (entry_of m k text) start fault t aim).is_study ≡ true → Alike (λ number line. aimed_up_to (entry_of number line text) start fault t aim)
-  aimed_up_to_alike start fault t None m k e = absurd cc
-  aimed_up_to_alike start fault t (Some aim) m k e = (start, aim, t, Some fault, λ number line. refl)
+  aimed_up_to_alike on start fault t None m k e = absurd cc
+  aimed_up_to_alike on start fault t (Some aim) m k e = (start, aim, t, Some fault, λ off. absurd (false≢true (sym off ∙ on)), λ number line. refl)
 
-  up_to_alike : (start : Start) (fault : MovesFault) (x : Result Ended MovesFault) (m k : ℕ)
+  up_to_alike : c.up_to_faults ≡ true → (start : Start) (fault : MovesFault) (x : Result Ended MovesFault) (m k : ℕ)
       → (block_up_to c.given (entry_of m k text) start fault x).is_study ≡ true
       → Alike (λ number line. block_up_to c.given (entry_of number line text) start fault x)
-  up_to_alike start fault (Err other) m k e = absurd cc
-  up_to_alike start fault (Ok x) m k e =
-      aimed_up_to_alike start fault (reported_up_to x) (aim_of_game c.given (tags_of text) start.position.to_move x.game.notes) m k e
+  up_to_alike on start fault (Err other) m k e = absurd cc
+  up_to_alike on start fault (Ok x) m k e =
+      aimed_up_to_alike on start fault (reported_up_to x) (aim_of_game c.given (tags_of text) start.position.to_move x.game.notes) m k e
 
-  if_up_to_alike : (start : Start) (fault : MovesFault) (x : Result Ended MovesFault) (wanted : Bool) (m k : ℕ)
+  if_up_to_alike : (start : Start) (fault : MovesFault) (x : Result Ended MovesFault) (wanted : Bool) → c.up_to_faults ≡ wanted → (m k : ℕ)
       → (if wanted then block_up_to c.given (entry_of m k text) start fault x else stopped_block (entry_of m k text) fault).is_study ≡ true
       → Alike (λ number line. if wanted then block_up_to c.given (entry_of number line text) start fault x else stopped_block (entry_of number line text) fault)
-  if_up_to_alike start fault x true m k e = up_to_alike start fault x m k e
-  if_up_to_alike start fault x false m k e = absurd cc
+  if_up_to_alike start fault x true on m k e = up_to_alike on start fault x m k e
+  if_up_to_alike start fault x false off m k e = absurd cc
 
   faulty_alike : (start : Start) (fault : MovesFault) (m k : ℕ) → (faulty_block c (entry_of m k text) start fault).is_study ≡ true
       → Alike (λ number line. faulty_block c (entry_of number line text) start fault)
   unfolding faulty_block
-  faulty_alike start fault m k e = if_up_to_alike start fault (game_read (text_up_to text fault.left) start) c.up_to_faults m k e
+  faulty_alike start fault m k e = if_up_to_alike start fault (game_read (text_up_to text fault.left) start) c.up_to_faults refl m k e
 
   read_alike : (start : Start) (l : Option Language) (x : Result Ended MovesFault) (m k : ℕ)
       → (read_block c (entry_of m k text) start l x).is_study ≡ true → Alike (λ number line. read_block c (entry_of number line text) start l x)
@@ -96,12 +97,12 @@ own_alike c text m k e = header_alike c text (header_fault text) m k e
 by_alike : (c : Choice) (text : List ℕ) (tail : Option Tail) (m k : ℕ)
     → (block_or_tail c m (record { line = k; text = Some text }) tail).is_study ≡ true
     → (start : Start) × (aim : Aim) × (reported : Reported) × (fault : Option MovesFault)
-    × ((number line : ℕ) → block_or_tail c number (record { line = line; text = Some text }) tail
+    × (c.up_to_faults ≡ false → fault ≡ None) × ((number line : ℕ) → block_or_tail c number (record { line = line; text = Some text }) tail
     ≡ under_remark (remark_above tail) (study_block (entry_of number line (text_read text tail)) start aim reported fault))
 by_alike c text None m k e = own_alike c text m k e
 by_alike c text (Some t) m k e =
-    let (start, aim, reported, fault, same) = start_alike c t.text (position_text t.position) (start_of (position_text t.position)) m k e in
-    (start, aim, reported, fault, λ number line. ap (under_remark (tail_line t.skipped)) (same number line))
+    let (start, aim, reported, fault, none, same) = start_alike c t.text (position_text t.position) (start_of (position_text t.position)) m k e in
+    (start, aim, reported, fault, none, λ number line. ap (under_remark (tail_line t.skipped)) (same number line))
 
 pub alike : AreAlike
 alike c text m k e = by_alike c text (tail_of c.tails (Some text)) m k e

@@ -10,7 +10,7 @@ use Rattle.std.proofs.lemmas.Bool.Decides.{nat_tests}
 use Rattle.std.proofs.lemmas.List.{append-nil}
 use Rattle.std.proofs.lemmas.Fmt.{decimal_is_IsNumeral, decimal_nonempty, length-decimal-le}
 use Rattle.study_notation.specs.Fen.{is_digit}
-use Rattle.study_tree.specs.Paths.{path_text, more_places}
+use Rattle.study_text.specs.Paths.{path_text, more_places}
 use Rattle.study_command.specs.Paths.{is_place, place_parsed, is_path, is_path_word, steps_of}
 use Rattle.study_command.specs.Parser.{path_of}
 use Rattle.study_import.proofs.Spelling.{AllBelow}

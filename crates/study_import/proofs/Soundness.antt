@@ -16,7 +16,7 @@ use Rattle.study_notation.specs.FenSpelling.{fen_text}
 use Rattle.study_notation.specs.SanSpelling.{move_text}
 use Rattle.study_notation.proofs.FenAgain.{start_again}
 use Rattle.study_notation.proofs.FenStarts.{IsRead as IsStart, read_is}
-use Rattle.study_tree.specs.Paths.{path_text}
+use Rattle.study_text.specs.Paths.{path_text}
 use Rattle.study_marks.specs.declared.stipulation.Goal.{Goal}
 use Rattle.study_marks.specs.declared.stipulation.Goal.TheVariants.{Win, Draw, MateIn}
 use Rattle.study_marks.specs.declared.stipulation.Stipulation.{Stipulation}

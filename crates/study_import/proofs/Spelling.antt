@@ -25,8 +25,8 @@ use Rattle.study_notation.specs.FenSpelling.{man_letter, row, run, squares_text,
 use Rattle.study_notation.specs.FenSpelling.{passed_text, fen_text}
 use Rattle.study_notation.specs.SanSpelling.{gives_file, gives_rank, san_for, check_text, move_text}
 use Rattle.study_notation.proofs.FenStarts.{IsRead}
-use Rattle.study_notation.proofs.RowText.{length-placement_text}
-use Rattle.study_tree.specs.Paths.{path_text, more_places}
+use Rattle.study_notation.proofs.RowText.{placement_is_short}
+use Rattle.study_text.specs.Paths.{path_text, more_places}
 use Rattle.study_import.proofs.Ink.{Ink, Print, ink_append, ink_prints, print_append, decimal_ink}
 
 -- a word of at most n bytes
@@ -259,7 +259,7 @@ fen_is s r =
       few = omega (
         arith,
         longs (placement_text men) (side_text s.position.to_move) (45 ∷ []) (passed_text s.position.passed) (decimal s.clock) (decimal s.number),
-        length-placement_text men few,
+        placement_is_short men few,
         side_few s.position.to_move,
         passed_few s.position.passed,
         c.few,

@@ -1,5 +1,5 @@
 -- The script of a file.
-use Rattle.std.specs.Prelude.{◌≡◌, ℕ, ◌-◌, ◌^◌, false, List, [], ◌∷◌, ◌++◌, Option, Some, None}
+use Rattle.std.specs.Prelude.{Bool, ◌≡◌, ℕ, ◌-◌, ◌^◌, false, List, [], ◌∷◌, ◌++◌, Option, Some, None}
 use Rattle.study_marks.specs.declared.stipulation.Stipulation.{Stipulation}
 use Rattle.study_games.specs.Games.{Game, Begun, Gathered, games_from, games_of, lines_behind}
 use Rattle.study_import.specs.declared.importer.Choice.{Choice}
@@ -21,9 +21,13 @@ tally_behind c t (g ∷ gs) = tally_behind c (tally_with_game c t g) gs
 unfoldable pub tally_of : Choice → List ℕ → Tally
 tally_of c text = tally_behind c no_game (games_of text)
 
--- all games, whole and without tails; given: the stipulation of the games that state none
+-- all games, without tails; given: the stipulation of the games that state none
+abbrev pub whole_file : Option Stipulation → Bool → Choice
+whole_file given up_to_faults = record { given = given; from = 1; to = 2 ^ 32 - 1; tails = false; up_to_faults = up_to_faults }
+
+-- the same, each game to its end
 abbrev pub all_games : Option Stipulation → Choice
-all_games given = record { given = given; from = 1; to = 2 ^ 32 - 1; tails = false; up_to_faults = false }
+all_games given = whole_file given false
 
 -- the state of an import: the bytes of the current line, the current game, and the tally before
 pub record Held : Type 0 where

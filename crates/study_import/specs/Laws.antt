@@ -74,12 +74,12 @@ abbrev pub study_block : Entry → Start → Aim → Reported → Option MovesFa
 study_block e start aim reported fault = record { text = fault_line e fault ++ block_lines e start aim reported; is_study = true }
 
 -- a game leads to the same study under every number and at every line: its start, its stipulation and its moves are those of its text; if it is read only
--- up to its first fault, the fault is the same
+-- up to its first fault, as the choice allows, the fault is the same
 abbrev pub AreAlike : Type 0
 AreAlike =
     (c : Choice) → (text : List ℕ) → (m k : ℕ) → (block_by c m (record { line = k; text = Some text })).is_study ≡ true
     → (start : Start) × (aim : Aim) × (reported : Reported) × (fault : Option MovesFault)
-    × ((number line : ℕ) → block_by c number (record { line = line; text = Some text })
+    × (c.up_to_faults ≡ false → fault ≡ None) × ((number line : ℕ) → block_by c number (record { line = line; text = Some text })
     ≡ under_remark (remark_above (tail_of c.tails (Some text)))
     (study_block (entry_of number line (text_read text (tail_of c.tails (Some text)))) start aim reported fault))
 

@@ -10,7 +10,6 @@ pub mod MovesRead
 pub mod Behind
 pub mod Tails
 pub mod Masks
-pub mod Pieces
 pub mod Blocks
 pub mod BlocksRead
 pub mod Imported

@@ -4,7 +4,7 @@ use Rattle.std.specs.List.{list_all}
 use Rattle.study_board.specs.Position.{Position}
 use Rattle.study_moves.specs.declared.moves.Move.{Move}
 use Rattle.study_notation.specs.SanSpelling.{move_text}
-use Rattle.study_tree.specs.Paths.{path_text}
+use Rattle.study_text.specs.Paths.{path_text}
 use Rattle.study_marks.specs.Study.{position_at}
 use Rattle.study_notation.specs.declared.fault.SanFault.TheVariants.{NotSan}
 use Rattle.study_marks.specs.Edits.{PlainStudy, is_printable}

@@ -31,7 +31,6 @@ use crate::game::notes::Notes;
 use crate::importer::Choice;
 use crate::letters::add_read;
 use crate::masks::{Mask, add_masked};
-use crate::pieces::{Piece, add_pieces};
 use crate::places::{Entry, Place, at_most, place_in};
 use crate::tags::{add_tag_lines, add_was_lines};
 use std::alloc::{AllocError, Allocator};
@@ -46,7 +45,7 @@ use study_marks::{Bench, Goal, Stipulation};
 use study_notation::{FenFault, Start, read_fen, write_fen};
 use study_remark::{Doubt, Remark, Subject, add_remark};
 use study_reply::Refusal;
-use study_text::Text;
+use study_text::{Piece, Text, add_pieces};
 
 fn side_text(side: Side) -> &'static [u8]
     ensures { result.now ≡ side_text side }

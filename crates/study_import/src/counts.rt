@@ -5,12 +5,11 @@ ghost use Rattle.study_import.specs.Blocks.{separator, count_words, counts_words
 ghost use Rattle.study_import.specs.Blocks.{known_names, other_tags};
 
 use crate::game::notes::Notes;
-use crate::pieces::{Piece, add_pieces};
 use crate::places::at_most;
 use std::alloc::{AllocError, Allocator};
 use study_games::{count_tags, tag_value};
 use study_remark::{Remark, add_remark};
-use study_text::Text;
+use study_text::{Piece, Text, add_pieces};
 
 /// The number of tags with this name that are used: one at most.
 fn found_count(game: &[u8], name: &[u8]) -> usize

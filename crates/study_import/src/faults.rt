@@ -9,14 +9,13 @@ use crate::game::lines::LineFault;
 use crate::game::moves::MoveFault;
 use crate::game::movetext::{MovesFault, Stop};
 use crate::game::token_effects::Reason;
-use crate::pieces::{Piece, add_pieces};
 use crate::places::{Entry, Place, place_in, text_at};
 use crate::tags::entry_names;
 use std::alloc::{AllocError, Allocator};
 use study_games::{Run, TokenFault, cut_run, truncate};
 use study_remark::{Remark, Subject, add_remark};
 use study_reply::Refusal;
-use study_text::Text;
+use study_text::{Piece, Text, add_pieces};
 
 /// The number of bytes of a symbol or a number that are printed.
 const LONGEST_REPORTED: usize = 40;

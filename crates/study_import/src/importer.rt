@@ -2,7 +2,7 @@
 ghost use Rattle.std.specs.Prelude.{◌≡◌, ◌++◌, [], ◌==◌, length, OnOk, IfOk};
 ghost use Rattle.study_games.specs.Games.{without_mark, kind_of, with_byte, with_next, game_seen};
 ghost use Rattle.study_import.specs.Blocks.{tally_with_game, reported_text};
-ghost use Rattle.study_import.specs.Imported.{script_of, all_games, nothing_held, still_written, still_tallied, written_of, tally_ahead, put_away};
+ghost use Rattle.study_import.specs.Imported.{script_of, whole_file, all_games, nothing_held, still_written, still_tallied, written_of, tally_ahead, put_away};
 ghost use Rattle.study_import.specs.Imported.{text_at_hand, TakesByte, KeepsTally, EndsLine, EndsLineTallied};
 ghost use Rattle.study_import.specs.ImportedSeen.{tally_seen};
 
@@ -24,6 +24,21 @@ pub struct Choice {
     pub tails: bool,
     /// A game with a fault among its moves is read up to there.
     pub up_to_faults: bool,
+}
+
+impl Choice {
+    /// All games, without tails; `given` is the stipulation of the games that state none.
+    pub fn whole_file(given: Option<Stipulation>, up_to_faults: bool) -> Self
+        ensures { result ≡ whole_file given up_to_faults }
+    {
+        Choice {
+            given,
+            from: 1,
+            to: u32::MAX,
+            tails: false,
+            up_to_faults,
+        }
+    }
 }
 
 /// The numbers of games so far, of those written, and of studies among these.
@@ -211,9 +226,9 @@ fn tell_game<'a, A: Allocator>(
     })
 }
 
-/// The script of a file of PGN.
+/// The script of a PGN file: the blocks of the chosen games, and how many there are.
 #[tactic(auto, using(crate::proofs::Ended::script_is))]
-fn import_chosen<'a, A: Allocator>(
+pub fn import_chosen<'a, A: Allocator>(
     alloc: &'a A,
     text: &[u8],
     choice: Choice,
@@ -239,12 +254,5 @@ pub fn import<'a, A: Allocator>(
 ) -> Result<Text<'a, A>, AllocError>
     ensures { IfOk result (λ script. script ≡ script_of (all_games given) text.now) }
 {
-    let choice = Choice {
-        given,
-        from: 1,
-        to: u32::MAX,
-        tails: false,
-        up_to_faults: false,
-    };
-    import_chosen(alloc, text, choice)
+    import_chosen(alloc, text, Choice::whole_file(given, false))
 }

@@ -16,13 +16,12 @@ mod importer;
 mod laws;
 mod letters;
 mod masks;
-mod pieces;
 mod places;
 mod tags;
 mod tail_block;
 mod tails;
 
-pub use importer::{Choice, Imported, Importer, import};
+pub use importer::{Choice, Imported, Importer, import, import_chosen};
 pub use laws::{
     blocks_are_isolated, blocks_are_read, faults_are_listed, files_are_read_back,
     games_are_read_whole, moves_are_accepted, scripts_are_read, studies_are_alike,

@@ -7,14 +7,13 @@ ghost use Rattle.study_marks.specs.Study.{tag_name};
 ghost use Rattle.study_import.specs.Blocks.{name_words, name_of, quoted, entry_names, original_named, was_words, latin_line, was_line, six_names, unknown_text, text_or_unknown, tag_value_text, tag_line};
 
 use crate::masks::{Mask, add_masked};
-use crate::pieces::{Piece, add_pieces};
 use std::alloc::{AllocError, Allocator};
 use study_games::{
     is_utf8, short_text, spell_out, tag_value, trim_end, trim_start, truncate, unescape,
 };
 use study_marks::{TagName, tag_name};
 use study_remark::{Original, Remark, add_remark};
-use study_text::Text;
+use study_text::{Piece, Text, add_pieces};
 
 /// The number of bytes of an original in a remark.
 const LONGEST_ORIGINAL: usize = 255;

@@ -26,7 +26,8 @@ use Rattle.study_search.specs.declared.only_moves.Outcome.{Outcome as SoughtOutc
 use Rattle.study_listing.specs.declared.piece_words.Piece.{Piece}
 use Rattle.study_listing.specs.Pieces.{AreLookedAt, IsPiece}
 use Rattle.study_listing.specs.Requests.{class_of_request}
-use Rattle.study_import.specs.Imported.{script_of, all_games}
+use Rattle.study_import.specs.declared.importer.Choice.{Choice}
+use Rattle.study_import.specs.Imported.{script_of}
 use Rattle.study_web.specs.declared.request_fault.RequestFault.{RequestFault}
 use Rattle.study_web.specs.declared.request_fault.RequestFault.TheVariants as denial
 use Rattle.study_web.specs.declared.answers.make.MakeFault.{MakeFault}
@@ -219,8 +220,8 @@ IsRowTo spans bytes o start text ended =
     (classes : List Class) × AreClassesNeeded (start.position ∷ []) classes × IsRowOver (spans_for classes spans) bytes o start text ended
 
 -- the script of the games
-abbrev pub IsImported : List ℕ → Option Stipulation → List ℕ → Ending → Type 0
-IsImported pgn given = IsWhole (λ text. text ≡ script_of (all_games given) pgn) IsOutOfMemory IsNoMemory
+abbrev pub IsImported : List ℕ → Choice → List ℕ → Ending → Type 0
+IsImported pgn choice = IsWhole (λ text. text ≡ script_of choice pgn) IsOutOfMemory IsNoMemory
 
 -- the words that a page shows without a reply that has them
 abbrev pub IsWording : List ℕ → Ending → Type 0
@@ -244,7 +245,7 @@ IsAnswerTo spans bytes by_pages script (passed start) text ended = IsPassedList 
 IsAnswerTo spans bytes by_pages script (find piece) text ended = IsFoundTo spans bytes piece text ended
 IsAnswerTo spans bytes by_pages script (unread fault) text ended = IsDenied (denial.Unread fault) text ended
 IsAnswerTo spans bytes by_pages script (row o start) text ended = IsRowTo spans bytes o start text ended
-IsAnswerTo spans bytes by_pages script (bring given) text ended = IsImported script given text ended
+IsAnswerTo spans bytes by_pages script (bring choice) text ended = IsImported script choice text ended
 IsAnswerTo spans bytes by_pages script wording text ended = IsWording text ended
 IsAnswerTo spans bytes by_pages script remarks text ended = IsRemarkList script text ended
 

@@ -4,6 +4,7 @@ use Rattle.study_material.specs.declared.class.Class.{Class}
 use Rattle.study_notation.specs.declared.start.Start.{Start}
 use Rattle.study_marks.specs.declared.stipulation.Stipulation.{Stipulation}
 use Rattle.study_reply.specs.declared.refusal.Refusal.{Refusal}
+use Rattle.study_import.specs.declared.importer.Choice.{Choice}
 use Rattle.study_search.specs.declared.only_moves.Outcome.{Outcome}
 use Rattle.study_listing.specs.declared.filter_words.Unread.{Unread}
 use Rattle.study_listing.specs.declared.piece_words.Piece.{Piece}
@@ -18,7 +19,7 @@ pub data Asked : Type 0 where
   find : (piece : Piece) → Asked
   unread : (fault : Unread) → Asked
   row : (outcome : Outcome) (start : Start) → Asked
-  bring : (given : Option Stipulation) → Asked
+  bring : (choice : Choice) → Asked
 
 abbrev pub Asks : Type 0
 Asks = Result Asked Refusal

@@ -109,9 +109,9 @@ last_title_lines =
 -- of their tables, with tabs between them
 unfoldable pub head_lines : List ℕ
 head_lines =
-    said_line (codes "tries-heads") (codes "After\tLeft\tRefuted by")
+    said_line (codes "tries-heads") (codes "After\tResult\tRefuted by")
     ++ (said_line (codes "zugzwangs-heads") (codes "After\tWhite to move\tBlack to move")
-    ++ (said_line (codes "ends-heads") (codes "After\tValue\tGoes on")
+    ++ (said_line (codes "ends-heads") (codes "After\tValue\tContinuation")
     ++ said_line (codes "list-heads") (codes "No.\tTitle\tAuthor\tStipulation\tVerdict")))
 
 unfoldable pub page_lines : List ℕ
@@ -126,11 +126,11 @@ said_lines =
 unfoldable pub keep_line : List ℕ
 keep_line = said_line (codes "keep") keeps_draw_words
 
--- how much later another move mates, and how many answers hold
+-- how much later another move mates, and how many answers there are
 unfoldable pub later_lines : List ℕ
 later_lines =
     said_line (codes "longer") (by_words 1 (codes "longer"))
-    ++ (said_line (codes "quicker") (by_words 1 (codes "quicker")) ++ said_line (codes "hold") (several_words 2))
+    ++ (said_line (codes "quicker") (by_words 1 (codes "quicker")) ++ said_line (codes "answers") (several_words 2))
 
 unfoldable pub move_lines : List ℕ
 move_lines = said_lines ++ (keep_line ++ later_lines)

@@ -1,5 +1,5 @@
 -- The request that a line of words spells.
-use Rattle.std.specs.Prelude.{ℕ, ◌+◌, ◌*◌, ◌-◌, ◌&&◌, nat_le, List, [], ◌∷◌, codes, Option, Some, None, Result, Ok, Err, if◌then◌else◌}
+use Rattle.std.specs.Prelude.{ℕ, ◌+◌, ◌*◌, ◌-◌, Bool, true, false, ◌&&◌, nat_le, List, [], ◌∷◌, codes, Option, Some, None, Result, Ok, Err, if◌then◌else◌}
 use Rattle.std.specs.List.{list_all}
 use Rattle.std.specs.Str.{bytes_eq}
 use Rattle.study_board.specs.declared.men.Side.{Side}
@@ -19,6 +19,7 @@ use Rattle.study_reply.specs.declared.refusal.Refusal.TheVariants.{Form, NotACla
 use Rattle.study_script.specs.Replies.{class_parsed}
 use Rattle.study_search.specs.declared.only_moves.Outcome.{Outcome}
 use Rattle.study_listing.specs.Requests.{outcome_named}
+use Rattle.study_import.specs.Imported.{whole_file}
 use Rattle.study_web.specs.Asked.{Asked, Asks, run, review, report, tables, wording, remarks, make, view, survey, passed, find, unread, row, bring}
 use Rattle.study_web.specs.FindWords.{find_asked}
 use Rattle.study_web.specs.declared.request.Request.{Request}
@@ -107,13 +108,13 @@ row_asked [] text = Err (Form BadArguments)
 row_asked (outcome ∷ more) text = row_for (outcome_named outcome) (behind_word text)
 
 -- nothing, or `SIDE GOAL`
-abbrev pub brought_for : Option (Stipulation × List ℕ) → Asks
-brought_for None = Err (Form UnknownStipulation)
-brought_for (Some (stipulation, rest)) = without_arguments (bring (Some stipulation)) (words rest)
+abbrev pub brought_for : Bool → Option (Stipulation × List ℕ) → Asks
+brought_for up_to_faults None = Err (Form UnknownStipulation)
+brought_for up_to_faults (Some (stipulation, rest)) = without_arguments (bring (whole_file (Some stipulation) up_to_faults)) (words rest)
 
-abbrev pub import_asked : List (List ℕ) → List ℕ → Asks
-import_asked [] text = Ok (bring None)
-import_asked (side ∷ more) text = brought_for (stipulation_begun (side ∷ more) text)
+abbrev pub import_asked : Bool → List (List ℕ) → List ℕ → Asks
+import_asked up_to_faults [] text = Ok (bring (whole_file None up_to_faults))
+import_asked up_to_faults (side ∷ more) text = brought_for up_to_faults (stipulation_begun (side ∷ more) text)
 
 -- ---- the request
 
@@ -129,11 +130,12 @@ word_asked word rest =
     else (if bytes_eq word (codes "passed") then with_start passed (start_of rest)
     else (if bytes_eq word (codes "make") then make_asked (one_word (words rest))
     else (if bytes_eq word (codes "find") then find_asked (words rest)
-    else (if bytes_eq word (codes "import") then import_asked (words rest) rest
+    else (if bytes_eq word (codes "import") then import_asked false (words rest) rest
+    else (if bytes_eq word (codes "import-up-to-faults") then import_asked true (words rest) rest
     else (if bytes_eq word (codes "row") then row_asked (words rest) rest
     else (if bytes_eq word (codes "words") then without_arguments wording (words rest)
     else (if bytes_eq word (codes "remarks") then without_arguments remarks (words rest)
-    else Err (Form UnknownCommand)))))))))))))
+    else Err (Form UnknownCommand))))))))))))))
 
 abbrev pub words_asked : List (List ℕ) → List ℕ → Asks
 words_asked [] line = Err (Form UnknownCommand)
@@ -156,7 +158,7 @@ request_seen request.Tables = tables
 request_seen (request.Passed start) = passed start
 request_seen (request.Find piece) = find piece
 request_seen (request.Unread fault) = unread fault
-request_seen (request.Import given) = bring given
+request_seen (request.Import choice) = bring choice
 request_seen (request.Row r) = row r.outcome r.start
 request_seen request.Words = wording
 request_seen request.Remarks = remarks

@@ -27,8 +27,8 @@ use crate::request_fault::RequestFault;
 use crate::saved::Saved;
 use crate::store::SpanStore;
 use std::alloc::Allocator;
+use study_import::Choice;
 use study_listing::{Piece, classes_for};
-use study_marks::Stipulation;
 use study_material::Class;
 use study_notation::Start;
 use study_reply::Refusal;
@@ -37,8 +37,8 @@ use study_view::classes_needed;
 /// Answers a request for a script, over the files of the request.
 ///
 /// A request is a line of words: `run`, `make CLASS`, `view PATH`, `review`, `report`, `survey SQUARE SIDE GOAL FEN`, `tables`,
-/// `passed FEN`, `find CLASS THEME [FILTER ..] FROM TO`, `import`, `import SIDE GOAL`, `row win FEN`, `row draw FEN`, `words`, `remarks`.
-/// For `import` the script is PGN, as Latin-1 or UTF-8. Files are read by pages and must be tables: for `view`, `review` and `report` those that the
+/// `passed FEN`, `find CLASS THEME [FILTER ..] FROM TO`, `import`, `import SIDE GOAL`, `import-up-to-faults` with the same words or none,
+/// `row win FEN`, `row draw FEN`, `words`, `remarks`. For `import` the script is PGN, as Latin-1 or UTF-8. Files are read by pages and must be tables: for `view`, `review` and `report` those that the
 /// script's positions need, for `survey`, `row` and `find` those that the position or the class needs. Other files are not opened. What
 /// `run` saves is put into the cells, one for each class.
 pub fn answer<'f, 'a, A: Allocator>(
@@ -64,7 +64,7 @@ pub fn answer<'f, 'a, A: Allocator>(
         Ok(Request::Passed(start)) => answer_passed(alloc, &start),
         Ok(Request::Find(piece)) => of_find(alloc, &piece, files),
         Ok(Request::Unread(fault)) => fault_answer(alloc, RequestFault::Unread(fault)),
-        Ok(Request::Import(given)) => of_import(alloc, script, given),
+        Ok(Request::Import(choice)) => of_import(alloc, script, choice),
         Ok(Request::Row(row)) => of_row(alloc, &row, files),
         Ok(Request::Words) => of_words(alloc),
         Ok(Request::Remarks) => of_remarks(alloc, script),
@@ -329,14 +329,10 @@ fn of_find<'a, A: Allocator>(alloc: &'a A, piece: &Piece, files: &TableFiles<'_>
     }
 }
 
-fn of_import<'a, A: Allocator>(
-    alloc: &'a A,
-    pgn: &[u8],
-    given: Option<Stipulation>,
-) -> Answer<'a, A>
-    ensures { IsImported pgn.now given result.text.items result.ended }
+fn of_import<'a, A: Allocator>(alloc: &'a A, pgn: &[u8], choice: Choice) -> Answer<'a, A>
+    ensures { IsImported pgn.now choice result.text.items result.ended }
 {
-    answer_of(alloc, imported_of(alloc, pgn, given))
+    answer_of(alloc, imported_of(alloc, pgn, choice))
 }
 
 fn of_words<'a, A: Allocator>(alloc: &'a A) -> Answer<'a, A>

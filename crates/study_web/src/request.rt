@@ -18,6 +18,7 @@ use study_board::Square;
 use study_command::{
     PathText, SyntaxFault, as_text, read_mate_moves, read_one_word, read_path_word, read_side,
 };
+use study_import::Choice;
 use study_listing::{Piece, Unread};
 use study_marks::{Goal, Stipulation, is_printable};
 use study_material::Class;
@@ -64,8 +65,9 @@ pub enum Request<'r> {
     Find(Piece),
     /// `find` with words that name no known theme or filter.
     Unread(Unread),
-    /// `import` or `import SIDE GOAL`: the script of the games of PGN; the stipulation is for the games that have none of their own.
-    Import(Option<Stipulation>),
+    /// `import` or `import SIDE GOAL`: the script of the games of PGN; the stipulation is for the games that have none of their own. With the word
+    /// `import-up-to-faults`, a game with a fault among its moves is read up to there.
+    Import(Choice),
     /// `words`: words that the page shows without a reply that has them.
     Words,
     /// `remarks`: the remarks of the script, apart.
@@ -112,7 +114,9 @@ fn read_words<'r>(word: &'r [u8], rest: &'r [u8]) -> Result<Request<'r>, Refusal
     } else if word == b"find".as_slice() {
         read_find(rest)
     } else if word == b"import".as_slice() {
-        read_import(rest)
+        read_import(rest, false)
+    } else if word == b"import-up-to-faults".as_slice() {
+        read_import(rest, true)
     } else if word == b"row".as_slice() {
         read_row(rest)
     } else if word == b"words".as_slice() {
@@ -281,17 +285,17 @@ fn read_row(rest: &[u8]) -> Result<Request<'_>, Refusal>
 
 /// Nothing, or `SIDE GOAL`.
 #[tactic(auto, using(study_command::proofs::Printable::printable_behind))]
-fn read_import(rest: &[u8]) -> Result<Request<'_>, Refusal>
-    ensures { asks_seen result ≡ import_asked (words rest.now) rest.now }
+fn read_import(rest: &[u8], up_to_faults: bool) -> Result<Request<'_>, Refusal>
+    ensures { asks_seen result ≡ import_asked up_to_faults (words rest.now) rest.now }
 {
     if next_word(rest).is_none() {
-        return Ok(Request::Import(None));
+        return Ok(Request::Import(Choice::whole_file(None, up_to_faults)));
     }
     match read_stipulation(rest) {
         None => Err(Refusal::Form(SyntaxFault::UnknownStipulation)),
         Some((stipulation, behind)) => without_arguments(
             behind,
-            Request::Import(Some(stipulation)),
+            Request::Import(Choice::whole_file(Some(stipulation), up_to_faults)),
         ),
     }
 }

@@ -1,54 +1,26 @@
 //! The names of refusals, and how an answer ended, in words.
-ghost use Rattle.std.specs.Prelude.{◌≡◌, ◌++◌, OnOk, codes, decimal};
+ghost use Rattle.std.specs.Prelude.{◌≡◌, ◌++◌, OnOk, codes};
 ghost use Rattle.std.specs.Io.KnownBytes.{Appends};
 ghost use Rattle.study_material.specs.Class.{name_of};
-ghost use Rattle.study_reply.specs.Names.{argument_text, words_of};
+ghost use Rattle.study_reply.specs.Names.{words_of};
 ghost use Rattle.study_web.specs.Reported.{line_of, unread_text, denial_text, stop_text, ending_text};
 
 use crate::reply::Ending;
 use crate::request_fault::RequestFault;
-use itoa::Buffer;
 use std::io::Write;
 use study_listing::Unread;
 use study_material::Class;
-use study_reply::{Argument, Refusal};
+use study_reply::{Refusal, word_pieces};
 use study_script::{RunFault, Summary};
-use study_text::{DeviceFailed, write_text};
+use study_text::{DeviceFailed, Piece, write_pieces, write_text};
 
-fn put_number<W: Write>(out: &mut W, number: u32) -> Result<(), DeviceFailed>
-    ensures { OnOk result (Appends (W.contents out.old) (W.contents out.new) (decimal number)) }
-{
-    let mut buffer = Buffer::new();
-    write_text(out, buffer.format(number).as_bytes())
-}
-
-fn put_argument<W: Write>(out: &mut W, argument: Argument) -> Result<(), DeviceFailed>
-    ensures { OnOk result
-        (Appends (W.contents out.old) (W.contents out.new) (argument_text argument)) }
-{
-    match argument {
-        Argument::None => write_text(out, b""),
-        Argument::Class(class) => write_text(out, class.name().as_bytes()),
-        Argument::Number(number) => put_number(out, number),
-    }
-}
-
-/// A refusal as the script's replies name it, without `error `.
-#[tactic(auto, unfolding(study_reply::specs::Names::words_of))]
-fn put_words<W: Write>(out: &mut W, refusal: Refusal) -> Result<(), DeviceFailed>
-    ensures { OnOk result (Appends (W.contents out.old) (W.contents out.new) (words_of refusal)) }
-{
-    write_text(out, refusal.name())?;
-    put_argument(out, refusal.argument())
-}
-
-/// The same, and a line feed.
+/// A refusal as the script's replies name it, without `error `, and a line feed.
 fn put_refusal<W: Write>(out: &mut W, refusal: Refusal) -> Result<(), DeviceFailed>
     ensures { OnOk result
         (Appends (W.contents out.old) (W.contents out.new) (line_of (words_of refusal))) }
 {
-    put_words(out, refusal)?;
-    write_text(out, b"\n")
+    let (name, argument) = word_pieces(refusal);
+    write_pieces(out, &[name, argument, Piece::Bytes(b"\n")])
 }
 
 fn put_file_fault<W: Write>(out: &mut W, class: Class, refusal: Refusal) -> Result<(), DeviceFailed>
@@ -56,9 +28,17 @@ fn put_file_fault<W: Write>(out: &mut W, class: Class, refusal: Refusal) -> Resu
         (Appends (W.contents out.old) (W.contents out.new)
         (name_of class ++ (codes " " ++ line_of (words_of refusal)))) }
 {
-    write_text(out, class.name().as_bytes())?;
-    write_text(out, b" ")?;
-    put_refusal(out, refusal)
+    let (name, argument) = word_pieces(refusal);
+    write_pieces(
+        out,
+        &[
+            Piece::Bytes(class.name().as_bytes()),
+            Piece::Bytes(b" "),
+            name,
+            argument,
+            Piece::Bytes(b"\n"),
+        ],
+    )
 }
 
 /// Writes the name of a refusal, and a line feed: `NoSuchNode`, `MissingTable KQK`, `KRK HeaderDamaged`.
@@ -84,22 +64,20 @@ fn unread_text(fault: Unread) -> &'static [u8]
     }
 }
 
-fn put_counted<W: Write>(out: &mut W, word: &[u8], number: u32) -> Result<(), DeviceFailed>
-    ensures { OnOk result
-        (Appends (W.contents out.old) (W.contents out.new) (word.now ++ line_of (decimal number))) }
-{
-    write_text(out, word)?;
-    put_number(out, number)?;
-    write_text(out, b"\n")
-}
-
 fn put_ran<W: Write>(out: &mut W, summary: Summary) -> Result<(), DeviceFailed>
     ensures { OnOk result
         (Appends (W.contents out.old) (W.contents out.new) (ending_text (Ending.Ran summary))) }
 {
-    write_text(out, b"ran ")?;
-    put_number(out, summary.lines)?;
-    put_counted(out, b" ", summary.refused)
+    write_pieces(
+        out,
+        &[
+            Piece::Bytes(b"ran "),
+            Piece::Number(summary.lines),
+            Piece::Bytes(b" "),
+            Piece::Number(summary.refused),
+            Piece::Bytes(b"\n"),
+        ],
+    )
 }
 
 fn put_stopped<W: Write>(out: &mut W, fault: RunFault) -> Result<(), DeviceFailed>
@@ -108,7 +86,14 @@ fn put_stopped<W: Write>(out: &mut W, fault: RunFault) -> Result<(), DeviceFaile
     match fault {
         RunFault::ReadDevice => write_text(out, b"stopped ReadDevice\n"),
         RunFault::WriteDevice => write_text(out, b"stopped WriteDevice\n"),
-        RunFault::LineTooLong(line) => put_counted(out, b"stopped LineTooLong ", line),
+        RunFault::LineTooLong(line) => write_pieces(
+            out,
+            &[
+                Piece::Bytes(b"stopped LineTooLong "),
+                Piece::Number(line),
+                Piece::Bytes(b"\n"),
+            ],
+        ),
         RunFault::TooManyLines => write_text(out, b"stopped TooManyLines\n"),
         RunFault::OutOfMemory => write_text(out, b"stopped OutOfMemory\n"),
     }

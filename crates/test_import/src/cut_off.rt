@@ -116,14 +116,7 @@ pgn
 #[test]
 fn games_are_read_up_to_their_faults(rt: HostRuntime) -> Result<(), Fail> {
     let alloc = rt.alloc();
-    let choice = Choice {
-        given: None,
-        from: 1,
-        to: u32::MAX,
-        tails: false,
-        up_to_faults: true,
-    };
-    let mut importer = Importer::new(&alloc, choice);
+    let mut importer = Importer::new(&alloc, Choice::whole_file(None, true));
     let mut script = Text::new(&alloc);
     for byte in GAMES {
         importer.take(*byte, &mut script)?;

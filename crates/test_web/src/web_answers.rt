@@ -30,7 +30,7 @@ pgn
 const VIEW: &str = r#"study k7/1R6/8/K7/8/8/8/8 w - - 0 1
 counts 2 + 1, 0100.00 a5a8
 stipulation White to mate in 3: sound, White mates in 3
-sentence The stipulation holds, and each move of the solution is the only one. At the start: White mates in 3.
+sentence The stipulation is correct, and every move of the solution is the only one that works. At the start: White mates in 3.
 node root - - win 5 - faults 0 k7/1R6/8/K7/8/8/8/8 w - - 0 1
 node 0 Rc7 b7c7 loss 4 only faults 0 k7/2R5/8/K7/8/8/8/8 b - - 1 1
 node 0.0 Kb8 a8b8 win 3 reply faults 0 1k6/2R5/8/K7/8/8/8/8 w - - 2 2
@@ -315,6 +315,7 @@ fn refused_by_name(rt: HostRuntime) -> Result<(), Fail> {
         ("row win 4k3/8/8/8/8/8/8/R3K3 w - -", "NoTable KRK\n"),
         ("import white", "UnknownStipulation\n"),
         ("import white win 5", "BadArguments\n"),
+        ("import-up-to-faults white", "UnknownStipulation\n"),
         ("words all", "BadArguments\n"),
         ("remarks all", "BadArguments\n"),
     ];
@@ -542,6 +543,32 @@ fn games_come_in(rt: HostRuntime) -> Result<(), Fail> {
     Ok(())
 }
 
+const FAULTY: &str = r#"[Event "e"]
+[FEN "8/8/8/4k3/8/4K3/4P3/8 w - - 0 1"]
+[Result "*"]
+
+1. Kd3 Kx9 *
+"#;
+
+/// A game with a fault among its moves is left out, or read up to there if the request says so.
+#[test]
+fn games_come_in_up_to_their_faults(rt: HostRuntime) -> Result<(), Fail> {
+    let alloc = rt.alloc();
+    let whole = ask(&alloc, "import white draw", FAULTY, &[], &[]);
+    assert!(rt;
+        whole
+            .text
+            .as_slice()
+            .ends_with(b"\n#! games 1, studies 0\n")
+    );
+    let front = ask(&alloc, "import-up-to-faults white draw", FAULTY, &[], &[]);
+    assert!(rt; front.ended == Ending::Answered);
+    let fault = b"#! game 1, line 5, column 8 (\"e\"): not read: NotSan at Kx9\n";
+    assert!(rt; front.text.as_slice().starts_with(fault.as_slice()));
+    assert!(rt; front.text.as_slice().ends_with(BLOCK.as_bytes()));
+    Ok(())
+}
+
 /// Lines as docs/IMPORT.md has them, and comments, two of them as version 1.7 wrote its remarks.
 const REMARKS: &str = r#"#! game 1, line 1: stipulated by its comment
 #! game 4, line 52, column 17 (Kasparyan, G.): NoSuchMove at Kb6
@@ -615,14 +642,14 @@ word start At the start: draw.
 word holds holds
 word time sound but for loss of time
 word unread not read: line 1
-word unread-sentence A line of this study was refused, so it is not stamped.
-word time-sentence The stipulation holds; the solution has one fault, which loses time alone.
-word times-sentence The stipulation holds; the solution has 2 faults, which lose time alone.
+word unread-sentence A line of this study could not be read, so there is no verdict.
+word time-sentence The stipulation is correct; the solution has one fault, which only wastes time.
+word times-sentence The stipulation is correct; the solution has 2 faults, which only waste time.
 word untitled Untitled
 word tries Tries and their refutations
 word list-heads No.\tTitle\tAuthor\tStipulation\tVerdict
 word longer , 1 move longer
-word hold 2 hold
+word answers 2 answers
 word full full point\tBlack wins\tWhite wins
 word half-black half a point\tBlack wins\tdraw
 ";

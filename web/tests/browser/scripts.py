@@ -101,10 +101,15 @@ def gallery(classes):
 
 def own_words(user):
     """How many of the answers differ that node tests have from a file."""
-    data = {name: text_of(os.path.join(DATA, name)) for name in ("words.txt", "remarks.script", "remarks.rows")}
+    names = ("words.txt", "remarks.script", "remarks.rows", "up_to_fault.pgn", "up_to_fault.script")
+    data = {name: text_of(os.path.join(DATA, name)) for name in names}
     answers = [
         (user.promise("studyboard.words()"), data["words.txt"]),
         (user.promise("studyboard.remarks(a[0])", data["remarks.script"]), data["remarks.rows"]),
+        (
+            user.promise("studyboard.import(a[0], 'white draw', true)", data["up_to_fault.pgn"]),
+            data["up_to_fault.script"],
+        ),
     ]
     differ = [(answer, wanted) for answer, wanted in answers if answer != wanted]
     for answer, wanted in differ:

@@ -23,7 +23,7 @@ use study_head::{Stamp, add_sentence, add_stamp_words, add_start_value};
 use study_pgn::add_value;
 use study_print::game_reason;
 use study_reply::{Refusal, reason_of};
-use study_text::{Text, next_word};
+use study_text::{Piece, Text, add_pieces, next_word};
 use study_values::Value;
 
 /// Names that have words.
@@ -232,29 +232,29 @@ fn title_lines() -> &'static [u8]
 fn last_title_lines() -> &'static [u8]
     ensures { result.now ≡ last_title_lines }
 {
-    b"word defences Defences that are not in the tree\nword ends Best play from the open ends\nword list Entries and verdicts\n"
+    b"word defences Defences not given\nword ends Best play after the last move given\nword list Entries and verdicts\n"
 }
 
 #[tactic(auto, unfolding(crate::specs::CoreWords::head_lines))]
 fn head_lines() -> &'static [u8]
     ensures { result.now ≡ head_lines }
 {
-    b"word tries-heads After\tLeft\tRefuted by\nword zugzwangs-heads After\tWhite to move\tBlack to move\n\
-word ends-heads After\tValue\tGoes on\nword list-heads No.\tTitle\tAuthor\tStipulation\tVerdict\n"
+    b"word tries-heads After\tResult\tRefuted by\nword zugzwangs-heads After\tWhite to move\tBlack to move\n\
+word ends-heads After\tValue\tContinuation\nword list-heads No.\tTitle\tAuthor\tStipulation\tVerdict\n"
 }
 
 #[tactic(auto, unfolding(crate::specs::CoreWords::said_lines, study_page::specs::Rows::loses_time, study_page::specs::Rows::gives_up_goal))]
 fn said_lines() -> &'static [u8]
     ensures { result.now ≡ said_lines }
 {
-    b"word as-quick , as quick\nword loses-time , loses time\nword lets-go  lets the aim go: \nword stalemate stalemate\n"
+    b"word as-quick , as quick\nword loses-time , wastes time\nword lets-go  throws it away: \nword stalemate stalemate\n"
 }
 
 #[tactic(auto, unfolding(crate::specs::CoreWords::keep_line, study_page::specs::Rows::keeps_draw_words))]
 fn keep_line() -> &'static [u8]
     ensures { result.now ≡ keep_line }
 {
-    b"word keep  moves keep it:\n"
+    b"word keep  moves keep the draw:\n"
 }
 
 #[tactic(auto, unfolding(crate::specs::CoreWords::page_lines))]
@@ -278,12 +278,17 @@ fn add_by<A: Allocator>(text: &mut Text<'_, A>, way: &[u8]) -> Result<(), AllocE
     text.add(b"\n")
 }
 
-fn add_hold<A: Allocator>(text: &mut Text<'_, A>) -> Result<(), AllocError>
-    ensures { OnOk result (text.new ≡ text.old ++ said_line (codes "hold") (several_words 2)) }
+fn add_answers<A: Allocator>(text: &mut Text<'_, A>) -> Result<(), AllocError>
+    ensures { OnOk result (text.new ≡ text.old ++ said_line (codes "answers") (several_words 2)) }
 {
-    add_said_name(text, b"hold")?;
-    text.add_number(2)?;
-    text.add(b" hold\n")
+    add_pieces(
+        text,
+        &[
+            Piece::Bytes(b"word answers "),
+            Piece::Number(2),
+            Piece::Bytes(b" answers\n"),
+        ],
+    )
 }
 
 #[tactic(auto, unfolding(crate::specs::CoreWords::later_lines))]
@@ -292,7 +297,7 @@ fn add_later<A: Allocator>(text: &mut Text<'_, A>) -> Result<(), AllocError>
 {
     add_by(text, b"longer")?;
     add_by(text, b"quicker")?;
-    add_hold(text)
+    add_answers(text)
 }
 
 #[tactic(auto, unfolding(crate::specs::CoreWords::move_lines))]
