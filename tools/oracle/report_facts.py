@@ -402,7 +402,7 @@ def also_value(fact):
 
 def named(study, path, fact):
     """Another move that holds beside the one that leads to the node, with what it costs in brackets."""
-    cost = longer(study, path, also_value(fact)) + (", loses time" if lost_time(fact) is not None else "")
+    cost = longer(study, path, also_value(fact)) + (", wastes time" if lost_time(fact) is not None else "")
     return fact[1] + (f" ({cost[2:]})" if cost else "")
 
 
@@ -412,7 +412,7 @@ def faults(study):
         path = () if fact[0] == "root" else tuple(map(int, fact[0].split(".")))
         label = study.label(path)
         if fact[-1] == "mistake":
-            items += inside("li", say(f"{label} lets the aim go: {study.node[path].value}"))
+            items += inside("li", say(f"{label} throws it away: {study.node[path].value}"))
         else:
             others = [named(study, path, also) for also in study.of("also", path)]
             more = f" and {len(others) - 6} more" if len(others) > 6 else ""
@@ -434,14 +434,14 @@ def sentence(verdict, empty, time):
     """A verdict, `sound`, `wrong` or `unsound 3`, in a sentence; so many of its faults lose time alone."""
     stamp = verdict.split()[0]
     if stamp == "wrong":
-        words = "The stipulation does not hold."
+        words = "The stipulation is wrong."
     elif stamp == "sound":
-        words = "The stipulation holds." if empty else "The stipulation holds, and each move of the solution is the only one."
+        words = "The stipulation is correct." if empty else "The stipulation is correct, and every move of the solution is the only one that works."
     else:
         n = int(verdict.split()[1])
-        lose = "" if not time else (", which" if time == n else f", of which {time}") + (" loses" if time == 1 else " lose") + " time alone"
-        words = "The stipulation holds; the solution has " + ("one fault" if n == 1 else f"{n} faults") + lose + "."
-    return words + (" No move of the solution was given." if empty else "")
+        lose = "" if not time else (", which" if time == n else f"; {time} of them") + (" only wastes" if time == 1 else " only waste") + " time"
+        words = "The stipulation is correct; the solution has " + ("one fault" if n == 1 else f"{n} faults") + lose + "."
+    return words + (" No move of the solution is given yet." if empty else "")
 
 
 def verdict(study):
@@ -449,7 +449,7 @@ def verdict(study):
     frame = "unsound" if study.unread else "sound" if stamp_of(study).startswith("sound") else stamp
     words = sentence(study.verdict, ["empty"] in study.facts, time_faults([" ".join(fact) for fact in study.facts]))
     if study.unread:
-        words = "A line of this study was refused, so it is not stamped."
+        words = "A line of this study could not be read, so there is no verdict."
     return inside("section", inside("h2", inside("span", say(stamp_of(study)), f'class="stamp {frame}"')) + inside("p", say(words))
                   + inside("p", say(f"At the start: {study.start_value}.")) + faults(study), 'class="verdict"')
 
@@ -494,15 +494,15 @@ def cards(study):
             time = lost_time(fact)
             words = f": {value_words(not before.white, also_value(fact))}{longer(study, path, also_value(fact))}"
             if time is not None:
-                words += ", loses time" + (f" ({time + 1} moves)" if time else "")
+                words += ", wastes time" + (f" ({time + 1} moves)" if time else "")
             items += inside("li", inside("b", say(fact[1])) + say(words))
         title = inside("h3", say(study.label(path) + " ") + inside("span", f"dual {len(also)}", 'class="tag"'))
         out += inside("div", board(before, True) + inside("div", title + inside("p", say(study.node[path].value + ". Also:"))
                                                           + inside("ul", items, 'class="also"')), 'class="card"')
     if not out:
         return ""
-    note = "A move loses time where the opponent can force a position of the same line again, by one move or by so many as are told."
-    return inside("section", inside("h2", "Duals: what else holds") + inside("p", note, 'class="note"')
+    note = "A move wastes time if the opponent can force the play back into the same line; if that takes him more than one move, their number is given."
+    return inside("section", inside("h2", "Duals: other moves that also work") + inside("p", note, 'class="note"')
                   + inside("div", out, 'class="cards"'))
 
 
@@ -536,7 +536,7 @@ def tries(study):
         if refuted[0][1:] != ["stalemate"]:
             cell += inside("b", "only") if len(refuted) == 1 else inside("small", f"({len(refuted)} of {legal(study, path)})")
         rows += inside("tr", inside("td", say(study.label(path))) + inside("td", say(study.node[path].value)) + inside("td", cell))
-    return table("Tries and their refutations", ("After", "Left", "Refuted by"), rows)
+    return table("Tries and their refutations", ("After", "Result", "Refuted by"), rows)
 
 
 def zugzwang_rows(study):
@@ -561,13 +561,13 @@ def defences(study):
             if rest[0] == "1":
                 one[rest[1]] = one.get(rest[1], "") + inside("span", move, 'class="nb"') + " "
             else:
-                words = "stalemate" if rest[-1] == "stalemate" else f"{rest[0]} hold"
+                words = "stalemate" if rest[-1] == "stalemate" else f"{rest[0]} answers"
                 several += inside("span", move + say(" " + words), 'class="nb"') + " "
         groups = "".join(inside("div", inside("i", say(answer)) + " after " + moves) for answer, moves in one.items())
         all_moves = legal(study, path)
         answered = inside("small", f"answers {all_moves - len(missing)} of {all_moves}")
         rows += inside("tr", inside("td", say(study.label(path)) + "<br>" + answered) + inside("td", groups) + inside("td", several))
-    return table("Defences that are not in the tree", ("After", "One answer", "Several"), rows)
+    return table("Defences not given", ("After", "One answer", "Several"), rows)
 
 
 def ends(study):
@@ -583,16 +583,16 @@ def ends(study):
                 words += san + " "
                 at = at.played(san)
         for fact in study.of("keep", path):
-            words = f"{fact[1]} of {fact[2]} moves keep it:" + "".join(" " + san for san in fact[3:])
+            words = f"{fact[1]} of {fact[2]} moves keep the draw:" + "".join(" " + san for san in fact[3:])
         if words:
             value = study.node[path].value if path else study.start_value
             rows += inside("tr", inside("td", say(study.label(path))) + inside("td", say(value)) + inside("td", say(words)))
-    return table("Best play from the open ends", ("After", "Value", "Goes on"), rows)
+    return table("Best play after the last move given", ("After", "Value", "Continuation"), rows)
 
 
-FOOT = ("Values are distances to mate from complete tables of two to four men, without castling, the fifty-move rule and repetition. "
-        "A move holds if the aim is still reached after it; a move that only loses time holds too. "
-        "A small number tells in how many moves the hero mates, behind a minus in how many he is mated; = is a draw, and # is mate.")
+FOOT = ("Values come from complete distance-to-mate tables for two to four men, without castling, the fifty-move rule and repetition. "
+        "A dual is another move that also wins, or draws if the task is to draw, even if it only wastes time. "
+        "A small number is the number of moves to mate; with a minus sign, the side that has the task is mated; = is a draw, and # is mate.")
 
 
 def page(study, number):

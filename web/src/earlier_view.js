@@ -75,8 +75,8 @@ const moveView = move => h('button',
  */
 function marksIn(list, mine) {
   const has = (/** @type {string} */ mark) => list.some(move => move.mark === mark);
-  if (mine) return has('only') ? '; those first that alone hold' : '; none is the only one that holds';
-  return has('mistake') ? '; before one with ? the study does not hold' : '';
+  if (mine) return has('only') ? '; first those that are the only ones to work' : '; none is the only one that works';
+  return has('mistake') ? '; before one with ? the stipulation is wrong' : '';
 }
 function draw() {
   if ($('earlier').hidden) return;

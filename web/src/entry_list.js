@@ -106,7 +106,7 @@ export function csvOf(entries) {
     return [number, title, author, fen, aim, stamp, ...facts, against.map(againstText).join('; '), fault, same];
   });
   const head = [
-    'Number', 'Title', 'Author', 'FEN', 'Stipulation', 'Verdict', 'Duals', 'Duals that lose time', 'Missing defences',
+    'Number', 'Title', 'Author', 'FEN', 'Stipulation', 'Verdict', 'Duals', 'Duals that waste time', 'Missing defences',
     'Sources that differ', 'First fault', 'Same position'
   ];
   return [head, ...rows].map(row => row.map(field).join(',') + '\r\n').join('');

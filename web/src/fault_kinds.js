@@ -9,12 +9,12 @@ import {wordOf} from './wording.js';
 /** Each kind with its words behind a number. */
 export const FAULT_KINDS = /** @type {[string, string][]} */ ([
   ['fails', 'whose own move fails'], ['cook', 'with another first move'], ['main', 'with a dual in the main line'],
-  ['side', 'with a dual in a variation'], ['waste', 'where a dual only loses time']
+  ['side', 'with a dual in a variation'], ['waste', 'where a dual only wastes time']
 ]);
 /** @param {string} path */
 const isMain = path => /^0(\.0)*$/.test(path);
 /**
- * The kind of a fault: the author's move fails, a dual only loses time, or other moves hold at the first move, in the
+ * The kind of a fault: the author's move fails, a dual only wastes time, or other moves work at the first move, in the
  * main line or in a variation.
  * @param {Fault} fault
  * @param {boolean} begins      whether the hero moves first

@@ -13,7 +13,7 @@ import {counted, reason} from './words.js';
 /** Themes as the program names them, with what the list of them says; those that end with `N` take a number. */
 export const THEMES = /** @type {[string, string][]} */ ([
   ['zugzwang', 'mutual zugzwangs'], ['win N', 'wins by N only moves in a row'],
-  ['draw N', 'draws by N only moves in a row'], ['underpromotion', 'only an underpromotion holds'],
+  ['draw N', 'draws by N only moves in a row'], ['underpromotion', 'only an underpromotion works'],
   ['into win', 'wins by a move into a zugzwang'], ['into draw', 'draws by a move into a zugzwang'],
   ['try win', 'wins with a try into a zugzwang'], ['try draw', 'draws with a try into a zugzwang'],
   ['longest white', 'longest wins of White'], ['longest black', 'longest wins of Black']

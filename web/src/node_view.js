@@ -141,8 +141,8 @@ function movesView(s, n) {
 function chip(s, n, m) {
   const sign = markSign(m), after = other(sideOf(n.fen)), there = n.children.find(c => c.san === m.san);
   const meaning = {
-    only: 'the only one that holds',
-    dual: `one of ${m.duals + 1} that hold`,
+    only: 'the only one that works',
+    dual: `one of ${m.duals + 1} that work`,
     mistake: s.aim && sideOf(n.fen) === s.aim.hero ? letsGo() : 'gives the aim back'
   }[m.mark];
   const title = [`${m.san}: ${valueText(after, m.value)}`, meaning, there && 'in the tree'].filter(Boolean).join('; ');

@@ -64,8 +64,10 @@ function dualView(s, n, list) {
  */
 function dualsView(s, root) {
   const rows = app.review ? dualsOf(app.review.also, root) : [];
-  return rows.length > 0 &&
-    [h('h2', {}, 'Duals: what else holds'), h('div', {class: 'duals'}, rows.map(([n, list]) => dualView(s, n, list)))];
+  return rows.length > 0 && [
+    h('h2', {}, 'Duals: other moves that also work'),
+    h('div', {class: 'duals'}, rows.map(([n, list]) => dualView(s, n, list)))
+  ];
 }
 /** @param {Study} s */
 function studyPaper(s) {

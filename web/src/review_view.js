@@ -134,7 +134,7 @@ function defencesView(s, review, root) {
     `${hero} even mates, in so many moves. `;
   const note = [
     aim && (aim.goal === 'draw' ? draws : mates),
-    h('span', {class: 'act'}, 'A press adds it, with its answer where only one holds.')
+    h('span', {class: 'act'}, 'A click adds it, with its answer if there is only one.')
   ];
   const single = review.missing.filter(d => d.count === 1).length;
   return rows.length > 0 && section('defences', wordOf('defences'), note, [
@@ -142,7 +142,7 @@ function defencesView(s, review, root) {
       h('p', {class: 'act'},
         smallButton(
           `Add all ${single} with one answer`, 'each with its only answer', () => addAll(rows), {id: 'addAll'})),
-    table(['After', 'Given', 'Not given, with the answer where only one holds'], rows,
+    table(['After', 'Given', 'Not given, with the answer if there is only one'], rows,
       ([n, list]) => missingView(s, n, list))
   ]);
 }

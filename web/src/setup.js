@@ -267,8 +267,8 @@ async function judgement(d, build) {
   const own = view.moves.filter(holds).map(m => m.san), wrong = view.verdict === 'wrong';
   const hero = view.aim && sideOf(view.fen) === view.aim.hero,
         list = own.slice(0, 8).join(' ') + (own.length > 8 ? ' ..' : '');
-  const first = own.length === 1 ? `One first move: ${own[0]}.` : `${counted(own.length, 'first move')} hold: ${list}.`;
-  const aim = view.aim ? aimText(view.aim) : '', result = wrong ? 'does not hold' : 'holds';
+  const first = own.length === 1 ? `One first move: ${own[0]}.` : `${counted(own.length, 'first move')} work: ${list}.`;
+  const aim = view.aim ? aimText(view.aim) : '', result = wrong ? 'wrong' : 'correct';
   const text = `${aim}: ${result}; ${view.start}. ${!wrong && hero ? first : ''}`;
   return {...none, text, mate: movesTo(view.root.value)};
 }

@@ -1,5 +1,6 @@
 // @ts-check
-// Where else a man could stand: the squares on which the stipulation holds. What more is known of them comes one square
+// Where else a man could stand: the squares on which the stipulation is correct. What more is known of them comes one
+// square
 // after the other, so that nothing waits for it.
 import {track, work} from './actions.js';
 import {PAGES, app, services, say} from './state.js';

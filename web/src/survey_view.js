@@ -28,7 +28,7 @@ export function surveyView(d) {
               `${isWhite(letter) ? 'White' : 'Black'} ${letter.toUpperCase()}${squareName(at)}`)));
   return [
     h('p', {class: 'row'}, 'Where else could ', list, ' stand?',
-      button('Show', 'the squares on which the stipulation holds', () => survey(chosen), {id: 'survey'})),
+      button('Show', 'the squares on which the stipulation is correct', () => survey(chosen), {id: 'survey'})),
     d.survey && [standsView(d.survey), rowsView(d.survey), hasTree(d) && treesView(d, d.survey)]
   ];
 }
@@ -40,7 +40,7 @@ function standsView(spots) {
   const only = spots.filter(t => t.sign === 'dot').map(t => t.text), more = spots.length - only.length;
   return h('p', {class: 'note', id: 'stands'}, sign('dot'),
     ` by one first move: ${only.length ? named(only, FIRST) : 'nowhere'}; `, sign('plain'),
-    ` it holds on ${more}${only.length ? ' more' : ''}. A press on a square puts this man there.`);
+    ` it is correct on ${more}${only.length ? ' more' : ''}. A press on a square puts this man there.`);
 }
 /**
  * The numbers in the dots, the largest first.

@@ -185,7 +185,7 @@ export function markCurrent(path) {
 }
 const example = (/** @type {string} */ mark, /** @type {string} */ sign) =>
   h('span', {class: 'm ' + mark}, 'move', sign && h('b', {}, sign));
-export const keyView = () => h('p', {class: 'note key'}, example('only', '!'), ' the only one that holds · ',
-  example('dual', ''), ' ', h('span', {class: 'tag'}, 'dual 2'), ' two others hold · ', example('mistake', '?'),
+export const keyView = () => h('p', {class: 'note key'}, example('only', '!'), ' the only one that works · ',
+  example('dual', ''), ' ', h('span', {class: 'tag'}, 'dual 2'), ' two others work too · ', example('mistake', '?'),
   ` ${letsGo()} · `, example('', ''), h('sub', {}, '7'), ' mate in 7 · ', h('sub', {}, '−7'), ' is mated in 7 · ',
   h('sub', {}, '='), ' drawn · ', h('span', {class: 'tag zugzwang'}, '⊙'), ' mutual zugzwang');

@@ -213,7 +213,7 @@ function lineFrom(n) {
   return numberedLine(n.parent ? n.parent.fen : n.fen, sans) + (at.children[0] ? ' ..' : '');
 }
 /**
- * How many of the other moves only lose time.
+ * How many of the other moves only waste time.
  * @param {Study} s
  * @param {TreeNode} root
  */
@@ -226,7 +226,7 @@ function timeView(s, root) {
     return (n && n.parent ? moveNumber(n.parent.fen) : '') + a.san;
   }));
   return h('p', {},
-    h('b', {}, all === 1 ? 'This one loses time' : `${idle} of these ${all} ${idle === 1 ? 'loses' : 'lose'} time`),
+    h('b', {}, all === 1 ? 'This one wastes time' : `${idle} of these ${all} ${idle === 1 ? 'wastes' : 'waste'} time`),
     `: ${other(s.aim.hero)} forces a position of the same line again. `,
     rest.length ? ['There remains: ', h('b', {}, rest.slice(0, 8).join(', ')), '.'] : 'None remains.');
 }

@@ -108,8 +108,9 @@ export const markSign = ({mark}) => (mark === 'only' ? '!' : mark === 'mistake' 
  * @param {Side | undefined} hero
  */
 export function markMeaning(node, hero) {
-  if (node.mark === 'only') return 'the only move that holds';
-  if (node.mark === 'dual') return node.duals === 1 ? 'dual: one other move holds' : `dual: ${node.duals} others hold`;
+  if (node.mark === 'only') return 'the only move that works';
+  if (node.mark === 'dual')
+    return node.duals === 1 ? 'dual: one other move works too' : `dual: ${node.duals} others work too`;
   if (node.mark === 'idle') return 'nothing was to be gained';
   if (node.mark === 'mistake') return node.parent && sideOf(node.parent.fen) === hero ? letsGo() : 'gives the aim back';
   return '';
@@ -117,7 +118,7 @@ export function markMeaning(node, hero) {
 /** What is said of a mistake of the hero. */
 export const letsGo = () => wordOf('lets-go').replace(/[ :]*$/, '').trim();
 /** @param {number} answers */
-export const answersText = answers => (answers ? wordOf('hold').replace('2', `${answers}`) : wordOf('stalemate'));
+export const answersText = answers => (answers ? wordOf('answers').replace('2', `${answers}`) : wordOf('stalemate'));
 /**
  * @param {number} keeping
  * @param {number} of

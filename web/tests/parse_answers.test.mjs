@@ -50,9 +50,9 @@ test('values in words', () => {
   assert.equal(valueText('White', view.root.value), 'White mates in 26');
   assert.equal(valueText('White', view.root.value), view.start);
   assert.equal(verdictSentence(view, 'unsound'),
-    'The stipulation holds; the solution has 3 faults. At the start: White mates in 26.');
+    'The stipulation is correct; the solution has 3 faults. At the start: White mates in 26.');
   assert.equal(verdictSentence(view, 'time'),
-    'The stipulation holds; the solution has 3 faults, which lose time alone. At the start: White mates in 26.');
+    'The stipulation is correct; the solution has 3 faults, which only waste time. At the start: White mates in 26.');
   assert.equal(view.counts, '2 + 2, 0300.10 b6a1');
   assert.equal(valueSign('White', 'Black', {kind: 'loss', n: 0}), '#');
   assert.equal(valueSign('White', 'White', {kind: 'loss', n: 6}), '−3');

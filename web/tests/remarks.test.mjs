@@ -32,6 +32,6 @@ test('the words of the program', () => {
   assert.equal(refusalReason('BadByte'), 'a letter outside plain ASCII');
   assert.equal(gameReason('NullMove'), 'a null move in the main line');
   assert.deepEqual(['shift', 'mark', 'save', 'dance'].map(commandKind), ['edit', 'question', 'table', '']);
-  assert.equal(wordOf('lets-go'), ' lets the aim go: ');
-  assert.deepEqual(wordsNamed('ends-heads'), ['After', 'Value', 'Goes on']);
+  assert.equal(wordOf('lets-go'), ' throws it away: ');
+  assert.deepEqual(wordsNamed('ends-heads'), ['After', 'Value', 'Continuation']);
 });

@@ -21,6 +21,6 @@ test('a node with its mark, its value and the words on it', () => {
   Object.assign(app, {view, history: {now: {lines, studies: [study], at: 0, path: '0'}, past: [], future: []}});
   assert.equal(spokenNode(study, view.root, ''), 'the start, White mates in 28');
   assert.equal(spokenNode(study, view.root.children[0], ''),
-    'white king g3, the only move that holds, White mates in 27, mutual zugzwang, half a point; White to move: draw; ' +
+    'white king g3, the only move that works, White mates in 27, mutual zugzwang, half a point; White to move: draw; ' +
       'Black to move: White wins, note: ! quiet');
 });

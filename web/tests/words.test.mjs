@@ -11,7 +11,8 @@ test('values', () => {
   assert.equal(valueText('Black', value('loss', 0)), 'mate');
   assert.equal(valueText('Black', value('draw', 0)), 'draw');
   assert.equal(moveName({parent: null}), 'the start');
-  assert.deepEqual([answersText(0), answersText(3), keepText(4, 7)], ['stalemate', '3 hold', '4 of 7 moves keep it: ']);
+  assert.deepEqual(
+    [answersText(0), answersText(3), keepText(4, 7)], ['stalemate', '3 answers', '4 of 7 moves keep the draw: ']);
 });
 test('zugzwangs', () => {
   assert.equal(zugzwangText('full'), 'full point; White to move: Black wins; Black to move: White wins');

@@ -8,12 +8,12 @@ use Rattle.study_marks.specs.Goals.{aim_of}
 use Rattle.study_marks.specs.Verdict.{Verdict, wrong, sound, unsound, verdict}
 use Rattle.study_pgn.specs.Values.{value_text}
 use Rattle.study_facts.specs.Order.{is_empty}
-use Rattle.study_facts.specs.Words.{alone_words, time_verdict}
+use Rattle.study_facts.specs.Words.{time_verdict}
 use Rattle.study_head.specs.declared.verdict.Stamp.{Stamp}
 use Rattle.study_head.specs.declared.verdict.Stamp.TheVariants.{Wrong, Sound, Holds, Unsound, NotRead}
 use Rattle.study_head.specs.declared.verdict.Judgement.{Judgement}
 
--- by whether the solution has no move of the hero, and how many of its faults lose time alone
+-- by whether the solution has no move of the hero, and how many of its faults only waste time
 abbrev pub stamp_of : Verdict → Bool → ℕ → Stamp
 stamp_of wrong e time = Wrong
 stamp_of sound e time = if e then Holds else Sound
@@ -34,24 +34,27 @@ stamp_words (Unsound faults time) = if time == 0 then codes "unsound " ++ decima
 stamp_words (NotRead line) = unread_words line
 
 abbrev pub holds_words : Stamp → List ℕ
-holds_words Wrong = codes "The stipulation does not hold."
-holds_words Sound = codes "The stipulation holds, and each move of the solution is the only one."
-holds_words Holds = codes "The stipulation holds."
-holds_words (Unsound faults time) = codes "The stipulation holds; the solution has "
-holds_words (NotRead line) = codes "A line of this study was refused, so it is not stamped."
+holds_words Wrong = codes "The stipulation is wrong."
+holds_words Sound = codes "The stipulation is correct, and every move of the solution is the only one that works."
+holds_words Holds = codes "The stipulation is correct."
+holds_words (Unsound faults time) = codes "The stipulation is correct; the solution has "
+holds_words (NotRead line) = codes "A line of this study could not be read, so there is no verdict."
 
 abbrev pub number_words : ℕ → List ℕ
 number_words n = if n == 1 then codes "one fault" else (decimal n ++ codes " faults")
 
--- `, which lose time alone`, `, of which 4 lose time alone`
+-- `, which only waste time`, `; 4 of them only waste time`
 abbrev pub which_words : ℕ → ℕ → List ℕ
-which_words faults time = if time == faults then codes ", which" else (codes ", of which " ++ decimal time)
+which_words faults time = if time == faults then codes ", which" else (codes "; " ++ (decimal time ++ codes " of them"))
 
-abbrev pub lost_words : ℕ → ℕ → List ℕ
-lost_words faults time = if time == 0 then [] else (which_words faults time ++ alone_words time)
+abbrev pub waste_words : ℕ → List ℕ
+waste_words n = if n == 1 then codes " only wastes time" else codes " only waste time"
+
+abbrev pub wasted_words : ℕ → ℕ → List ℕ
+wasted_words faults time = if time == 0 then [] else (which_words faults time ++ waste_words time)
 
 abbrev pub faults_words : ℕ → ℕ → List ℕ
-faults_words faults time = number_words faults ++ (lost_words faults time ++ codes ".")
+faults_words faults time = number_words faults ++ (wasted_words faults time ++ codes ".")
 
 abbrev pub count_words : Stamp → List ℕ
 count_words Wrong = []
@@ -62,7 +65,7 @@ count_words (NotRead line) = []
 
 -- where the solution has no move of the hero
 abbrev pub no_solution_words : Bool → List ℕ
-no_solution_words e = if e then codes " No move of the solution was given." else []
+no_solution_words e = if e then codes " No move of the solution is given yet." else []
 
 unfoldable pub sentence : Bool → Stamp → List ℕ
 sentence e v = holds_words v ++ (count_words v ++ no_solution_words e)
@@ -77,7 +80,7 @@ start_words side v = at_start ++ (value_text side v ++ codes ".")
 unfoldable pub verdict_words : Judgement → List ℕ
 verdict_words j = sentence j.empty j.stamp ++ (codes " " ++ start_words j.first j.value)
 
--- what a judge reads of a study of whose faults so many lose time alone
+-- what a judge reads of a study with so many faults that only waste time
 abbrev pub judgement_of : Study Mark → ℕ → Judgement
 judgement_of s time = record {
   stamp = stamp_of (verdict s) (is_empty (aim_of s).hero_first s.tree.below) time;

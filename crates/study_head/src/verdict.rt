@@ -6,19 +6,19 @@ ghost use Rattle.study_marks.specs.Study.{Study};
 ghost use Rattle.study_marks.specs.declared.mark.Mark.{Mark as AMark};
 ghost use Rattle.study_facts.specs.Order.{is_empty};
 ghost use Rattle.study_head.specs.Verdict.{stamp_of, not_read, unread_words, stamp_words, no_solution_words, number_words, which_words};
-ghost use Rattle.study_head.specs.Verdict.{lost_words, faults_words, holds_words, count_words, sentence};
+ghost use Rattle.study_head.specs.Verdict.{waste_words, wasted_words, faults_words, holds_words, count_words, sentence};
 ghost use Rattle.study_head.specs.Verdict.{at_start, start_words, verdict_words, judgement_of, entry_judgement};
 
 use std::alloc::{AllocError, Allocator};
 use study_board::Side;
-use study_facts::{add_alone, add_time_verdict, is_empty};
+use study_facts::{add_time_verdict, is_empty};
 use study_marks::{Bench, Mark, Stipulation};
 use study_pgn::{add_value, meets_stipulation, root_mark};
 use study_text::Text;
 use study_values::Value;
 
-/// The verdict on a study: wrong, sound, that it holds, where no move of the hero was given, or unsound with so many faults, of
-/// which so many lose time alone; or, in place of a verdict, that this line of its script was refused.
+/// The verdict on a study: wrong; sound; that it holds, if no move of the hero is given; or unsound, with the number of its faults and of those that
+/// only waste time. Or, in place of a verdict, the line of its script that could not be read.
 #[derive(Clone, Copy)]
 pub enum Stamp {
     Wrong,
@@ -28,7 +28,7 @@ pub enum Stamp {
     NotRead(u32),
 }
 
-/// The verdict on a study in which this side moves first, by whether no move of the hero was given, and how many faults lose time alone.
+/// The verdict on a study in which this side moves first, by whether no move of the hero was given, and how many faults only waste time.
 fn stamp_of(stipulation: &Stipulation, first: Side, root: &Mark, empty: bool, time: u32) -> Stamp
     ensures { (s : Study AMark) → s.stipulation ≡ stipulation.now
         → s.start.position.to_move ≡ first → s.tree.label ≡ root.now
@@ -83,7 +83,7 @@ fn no_solution_words(empty: bool) -> &'static [u8]
     ensures { result.now ≡ no_solution_words empty }
 {
     if empty {
-        b" No move of the solution was given."
+        b" No move of the solution is given yet."
     } else {
         b""
     }
@@ -105,19 +105,34 @@ fn add_which<A: Allocator>(text: &mut Text<'_, A>, faults: u32, time: u32) -> Re
     if time == faults {
         return text.add(b", which");
     }
-    text.add(b", of which ")?;
-    text.add_number(time)
+    text.add(b"; ")?;
+    text.add_number(time)?;
+    text.add(b" of them")
 }
 
-/// How many of so many faults lose time alone.
-fn add_lost<A: Allocator>(text: &mut Text<'_, A>, faults: u32, time: u32) -> Result<(), AllocError>
-    ensures { OnOk result (text.new ≡ text.old ++ lost_words faults time) }
+fn waste_words(time: u32) -> &'static [u8]
+    ensures { result.now ≡ waste_words time }
+{
+    if time == 1 {
+        b" only wastes time"
+    } else {
+        b" only waste time"
+    }
+}
+
+/// How many of the faults only waste time.
+fn add_wasted<A: Allocator>(
+    text: &mut Text<'_, A>,
+    faults: u32,
+    time: u32,
+) -> Result<(), AllocError>
+    ensures { OnOk result (text.new ≡ text.old ++ wasted_words faults time) }
 {
     if time == 0 {
         return Ok(());
     }
     add_which(text, faults, time)?;
-    add_alone(text, time)
+    text.add(waste_words(time))
 }
 
 fn add_faults<A: Allocator>(
@@ -128,7 +143,7 @@ fn add_faults<A: Allocator>(
     ensures { OnOk result (text.new ≡ text.old ++ faults_words faults time) }
 {
     add_number(text, faults)?;
-    add_lost(text, faults, time)?;
+    add_wasted(text, faults, time)?;
     text.add(b".")
 }
 
@@ -137,11 +152,12 @@ fn holds_words(stamp: Stamp) -> &'static [u8]
     ensures { result.now ≡ holds_words stamp }
 {
     match stamp {
-        Stamp::Wrong => b"The stipulation does not hold.",
-        Stamp::Sound => b"The stipulation holds, and each move of the solution is the only one.",
-        Stamp::Holds => b"The stipulation holds.",
-        Stamp::Unsound(_, _) => b"The stipulation holds; the solution has ",
-        Stamp::NotRead(_) => b"A line of this study was refused, so it is not stamped.",
+        Stamp::Wrong => b"The stipulation is wrong.",
+        Stamp::Sound =>
+            b"The stipulation is correct, and every move of the solution is the only one that works.",
+        Stamp::Holds => b"The stipulation is correct.",
+        Stamp::Unsound(_, _) => b"The stipulation is correct; the solution has ",
+        Stamp::NotRead(_) => b"A line of this study could not be read, so there is no verdict.",
     }
 }
 
@@ -238,7 +254,7 @@ fn judgement_at<'b, B: Allocator>(bench: &Bench<'b, B>, root: &Mark, time: u32) 
     }
 }
 
-/// What a judge reads of the study, of whose faults so many lose time alone.
+/// What a judge reads of the study, with so many faults that only waste time.
 pub fn judgement_of<'b, B: Allocator>(bench: &Bench<'b, B>, time: u32) -> Judgement
     ensures { result ≡ judgement_of (marked_study bench.now) time }
 {

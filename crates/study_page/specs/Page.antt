@@ -36,10 +36,10 @@ abbrev pub table_part : List ℕ → List ℕ → List ℕ → List ℕ
 table_part heading head rows = if length rows == 0 then [] else full_table heading head rows
 
 unfoldable pub duals_title : List ℕ
-duals_title = codes "Duals: what else holds"
+duals_title = codes "Duals: other moves that also work"
 
 unfoldable pub duals_note : List ℕ
-duals_note = codes "A move loses time where the opponent can force a position of the same line again, by one move or by so many as are told."
+duals_note = codes "A move wastes time if the opponent can force the play back into the same line; if that takes him more than one move, their number is given."
 
 unfoldable pub full_cards : List ℕ → List ℕ
 full_cards cards =
@@ -54,9 +54,9 @@ solution_part tree = element_text element.Part (element_text element.Heading (es
 
 unfoldable pub foot_words : List ℕ
 foot_words =
-    codes "Values are distances to mate from complete tables of two to four men, without castling, the fifty-move rule and repetition. "
-    ++ (codes "A move holds if the aim is still reached after it; a move that only loses time holds too. "
-    ++ codes "A small number tells in how many moves the hero mates, behind a minus in how many he is mated; = is a draw, and # is mate.")
+    codes "Values come from complete distance-to-mate tables for two to four men, without castling, the fifty-move rule and repetition. "
+    ++ (codes "A dual is another move that also wins, or draws if the task is to draw, even if it only wastes time. "
+    ++ codes "A small number is the number of moves to mate; with a minus sign, the side that has the task is mated; = is a draw, and # is mate.")
 
 unfoldable pub tries_title : List ℕ
 tries_title = codes "Tries and their refutations"
@@ -65,20 +65,20 @@ unfoldable pub zugzwangs_title : List ℕ
 zugzwangs_title = codes "Mutual zugzwangs"
 
 unfoldable pub missing_title : List ℕ
-missing_title = codes "Defences that are not in the tree"
+missing_title = codes "Defences not given"
 
 unfoldable pub ends_title : List ℕ
-ends_title = codes "Best play from the open ends"
+ends_title = codes "Best play after the last move given"
 
 -- of the positions that are left
 unfoldable pub last_tables : List ℕ → List ℕ → List ℕ
 last_tables defences ends =
     table_part missing_title (heads (codes "After") (codes "One answer") (codes "Several")) defences
-    ++ table_part ends_title (heads (codes "After") (codes "Value") (codes "Goes on")) ends
+    ++ table_part ends_title (heads (codes "After") (codes "Value") (codes "Continuation")) ends
 
 unfoldable pub tables : List ℕ → List ℕ → List ℕ → List ℕ → List ℕ
 tables tries zugzwangs defences ends =
-    table_part tries_title (heads (codes "After") (codes "Left") (codes "Refuted by")) tries
+    table_part tries_title (heads (codes "After") (codes "Result") (codes "Refuted by")) tries
     ++ (table_part zugzwangs_title (heads (codes "After") (codes "White to move") (codes "Black to move")) zugzwangs
     ++ last_tables defences ends)
 

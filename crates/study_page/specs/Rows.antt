@@ -70,7 +70,7 @@ difference (Win n) w = []
 difference Draw w = []
 
 unfoldable pub loses_time : List ℕ
-loses_time = codes ", loses time"
+loses_time = codes ", wastes time"
 
 -- ---- faults
 
@@ -78,11 +78,11 @@ abbrev pub lost_words : Option ℕ → List ℕ
 lost_words None = []
 lost_words (Some m) = loses_time
 
--- ` (2 moves longer, loses time)`, of words that begin with a comma
+-- ` (2 moves longer, wastes time)`, of words that begin with a comma
 abbrev pub bracket_words : List ℕ → List ℕ
 bracket_words words = if length words == 0 then [] else (codes " (" ++ (drop 2 words ++ codes ")"))
 
--- `Kb6 (2 moves longer, loses time)`, beside a move with this value after it
+-- `Kb6 (2 moves longer, wastes time)`, beside a move with this value after it
 unfoldable pub named_words : Position → Value → Alternative → List ℕ
 named_words p v x = move_text p x.played ++ bracket_words (difference v x.value ++ lost_words x.time)
 
@@ -96,18 +96,18 @@ list_words p v (x ∷ xs) = named_words p v x ++ flat_map (next_words p v) xs
 abbrev pub more_words : ℕ → List ℕ
 more_words n = if n == 0 then [] else (codes " and " ++ (decimal n ++ codes " more"))
 
--- `: also Kb6 (2 moves longer, loses time), Kc3 (as quick)`: up to six moves, and how many more there are
+-- `: also Kb6 (2 moves longer, wastes time), Kc3 (as quick)`: up to six moves, and how many more there are
 unfoldable pub others_words : Position → Value → List Alternative → List ℕ
 others_words p v list = codes ": also " ++ (list_words p v (take 6 list) ++ more_words (length list - 6))
 
--- `3. Kb4: also Kb6 (2 moves longer, loses time)`
+-- `3. Kb4: also Kb6 (2 moves longer, wastes time)`
 unfoldable pub dual_item : Start → ℕ → Position → Move → Value → List Alternative → List ℕ
 dual_item start d p m v list = element_text Item (escaped_text (label start d p m ++ others_words p v list))
 
 unfoldable pub gives_up_goal : List ℕ
-gives_up_goal = codes " lets the aim go: "
+gives_up_goal = codes " throws it away: "
 
--- `3. Kb4 lets the aim go: draw`
+-- `3. Kb4 throws it away: draw`
 unfoldable pub mistake_item : Start → ℕ → Position → Move → Value → List ℕ
 mistake_item start d p m v = element_text Item (escaped_text (label start d p m ++ (gives_up_goal ++ value_text (other_side p.to_move) v)))
 
@@ -142,7 +142,7 @@ time_words (Some m) = loses_time ++ forced_words m
 unfoldable pub also_words : Side → Value → Alternative → List ℕ
 also_words side v x = codes ": " ++ (value_text side x.value ++ (difference v x.value ++ time_words x.time))
 
--- `Kb6: White mates in 25, 2 moves longer, loses time`, beside a move with this value after it
+-- `Kb6: White mates in 25, 2 moves longer, wastes time`, beside a move with this value after it
 unfoldable pub also_item : Position → Value → Alternative → List ℕ
 also_item p v x = element_text Item (element_text Strong (escaped_text (move_text p x.played)) ++ escaped_text (also_words (other_side p.to_move) v x))
 
@@ -241,9 +241,9 @@ ZugzwangRows s path text = (z : Option Zugzwang) × IsZugzwangOf (position_at s 
 
 -- ---- defences
 
--- `3 hold`, `stalemate`
+-- `3 answers`, `stalemate`
 abbrev pub several_words : ℕ → List ℕ
-several_words n = if n == 0 then codes "stalemate" else (decimal n ++ codes " hold")
+several_words n = if n == 0 then codes "stalemate" else (decimal n ++ codes " answers")
 
 -- a defence with none or several answers, and how many
 unfoldable pub several_item : Position → Defence → List ℕ
@@ -331,9 +331,9 @@ play_words first start d p (x ∷ xs) =
     number_words first start d p.to_move ++ (move_text p x.played ++ (codes " " ++ play_words false start (d + 1) (after p x.played) xs))
 
 unfoldable pub keeps_draw_words : List ℕ
-keeps_draw_words = codes " moves keep it:"
+keeps_draw_words = codes " moves keep the draw:"
 
--- `3 of 9 moves keep it: Kb5 Kb6 Kc6`
+-- `3 of 9 moves keep the draw: Kb5 Kb6 Kc6`
 unfoldable pub keep_words : Position → List EvaluatedMove → List ℕ
 keep_words p list =
     decimal (length list) ++ (codes " of " ++ (decimal (length (legal_list p)) ++ (keeps_draw_words ++ flat_map (move_words p) list)))

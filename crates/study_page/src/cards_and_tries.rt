@@ -28,7 +28,7 @@ use study_values::Value;
 pub fn loses_time() -> &'static [u8]
     ensures { result.now ≡ loses_time }
 {
-    b", loses time"
+    b", wastes time"
 }
 
 fn add_forced<A: Allocator>(text: &mut Text<'_, A>, moves: u8) -> Result<(), AllocError>

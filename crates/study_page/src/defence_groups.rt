@@ -24,7 +24,7 @@ fn add_several<A: Allocator>(text: &mut Text<'_, A>, answers: u16) -> Result<(),
         return text.add(b"stalemate");
     }
     text.add_number(answers as u32)?;
-    text.add(b" hold")
+    text.add(b" answers")
 }
 
 #[tactic(auto, unfolding(crate::specs::Rows::several_item))]

@@ -181,7 +181,7 @@ pub fn put_dual<'a, A: Allocator>(
 fn gives_up_goal() -> &'static [u8]
     ensures { result.now ≡ gives_up_goal }
 {
-    b" lets the aim go: "
+    b" throws it away: "
 }
 
 /// A mistake, with the value after it.

@@ -186,23 +186,23 @@ fn put_solution<'a, 'b, A: Allocator, B: Allocator>(
 fn duals_title() -> &'static [u8]
     ensures { result.now ≡ duals_title }
 {
-    b"Duals: what else holds"
+    b"Duals: other moves that also work"
 }
 
 #[tactic(auto, unfolding(crate::specs::Page::duals_note))]
 fn duals_note() -> &'static [u8]
     ensures { result.now ≡ duals_note }
 {
-    b"A move loses time where the opponent can force a position of the same line again, by one move or by so many as are told."
+    b"A move wastes time if the opponent can force the play back into the same line; if that takes him more than one move, their number is given."
 }
 
 #[tactic(auto, unfolding(crate::specs::Page::foot_words))]
 fn foot_words() -> &'static [u8]
     ensures { result.now ≡ foot_words }
 {
-    b"Values are distances to mate from complete tables of two to four men, without castling, the fifty-move rule and repetition. \
-A move holds if the aim is still reached after it; a move that only loses time holds too. \
-A small number tells in how many moves the hero mates, behind a minus in how many he is mated; = is a draw, and # is mate."
+    b"Values come from complete distance-to-mate tables for two to four men, without castling, the fifty-move rule and repetition. \
+A dual is another move that also wins, or draws if the task is to draw, even if it only wastes time. \
+A small number is the number of moves to mate; with a minus sign, the side that has the task is mated; = is a draw, and # is mate."
 }
 
 #[tactic(auto, unfolding(crate::specs::Page::tries_title))]
@@ -223,14 +223,14 @@ fn zugzwangs_title() -> &'static [u8]
 fn missing_title() -> &'static [u8]
     ensures { result.now ≡ missing_title }
 {
-    b"Defences that are not in the tree"
+    b"Defences not given"
 }
 
 #[tactic(auto, unfolding(crate::specs::Page::ends_title))]
 fn ends_title() -> &'static [u8]
     ensures { result.now ≡ ends_title }
 {
-    b"Best play from the open ends"
+    b"Best play after the last move given"
 }
 
 /// The tables of what the tree lacks and of how it goes on.
@@ -245,7 +245,7 @@ fn put_last_tables<'a, A: Allocator>(
     let mut defences = Html::new(alloc);
     let mut ends = Html::new(alloc);
     put_heads(alloc, &mut defences, b"After", b"One answer", b"Several")?;
-    put_heads(alloc, &mut ends, b"After", b"Value", b"Goes on")?;
+    put_heads(alloc, &mut ends, b"After", b"Value", b"Continuation")?;
     put_table(alloc, html, missing_title(), &defences, &parts.defences)?;
     put_table(alloc, html, ends_title(), &ends, &parts.ends)
 }
@@ -262,7 +262,7 @@ fn put_tables<'a, A: Allocator>(
 {
     let mut tries = Html::new(alloc);
     let mut zugzwangs = Html::new(alloc);
-    put_heads(alloc, &mut tries, b"After", b"Left", b"Refuted by")?;
+    put_heads(alloc, &mut tries, b"After", b"Result", b"Refuted by")?;
     put_heads(
         alloc,
         &mut zugzwangs,

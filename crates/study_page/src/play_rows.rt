@@ -86,7 +86,7 @@ fn add_each_move<A: Allocator>(
 fn keeps_draw_words() -> &'static [u8]
     ensures { result.now ≡ keeps_draw_words }
 {
-    b" moves keep it:"
+    b" moves keep the draw:"
 }
 
 /// The moves that keep a draw.

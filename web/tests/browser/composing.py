@@ -141,7 +141,7 @@ def test_trees_are_given_up_with_the_survey(user):
     surveyed(user, 15)
     user.click("lookAtTrees")
     user.press("h3")
-    user.until("document.getElementById('judged').textContent.includes('holds')", 30)
+    user.until("document.getElementById('judged').textContent.includes('correct')", 30)
     user.settle()
     assert not user.has("treesThere") and not user.has("stands")
     user.click("cancel")

@@ -71,8 +71,8 @@ def test_paper(user):
         if text is None:
             return
         order = ["One", "White to win (from the Result)", "2 + 1, 0000.10 h2g5", "Kh2 Pb2 / Kg5", FEN, "Solution",
-                 "Quiet.", "The only move", "Mutual zugzwangs", "Defences that are not in the tree",
-                 "Best play from the open ends", "Entries and verdicts", "Two"]
+                 "Quiet.", "The only move", "Mutual zugzwangs", "Defences not given",
+                 "Best play after the last move given", "Entries and verdicts", "Two"]
         flat = re.sub(r"\s+", " ", text)
         places = [flat.find(words) for words in order]
         assert -1 not in places, [words for words, at in zip(order, places) if at < 0]
@@ -123,7 +123,7 @@ def test_the_list(user):
     user.settle()
     user.d.find_element(By.CSS_SELECTOR, "[data-kind=fails]").click()
     user.settle()
-    assert user.js(ROWS) == ["Three"] and "1. b4 lets the aim go" in user.text("list"), user.text("list")
+    assert user.js(ROWS) == ["Three"] and "1. b4 throws it away" in user.text("list"), user.text("list")
     user.d.find_element(By.CSS_SELECTOR, "[data-kind=fails]").click()
     user.settle()
     assert "same position as No. 2 (mirrored), No. 3" in user.text("list"), user.text("list")
@@ -132,7 +132,7 @@ def test_the_list(user):
     name, text = user.download("saveSheet")
     assert name == "entries.checked.sheet.html" and text.count("<figure>") == 3 and "1. White to win" in text
     name, text = user.download("saveList")
-    assert "First fault,Same position" in text and "1. b4 lets the aim go" in text
+    assert "First fault,Same position" in text and "1. b4 throws it away" in text
 
 
 def test_accepted_duals(user):
@@ -161,12 +161,12 @@ def test_what_is_heard(user):
     assert user.js(live) == ["spoken"], user.js(live)
     user.go("0")
     user.until("document.getElementById('spoken').textContent.includes('g3')", 10)
-    assert user.js(HEARD).startswith("white king g3, the only move that holds, White mates in 27"), user.js(HEARD)
+    assert user.js(HEARD).startswith("white king g3, the only move that works, White mates in 27"), user.js(HEARD)
     assert "The only move" in user.js(HEARD)
     user.d.find_element(By.XPATH, "//*[@id='rows']//button[.='3']").click()
     user.until("document.getElementById('spoken').textContent.includes('Verdict: unsound')", 30)
     user.click("setUp")
-    user.until("document.getElementById('spoken').textContent.includes('White to win: holds')", 30)
+    user.until("document.getElementById('spoken').textContent.includes('White to win: correct')", 30)
 
 
 def test_targets_on_a_phone(user):

@@ -276,12 +276,16 @@ def test_a_refused_position_of_the_same_men(user):
     """After a right position a refused one of the same men, and the right one again: its tables are built and laid."""
     fen = "document.getElementById('judged').textContent"
     user.fill("fen", "8/8/8/8/8/1k6/1Q6/K7 b - - 0 1")
-    user.until(fen + ".includes('holds') || " + fen + ".includes('does not hold')", 60)
+    user.until(fen + ".includes('correct') || " + fen + ".includes('wrong')", 60)
     user.open()
-    for text, words in (("8/8/8/8/8/1k6/1Q6/K7 w - - 0 1", "in check"), ("8/8/8/8/8/1k6/7Q/K7 w - - 0 1", "holds")):
+    for text, words in (("8/8/8/8/8/1k6/1Q6/K7 w - - 0 1", "in check"), ("8/8/8/8/8/1k6/7Q/K7 w - - 0 1", "correct")):
         user.fill("fen", text)
         user.until(f"{fen}.includes('{words}')", 60)
-    pair = (("4k3/8/8/8/8/8/8/4K2R", "holds"), ("7k/8/8/8/8/8/8/4K2R", "in check"), ("4k3/8/8/8/8/8/8/4K1R1", "holds"))
+    pair = (
+        ("4k3/8/8/8/8/8/8/4K2R", "correct"),
+        ("7k/8/8/8/8/8/8/4K2R", "in check"),
+        ("4k3/8/8/8/8/8/8/4K1R1", "correct"),
+    )
     for placed, words in pair:
         user.fill("fen", placed + " w - - 0 1")
         user.until(f"{fen}.includes('{words}')", 60)
@@ -340,7 +344,7 @@ def test_versions(user):
     rows = user.js(
         "return [...document.querySelectorAll('#documents tbody tr')].map(r => [...r.cells].map(c => c.innerText))"
     )
-    assert len(rows) == 1 and rows[0][0] == "1. b4" and sorted(rows[0][1:]) == ["lets the aim go", "not given"], rows
+    assert len(rows) == 1 and rows[0][0] == "1. b4" and sorted(rows[0][1:]) == ["not given", "throws it away"], rows
     user.picture("versions", whole=False)
     user.click("endComparing")
     user.keys(Keys.ESCAPE)

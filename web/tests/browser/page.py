@@ -117,7 +117,7 @@ def test_composed_by_keys_alone(user):
     user.settle()
     user.keys(Keys.ARROW_RIGHT)
     user.settle()
-    heard = "white king g3, the only move that holds, White mates in 27"
+    heard = "white king g3, the only move that works, White mates in 27"
     user.until(f"document.getElementById('spoken').textContent.startsWith('{heard}')", 10)
     user.keys(Keys.DELETE)
     user.settle()
@@ -155,7 +155,7 @@ def test_faults_and_their_repairs(user):
     user.set_up("8/k1P5/2K5/8/8/8/8/8 w - - 0 1", "white mate 2")
     user.play("c8=Q")
     user.until("document.querySelector('.faults')", 30, "the facts")
-    assert user.text("stamp") == "unsound 1" and "lets the aim go" in user.by("mend").text
+    assert user.text("stamp") == "unsound 1" and "throws it away" in user.by("mend").text
     user.picture("fault")
     user.go("root")
     user.play("c8=R")
@@ -180,7 +180,7 @@ def test_where_else(user):
     assert "g2 (Kg3), h3 (Kg3)" in user.text("stands"), user.text("stands")
     user.picture("survey")
     user.press("h3")
-    user.until("document.getElementById('judged').textContent.includes('holds')", 30)
+    user.until("document.getElementById('judged').textContent.includes('correct')", 30)
     assert user.js("return document.getElementById('fen').value").startswith("8/8/8/6k1/8/7K/1P6/8 w")
 
 

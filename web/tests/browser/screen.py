@@ -23,7 +23,7 @@ SIDE = "return document.querySelector('#board svg').getBoundingClientRect()"
 VALUE = r"(White mates in \d+|Black mates in \d+|draw|mate)"
 
 
-def judged(user, words="holds", seconds=60):
+def judged(user, words="correct", seconds=60):
     user.until(f"document.getElementById('judged').textContent.includes('{words}')", seconds)
 
 
@@ -106,7 +106,7 @@ def test_names_for_a_screen_reader(user):
     user.go("root")
     names = user.js(LABELS, ".moves .chip")
     assert all(re.match(r"^[KQRBNa-h][a-h1-8x=]*[+#QRBN]*: " + VALUE + "(;|$)", name) for name in names), names
-    assert any(name.startswith("Kg3: White mates in 27; the only one that holds; in the tree") for name in names), names
+    assert any(name.startswith("Kg3: White mates in 27; the only one that works; in the tree") for name in names), names
     user.go("0")
     user.until("document.querySelector('#defences .add')", 30)
     names = user.js(LABELS, "#defences .add")
@@ -178,7 +178,7 @@ def test_a_surveyed_man_is_what_a_press_moves(user):
     user.press("a8")
     user.settle()
     assert user.js("return document.getElementById('fen').value").startswith("K7/8/8/6k1/8/8/1P6/8 ")
-    judged(user, "hold")
+    judged(user, "White to win: ")
     user.click("survey")
     user.until("document.getElementById('stands')", 30)
     user.js("document.querySelector('#board svg').focus()")
