@@ -28,7 +28,7 @@ import {aimWords, endedReason} from './words.js';
 
 const KINGS = '4k3/8/8/8/8/8/8/4K3 w - - 0 1', AT_A_TIME = 50, MANY = 150, MOST_LETTERS = 3e7;
 /**
- * The blocks of a script, the first of which may have no position.
+ * The blocks of a script. The first block may lack a position.
  * @param {Sent[]} sent
  */
 export function blocksOf(sent) {
