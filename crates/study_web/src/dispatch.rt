@@ -38,9 +38,9 @@ use study_view::classes_needed;
 ///
 /// A request is a line of words: `run`, `make CLASS`, `view PATH`, `review`, `report`, `survey SQUARE SIDE GOAL FEN`, `tables`,
 /// `passed FEN`, `find CLASS THEME [FILTER ..] FROM TO`, `import`, `import SIDE GOAL`, `import-up-to-faults` with the same words or none,
-/// `row win FEN`, `row draw FEN`, `words`, `remarks`. For `import` the script is PGN, as Latin-1 or UTF-8. Files are read by pages and must be tables: for `view`, `review` and `report` those that the
-/// script's positions need, for `survey`, `row` and `find` those that the position or the class needs. Other files are not opened. What
-/// `run` saves is put into the cells, one for each class.
+/// `row win FEN`, `row draw FEN`, `words`, `remarks`. For `import` the script is PGN, as Latin-1 or UTF-8. Files are read by pages and
+/// must be tables: for `view`, `review` and `report` those that the script's positions need, for `survey`, `row` and `find` those that the
+/// position or the class needs. Other files are not opened. What `run` saves is put into the cells, one for each class.
 pub fn answer<'f, 'a, A: Allocator>(
     alloc: &'a A,
     request: &[u8],

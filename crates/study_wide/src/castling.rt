@@ -14,9 +14,8 @@ use study_board::{
 use study_moves::Move;
 
 /// A wing to which a king castles.
-#[derive(Clone, Copy, Debug, Default, PartialEq, Eq)]
+#[derive(Clone, Copy, Debug, PartialEq, Eq)]
 pub enum Wing {
-    #[default]
     Short,
     Long,
 }

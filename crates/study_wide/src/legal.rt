@@ -1,5 +1,5 @@
 //! Which moves are legal.
-ghost use Rattle.std.specs.Prelude.{◌≡◌, true, Some, not};
+ghost use Rattle.std.specs.Prelude.{◌≡◌, true, Some};
 ghost use Rattle.study_board.specs.Position.{is_occupied, man_at, in_check};
 ghost use Rattle.study_moves.specs.Rules.{is_pseudo_legal, is_legal_for, is_legal as is_plain, men_after};
 ghost use Rattle.study_wide.specs.Rules.{castles, wing_of, is_wide_legal};

@@ -8,7 +8,7 @@ use study_board::{Kind, Man, Side, has_man};
 use study_moves::Move;
 
 /// The rights that the two sides have left.
-#[derive(Clone, Copy, Debug, Default, PartialEq, Eq)]
+#[derive(Clone, Copy, Debug, PartialEq, Eq)]
 pub struct Rights {
     pub white_short: bool,
     pub white_long: bool,

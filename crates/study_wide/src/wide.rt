@@ -1,5 +1,5 @@
 //! Positions of up to 32 men.
-ghost use Rattle.std.specs.Prelude.{◌≡◌, ◌≤◌, ◌↔◌, ◌&&◌, ◌||◌, not, length, None, true, IfOk, IfErr, IsOk, nat_lt, count_by};
+ghost use Rattle.std.specs.Prelude.{◌≡◌, ◌≤◌, ◌↔◌, ◌&&◌, ◌||◌, not, length, None, IfOk, IfErr, IsOk, nat_lt, count_by};
 ghost use Rattle.study_board.specs.Position.{man_at, in_order};
 ghost use Rattle.study_wide.specs.Wide.{IsWide, of_side, is_crowded, wide_fault};
 
