@@ -2,7 +2,7 @@
 """Writes which views and surveys crates/gallery makes, and what they have to be, from the files of an independent program:
 FOLDER/NAME.views, where each view follows a line `# view PATH`, and FOLDER/surveys.txt, where each survey follows a line
 `# FEN | SQUARE | SIDE GOAL`. Lines of mutual zugzwangs are added to the views by the list in tools/oracle/finding, and those of the counts of men and
-of the verdict in sentences as report_facts.py has them. Only those are taken whose tables the program makes. That program has looked at each study where its
+of the verdict as report_facts.py has them. Only those are taken whose tables the program makes. That program has looked at each study where its
 script first asks for the PGN, so the scripts are those of the gallery up to there.
 
     tools/oracle/expected_views.py FOLDER
@@ -55,14 +55,32 @@ def with_zugzwangs(view):
     return "".join(line + "\n" for line in lines)
 
 
+def first_mistake(hero, start, rest):
+    """The first move of the solution, with its number, by which the hero throws it away: the hero's moves are first children."""
+    fens = {"root": start}
+    for words in [line.split(" ") for line in rest if line.startswith("node ") and not line.startswith("node root ")]:
+        path, san = words[1:3]
+        before, _, place = path.rpartition(".")
+        fields = fens[before or "root"]
+        fens[path] = words[-6:] if fields else None
+        if fields and fields[1] == ("w" if hero == "White" else "b"):
+            if place != "0":
+                fens[path] = None  # no part of the solution, nor what follows it
+            elif words[-9] == "mistake":
+                return f"{fields[5]}{'.' if hero == 'White' else '...'} {san}"
+    return None
+
+
 def with_head(view):
-    """A view with the counts of men behind its first line, and the verdict in sentences behind its second."""
-    start, stipulation, *rest = [line for line in view.splitlines() if not line.startswith(("counts ", "sentence "))]
-    hero, verdict, value = re.fullmatch(r"stipulation (White|Black) to [^:]*: ([^,]*), (.*)", stipulation).groups()
+    """A view with the counts of men behind its first line, and the verdict as a judge reads it behind its second."""
+    start, stipulation, *rest = [line for line in view.splitlines() if not line.startswith(("counts ", "stamp ", "sentence "))]
+    asked, verdict, value = re.fullmatch(r"stipulation ((?:White|Black) to [^:]*): ([^,]*), (.*)", stipulation).groups()
+    hero, fields = asked.split()[0], start.split(" ")[1:]
     to_move = {line.split(" ")[-5] for line in rest if line.startswith("node ") and not line.startswith("node root ")}
-    words = report_facts.sentence(verdict, ("b" if hero == "White" else "w") not in to_move, 0)
+    empty = ("b" if hero == "White" else "w") not in to_move
+    found = report_facts.Judged(asked, value, fields[1] == "w", verdict, empty, first_mistake(hero, fields, rest), 0)
     counts = report_facts.counts(report_facts.Position.of(start.removeprefix("study ")))
-    lines = [start, f"counts {counts}", stipulation, f"sentence {words} At the start: {value}.", *rest]
+    lines = [start, f"counts {counts}", stipulation, f"stamp {found.stamp}", f"sentence {found.words} At the start: {value}.", *rest]
     return "".join(line + "\n" for line in lines)
 
 

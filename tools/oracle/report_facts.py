@@ -420,37 +420,67 @@ def faults(study):
     return inside("ul", items, 'class="faults"') if items else ""
 
 
+def wrong_claim(asked, start, white_first):
+    """What is wrong with a stipulation at a start of this value, as words after `wrong: ` or in place of a verdict; None if it is correct."""
+    hero, goal = re.fullmatch(r"(White|Black) to (.*)", asked).groups()
+    winner = ("Black" if white_first else "White") if start == "mate" else start.split()[0] if "mates" in start else None
+    if goal == "draw":
+        return f"wrong: {hero} wins" if winner == hero else None if winner is None else "does not draw"
+    if goal == "win":
+        return None if winner == hero else "does not win"
+    asked_for = int(goal.split()[2])
+    if winner == hero and moves_of(start) <= asked_for:
+        return None if moves_of(start) == asked_for else f"wrong: {start}"
+    return f"does not {goal}"
+
+
+class Judged:
+    """The verdict on a study as a judge reads it: by what is asked for, the start's value and who moves there, the verdict of the lines, whether no move
+    of the hero is given, the move of the first mistake with its number, and how many duals only waste time."""
+
+    def __init__(self, asked, start, white_first, verdict, empty, mistake, time):
+        wrong = wrong_claim(asked, start, white_first)
+        duals = int(verdict.split()[1]) if verdict.startswith("unsound") else 0
+        self.frame = "sound" if duals == time else "unsound"
+        if wrong:
+            self.stamp, self.frame = wrong, "wrong"
+            self.words = "The stipulation is wrong: " + (wrong[7:] if wrong.startswith("wrong: ") else f"{asked.split()[0]} {wrong}") + "."
+        elif mistake:
+            self.stamp, self.frame = f"fails at {mistake}", "wrong"
+            self.words = f"The stipulation is correct, but the solution fails at {mistake}."
+        elif not duals:
+            self.stamp = "correct, no solution yet" if empty else "sound"
+            self.words = "The stipulation is correct." if empty else \
+                "The stipulation is correct, and every move of the solution is the only one that works."
+        else:
+            waste = "" if not time else f", {time} waste{'s' if time == 1 else ''} time"
+            self.stamp = "sound, duals waste time" if time == duals else f"{duals} dual{'' if duals == 1 else 's'}{waste}"
+            which = "" if not time else (", which" if time == duals else f"; {time} of them") + f" only waste{'s' if time == 1 else ''} time"
+            self.words = f"The stipulation is correct; the solution has {'one dual' if duals == 1 else f'{duals} duals'}{which}."
+        if empty:
+            self.words += " No move of the solution is given yet."
+
+
+def judged(study):
+    """The verdict on a study."""
+    slips = [fact[0] for fact in study.of("fault") if fact[-1] == "mistake"]
+    mistake = study.label(tuple(map(int, slips[0].split(".")))) if slips else None
+    time = time_faults([" ".join(fact) for fact in study.facts])
+    found = Judged(study.asked, study.start_value, study.white_first, study.verdict, ["empty"] in study.facts, mistake, time)
+    if study.unread:
+        found.stamp, found.frame = f"not read: line {study.unread}", "unsound"
+        found.words = "A line of this study could not be read, so there is no verdict."
+    return found
+
+
 def stamp_of(study):
     """The words of the stamp."""
-    if study.unread:
-        return f"not read: line {study.unread}"
-    waste = study.of("waste")
-    if study.verdict == "sound" and ["empty"] in study.facts:
-        return "holds"
-    return " ".join(waste[0]) if waste else study.verdict
-
-
-def sentence(verdict, empty, time):
-    """A verdict, `sound`, `wrong` or `unsound 3`, in a sentence; so many of its faults lose time alone."""
-    stamp = verdict.split()[0]
-    if stamp == "wrong":
-        words = "The stipulation is wrong."
-    elif stamp == "sound":
-        words = "The stipulation is correct." if empty else "The stipulation is correct, and every move of the solution is the only one that works."
-    else:
-        n = int(verdict.split()[1])
-        lose = "" if not time else (", which" if time == n else f"; {time} of them") + (" only wastes" if time == 1 else " only waste") + " time"
-        words = "The stipulation is correct; the solution has " + ("one fault" if n == 1 else f"{n} faults") + lose + "."
-    return words + (" No move of the solution is given yet." if empty else "")
+    return judged(study).stamp
 
 
 def verdict(study):
-    stamp = study.verdict.split()[0]
-    frame = "unsound" if study.unread else "sound" if stamp_of(study).startswith("sound") else stamp
-    words = sentence(study.verdict, ["empty"] in study.facts, time_faults([" ".join(fact) for fact in study.facts]))
-    if study.unread:
-        words = "A line of this study could not be read, so there is no verdict."
-    return inside("section", inside("h2", inside("span", say(stamp_of(study)), f'class="stamp {frame}"')) + inside("p", say(words))
+    found = judged(study)
+    return inside("section", inside("h2", inside("span", say(found.stamp), f'class="stamp {found.frame}"')) + inside("p", say(found.words))
                   + inside("p", say(f"At the start: {study.start_value}.")) + faults(study), 'class="verdict"')
 
 

@@ -66,5 +66,5 @@ export function acceptedStamp(text, accepted, faults) {
   if (!accepted) return null;
   return accepted === faults
     ? {kind: 'accepted', text: `sound but for ${accepted} accepted ${accepted === 1 ? 'dual' : 'duals'}`}
-    : {kind: 'unsound', text: `${text}, ${accepted} accepted`};
+    : {kind: 'duals', text: `${text}, ${accepted} accepted`};
 }

@@ -1,13 +1,12 @@
 // @ts-check
 // A man on another square: how many only moves in a row the side to move would have to find, and what a study's tree
 // would be. Both are for the program to say.
-import {hasHeroMove} from './stamps.js';
+import {faultyStamp, wrongText} from './stamps.js';
 import {menOf, placement} from './fen.js';
 import {readReview, readView, refusalIn} from './parse_answers.js';
 import {toText} from './script.js';
 import {PAGES} from './state.js';
 import {insertions, legalPart, turnedTree} from './turning.js';
-import {wordOf} from './wording.js';
 import {counted, reason} from './words.js';
 /** @typedef {import('./types.js').Engine} Engine @typedef {import('./unmarked.js').Bare} Bare */
 /** @typedef {import('./types.js').View} View */
@@ -78,18 +77,17 @@ export async function treeAt(core, fen, aim, tree) {
   return {kept: lines.length, of, ...await stampThere(core, view, [...head, ...lines, 'pgn'])};
 }
 /**
- * The faults of a tree and its stamp, as that of a study: where none of its moves is the hero's it only holds.
+ * The faults of a tree and its stamp, as that of a study.
  * @param {Engine} core
  * @param {View | null} view
  * @param {string[]} lines
  */
 async function stampThere(core, view, lines) {
   if (!view || !view.aim) return {faults: 0, stamp: ''};
-  const {fen, aim, root, verdict} = view;
-  if (!root.faults)
-    return {faults: 0, stamp: verdict === 'sound' && !hasHeroMove(root, fen, aim) ? wordOf('holds') : verdict};
+  const {fen, aim, root, verdict, start} = view;
+  if (!root.faults || wrongText(aim, verdict, start, fen)) return {faults: root.faults, stamp: view.stamp};
   const review = readReview((await core.answer('review', toText(lines), PAGES)).text);
-  return {faults: root.faults, stamp: (review && review.waste) || verdict};
+  return {faults: root.faults, stamp: review && review.faults.length ? faultyStamp(fen, review).text : view.stamp};
 }
 /**
  * The squares whose tree keeps a move, those first that lose the fewest and then have the fewest faults.

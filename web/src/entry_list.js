@@ -6,15 +6,24 @@ import {againstText} from './imported.js';
 import {wordOf} from './wording.js';
 /** @typedef {import('./entries.js').Entry} Entry */
 
-const KINDS = ['sound', 'time', 'accepted', 'unsound', 'wrong', 'holds', 'not read', 'left out', 'not judged'];
+const KINDS =
+  ['sound', 'time', 'accepted', 'duals', 'mistake', 'wrong', 'correct', 'not read', 'left out', 'not judged'];
+/** The words of kinds, where they are others than the kind itself. */
+const KIND_WORDS = /** @type {Record<string, () => string>} */ ({
+  time: () => wordOf('time'),
+  accepted: () => 'sound but for accepted duals',
+  duals: () => 'with duals',
+  mistake: () => 'whose own move fails',
+  correct: () => wordOf('correct')
+});
 /** @typedef {{kind: string, against?: string[], same?: string, faults?: string[]}} Kinds */
 /**
  * What entries are filtered by besides their verdict, with the words behind a number.
  * @typedef {{kind: string, words: string, is: (entry: Kinds) => boolean}} More
  */
 const MORE = /** @type {More[]} */ ([
-  ...FAULT_KINDS.map(
-    ([kind, words]) => ({kind, words, is: (/** @type {Kinds} */ {faults = []}) => faults.includes(kind)})),
+  ...FAULT_KINDS.filter(([kind]) => kind !== 'fails').map(([kind,
+    words]) => ({kind, words, is: (/** @type {Kinds} */ {faults = []}) => faults.includes(kind)})),
   {kind: 'differ', words: 'whose sources differ', is: ({against = []}) => against.length > 0},
   {kind: 'same', words: 'with the position of another', is: ({same = ''}) => same !== ''}
 ]);
@@ -23,9 +32,7 @@ const moreOf = (/** @type {string} */ kind) => MORE.find(more => more.kind === k
  * The words of a kind in the menu.
  * @param {string} kind
  */
-export const kindWords = kind => (kind === 'time' ? wordOf('time')
-    : kind === 'accepted'                         ? 'sound but for accepted duals'
-                                                  : (moreOf(kind) || {words: kind}).words);
+export const kindWords = kind => KIND_WORDS[kind] ? KIND_WORDS[kind]() : (moreOf(kind) || {words: kind}).words;
 /**
  * Whether an entry is of a kind: by its verdict, or whatever its verdict by its faults, its sources or its men.
  * @param {Kinds} entry

@@ -4,7 +4,6 @@
 import {isKnown} from './edits.js';
 import {cutAt, ownRemark} from './remarks.js';
 import {TAGS} from './script.js';
-import {wordOf} from './wording.js';
 /** @typedef {import('./types.js').Study} Study */
 
 const OWN_TAGS = new Set([...TAGS, 'FEN', 'SetUp']), MOST = 900;
@@ -195,8 +194,8 @@ function saidIn(movetext) {
 const VALUE = '(draw|mate|(White|Black) mates in \\d+)',
       VERDICT = '(White|Black) to (win|draw|mate in \\d+): (wrong|sound|unsound \\d+), ' + VALUE,
       OPENING = new RegExp(`^${VERDICT}(\\. |$)`), OURS = new RegExp(`(^|(?<=[.!?:;,\\])]) )${VALUE}(; dual \\d+)?$`);
-/** What is said in a game behind `sound`, which is no verdict on a solution then. */
-export const noMove = () => `${wordOf('holds')}: no move of the solution is given`;
+/** What a saved game says behind `sound`, which is no verdict on a solution then; its words are fixed. */
+export const noMove = () => 'holds: no move of the solution is given';
 /**
  * What of a comment is not the program's: its words begin the comment before the first move, and end that of a move.
  * @param {string} comment

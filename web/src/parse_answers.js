@@ -67,6 +67,7 @@ export function readView(text) {
       counts: countsIn(text),
       verdict: '',
       start: '',
+      stamp: '',
       sentence: '',
       aim: null,
       path: 'root',
@@ -81,6 +82,7 @@ export function readView(text) {
     }
     const row = line.split(' ');
     if (row[0] === 'study') view.fen = row.slice(1).join(' ');
+    else if (row[0] === 'stamp') view.stamp = line.slice('stamp '.length);
     else if (row[0] === 'sentence') view.sentence = line.slice('sentence '.length);
     else if (row[0] === 'stipulation') Object.assign(view, readStipulation(row.slice(1).join(' ')));
     else if (row[0] === 'at')

@@ -1,7 +1,7 @@
 // @ts-check
 // The script is the document: lines of edits, run from the first to the last. Here its replies become studies.
 import {lineKind} from './wording.js';
-import {aimText, aimWords} from './words.js';
+import {aimWords} from './words.js';
 import {headOf, withRefusedTags} from './imported.js';
 import {leftOutBy} from './left_out.js';
 import {isOfImport} from './remarks.js';
@@ -165,7 +165,8 @@ export function applyReply(script, carried, {text, line}, reply) {
     script.studies.push(newStudy(line, reply.slice(9), carried));
   } else if (study && command === 'pgn') {
     if (line >= 0 || !study.ended) study.games.push(reply);
-    Object.assign(study, {pgn: reply, verdict: openingOf(reply).verdict, ended: true});
+    const {verdict, start} = openingOf(reply);
+    Object.assign(study, {pgn: reply, verdict, start, ended: true});
   } else if (isEdit(text)) {
     if (study) Object.assign(study, {ended: false, last: Math.max(line, study.last)});
     if (command === 'tag') carry(carried, study, name, text.trim().replace(/^tag +\w+ +/, ''), line);
@@ -199,6 +200,7 @@ function newStudy(line, fen, carried) {
     made: null,
     pgn: '',
     verdict: '',
+    start: '',
     games: [],
     ended: false
   };
@@ -238,12 +240,10 @@ function openingOf(pgn) {
   return readStipulation(comment ? comment[1] : '');
 }
 /**
- * The verdicts of a script on a study before its last edit, as `White to win: unsound 3`.
+ * What the games of a script say of a study before its last edit.
  * @param {Study} study
  */
-export const verdictsBefore = study =>
-  study.games.filter(game => game !== study.pgn).map(openingOf).map(({aim,
-    verdict}) => `${aim ? aimText(aim) : ''}: ${verdict}`);
+export const openingsBefore = study => study.games.filter(game => game !== study.pgn).map(openingOf);
 
 /**
  * The lines that make one study alone: its own, with what it takes over from earlier ones after its position.

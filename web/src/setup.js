@@ -9,6 +9,7 @@ import {freshId} from './keep.js';
 import {refuseLong} from './limits.js';
 import {aimText, aimWords, counted, holds, movesTo, reason} from './words.js';
 import {isTurn, turnedAim, turnedFen} from './turning.js';
+import {wordOf} from './wording.js';
 /** @typedef {import('./fen.js').Men} Men */
 /** @typedef {{bad: string, text: string, lacking: string[], mate: number}} Judged */
 /**
@@ -264,11 +265,11 @@ async function judgement(d, build) {
   if (lacking.length) return {...none, lacking};
   const view = await viewOf(`position ${fen}\nstipulate ${d.aim}\n`, 'root');
   if (typeof view === 'string') return {...none, text: view};
-  const own = view.moves.filter(holds).map(m => m.san), wrong = view.verdict === 'wrong';
+  const own = view.moves.filter(holds).map(m => m.san), wrong = view.stamp !== wordOf('correct');
   const hero = view.aim && sideOf(view.fen) === view.aim.hero,
         list = own.slice(0, 8).join(' ') + (own.length > 8 ? ' ..' : '');
   const first = own.length === 1 ? `One first move: ${own[0]}.` : `${counted(own.length, 'first move')} work: ${list}.`;
-  const aim = view.aim ? aimText(view.aim) : '', result = wrong ? 'wrong' : 'correct';
+  const aim = view.aim ? aimText(view.aim) : '', result = wrong ? view.stamp : 'correct';
   const text = `${aim}: ${result}; ${view.start}. ${!wrong && hero ? first : ''}`;
   return {...none, text, mate: movesTo(view.root.value)};
 }

@@ -1,10 +1,12 @@
 // @ts-check
-// The stamp of a study: its verdict, but where a line of it was not read, where no move of the solution was given,
-// where only time is lost, or where duals are accepted.
+// The stamp of a study, in the words of the printed page: what is wrong with its stipulation; else the author's first
+// mistake; else its duals, of which some may be accepted; but none where a line of it was not read.
 import {acceptedAmong, acceptedStamp, hasAccepted} from './accepted.js';
-import {sideOf} from './fen.js';
-import {isEdit, wordsOf} from './script.js';
+import {faultKind, numbered} from './fault_kinds.js';
+import {other, sideOf} from './fen.js';
+import {isEdit, openingsBefore, wordsOf} from './script.js';
 import {bareTree} from './unmarked.js';
+import {aimText} from './words.js';
 import {wordOf} from './wording.js';
 /** @typedef {import('./types.js').Study} Study @typedef {import('./types.js').Review} Review */
 /** @typedef {import('./types.js').Aim} Aim */
@@ -59,22 +61,76 @@ export function unreadIn(doc, s) {
   return cut ? `not read: ${cut.move}` : unread ? `not read: ${refusedText(unread)}` : '';
 }
 /**
- * What is said of a study by one word and more: its verdict, but where a line of it was not read, where no move of the
- * solution was given, or where only time is lost.
+ * What is wrong with a stipulation: that the hero reaches more than is asked for, or less; empty if it is correct.
+ * @param {Aim} aim
+ * @param {string} verdict      as in the game
+ * @param {string} start        the value of the start, in words
+ * @param {string} fen
+ */
+export function wrongText(aim, verdict, start, fen) {
+  const [, side = '', n = ''] = /^(White|Black) mates in (\d+)$/.exec(start) || [],
+                          winner = start === wordOf('mate') ? other(sideOf(fen)) : side;
+  if (aim.goal === 'draw' && winner === aim.hero) return wordOf('wins').replace('White', aim.hero);
+  if (verdict !== 'wrong') return '';
+  if (aim.goal === 'mate' && winner === aim.hero && Number(n) < aim.k)
+    return wordOf('sooner').replace(wordOf('mates'), start);
+  return wordOf('misses').replace('win', aim.goal === 'mate' ? `mate in ${aim.k}` : aim.goal);
+}
+/**
+ * `3 duals, 2 waste time`
+ * @param {number} duals
+ * @param {number} time      how many of them only waste time
+ */
+export function dualsText(duals, time) {
+  if (time === duals) return wordOf('time');
+  const waste = time ? wordOf(time === 1 ? 'wastes' : 'waste') : '';
+  return (duals === 1 ? wordOf('dual') : wordOf('duals').replace('2', `${duals}`)) +
+    waste.replace(/^[^,]*/, '').replace(/\d+/, `${time}`);
+}
+/**
+ * What a solution with faults is called: by its first mistake, or by its duals.
+ * @param {string} fen
+ * @param {Review} review
+ * @returns {{kind: string, text: string}}
+ */
+export function faultyStamp(fen, {faults}) {
+  const mistake = faults.find(({kind}) => kind === 'mistake'),
+        time = faults.filter(fault => faultKind(fault, true) === 'waste').length;
+  if (mistake)
+    return {kind: 'mistake', text: wordOf('fails').replace('1. Kb2', numbered(fen, mistake.path, mistake.san))};
+  return {kind: time === faults.length ? 'time' : 'duals', text: dualsText(faults.length, time)};
+}
+/** @param {string} n */
+const faultsText = n => `${n} ${n === '1' ? 'fault' : 'faults'}`;
+/**
+ * What the games of a script say of a study before its last edit, as `White to win: does not win`.
+ * @param {Study} study
+ */
+export const verdictsBefore = study => openingsBefore(study).map(({aim, verdict, start}) => {
+  const [kind, n] = verdict.split(' '), wrong = aim ? wrongText(aim, verdict, start, study.fen) : '';
+  return `${aim ? aimText(aim) : ''}: ${wrong || (kind === 'unsound' ? faultsText(n) : kind)}`;
+});
+/**
+ * What is said of a study in a few words. As long as its facts are not known, its faults are only counted.
  * @param {import('./types.js').Script} doc
  * @param {Study} s
  * @param {Review | null} review
  * @returns {{kind: string, text: string}}
  */
 export function stampOf(doc, s, review) {
-  const unread = refusedIn(doc, s, isEdit), [kind] = s.verdict.split(' ');
+  const unread = refusedIn(doc, s, isEdit), [kind, n] = s.verdict.split(' '),
+        wrong = s.aim ? wrongText(s.aim, s.verdict, s.start, s.fen) : '';
   if (s.origin && s.origin.cut) return {kind: 'not read', text: unreadIn(doc, s)};
   if (unread) return {kind: 'not read', text: `${unreadAt(unread)}, ${refusedText(unread)}`};
   if (!kind) return {kind: 'not judged', text: 'not judged'};
-  if (kind === 'sound' && !hasSolution(doc.lines, s, review)) return {kind: 'holds', text: wordOf('holds')};
-  if (review && review.waste.startsWith('sound')) return {kind: 'time', text: review.waste};
-  const text = (review && review.waste) || s.verdict, faults = review ? review.faults : [];
-  return acceptedStamp(text, acceptedOf(doc, s, faults).length, faults.length) || {kind, text};
+  if (wrong || kind === 'wrong') return {kind: 'wrong', text: wrong || kind};
+  if (kind === 'sound')
+    return hasSolution(doc.lines, s, review) ? {kind, text: kind} : {kind: 'correct', text: wordOf('correct')};
+  if (!review) return {kind: 'duals', text: faultsText(n)};
+  const stamp = faultyStamp(s.fen, review);
+  return stamp.kind === 'duals'
+    ? acceptedStamp(stamp.text, acceptedOf(doc, s, review.faults).length, review.faults.length) || stamp
+    : stamp;
 }
 /**
  * The paths of the faults of a study that are accepted.

@@ -31,7 +31,8 @@
  * @property {string} counts       `2 + 2, 0300.10 b6a1`: the men of each side, and the GBR code
  * @property {string} verdict      `sound`, `unsound 3`, `wrong`; empty without a stipulation
  * @property {string} start        the value at the root in words
- * @property {string} sentence     the verdict, and the value at the root, in sentences
+ * @property {string} stamp        the verdict as a judge reads it, without waste of time
+ * @property {string} sentence     the same, and the value at the root, in sentences
  * @property {Aim | null} aim
  * @property {TreeNode} root
  * @property {string} path
@@ -65,7 +66,8 @@
  * @property {string[]} carried    what it takes over from earlier studies, as lines
  * @property {{line: number, path: string} | null} made      the node that the last `insert` or `promote` made
  * @property {string} pgn          its game after its last edit
- * @property {string} verdict
+ * @property {string} verdict      as in its game
+ * @property {string} start        the value of its start, in words
  * @property {string[]} games      those of its script: at each `pgn` line, and after the last edit
  * @property {boolean} ended       whether no edit follows its last `pgn` line
  *

@@ -11,7 +11,7 @@ import {isEdit, assumeAccepted, wordsOf} from './script.js';
  */
 export function unjudged(lines) {
   const script = assumeAccepted(lines);
-  for (const study of script.studies) Object.assign(study, {pgn: '', verdict: '', games: [], ended: false});
+  for (const study of script.studies) Object.assign(study, {pgn: '', verdict: '', start: '', games: [], ended: false});
   return script;
 }
 /**

@@ -7,10 +7,9 @@ import {change, go, judgeAgain} from './actions.js';
 import {app, doc} from './state.js';
 import {insert} from './board_input.js';
 import {stipulate} from './edits.js';
-import {acceptedOf, stampOf} from './stamps.js';
+import {acceptedOf, stampOf, verdictsBefore} from './stamps.js';
 import {nodeAt, allNodes} from './parse_answers.js';
 import {promote, remove} from './node_view.js';
-import {verdictsBefore} from './script.js';
 import {
   aimText,
   counted,
@@ -35,7 +34,7 @@ export function verdictView(s) {
   const view = app.view;
   if (!view) return notJudged();
   if (!s.aim || !view.verdict) return h('p', {class: 'say'}, 'No stipulation yet: choose who is to win or to draw.');
-  const {kind, text} = stampOf(doc(), {...s, verdict: view.verdict}, app.review);
+  const {kind, text} = stampOf(doc(), {...s, verdict: view.verdict, start: view.start}, app.review);
   return [
     h('p', {class: 'verdict'}, h('span', {class: 'stamp ' + kind.replace(' ', '-'), id: 'stamp'}, text),
       h('span', {id: 'sentence'}, s.origin.cut ? `${CUT_SHORT}${atStart(view.start)}.` : verdictSentence(view, kind))),

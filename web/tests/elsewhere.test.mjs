@@ -36,6 +36,10 @@ const made = (refused, faults, waste = '') => ({
     return {
       ended: 'done',
       text: `study ${FEN}\nstipulation White to win: ${faults ? `unsound ${faults}` : 'sound'}, White mates in 9\n` +
+        `stamp ${
+          faults ? `${faults} duals`
+            : nodes.length ? 'sound'
+                           : 'correct, no solution yet'}\n` +
         `node root - - win 17 - faults ${faults} ${FEN}\n${rows.join('')}at root 0\n${
           at < 0 ? '' : `refused ${at + 1} NoSuchMove\n`}`
     };
@@ -46,12 +50,12 @@ test('a tree on another square: what is legal of it, its faults and its stamp', 
   const tree = leaf('', leaf('Kg3', leaf('Kf5', leaf('Kf3')), leaf('Kh5')), leaf('b4'));
   assert.deepEqual(await treeAt(made([], 0), FEN, 'white win', tree), {kept: 5, of: 5, faults: 0, stamp: 'sound'});
   assert.deepEqual(await treeAt(made(['Kf5'], 0), FEN, 'white win', tree), {kept: 3, of: 5, faults: 0, stamp: 'sound'});
-  assert.deepEqual(await treeAt(made([], 2), FEN, 'white win', tree), {kept: 5, of: 5, faults: 2, stamp: 'unsound 2'});
-  const core = made([], 2, 'waste sound but for loss of time\n');
-  assert.equal((await treeAt(core, FEN, 'white win', tree)).stamp, 'sound but for loss of time');
+  assert.deepEqual(await treeAt(made([], 2), FEN, 'white win', tree), {kept: 5, of: 5, faults: 2, stamp: '2 duals'});
+  const core = made([], 2, 'fault 0 Kg3 loss 4 dual 1 time 1\nfault 0.0.0 Kf3 loss 4 dual 2 time 2\n');
+  assert.equal((await treeAt(core, FEN, 'white win', tree)).stamp, 'sound, duals waste time');
   assert.deepEqual(core.requests, ['view root', 'review']);
-  assert.deepEqual(
-    await treeAt(made(['Kg3', 'b4'], 0), FEN, 'white win', tree), {kept: 0, of: 5, faults: 0, stamp: 'holds'});
+  assert.deepEqual(await treeAt(made(['Kg3', 'b4'], 0), FEN, 'white win', tree),
+    {kept: 0, of: 5, faults: 0, stamp: 'correct, no solution yet'});
   assert.equal(tree.children.length, 2);
   await assert.rejects(
     treeAt({answer: async () => ({text: 'NoTable KPK\n', ended: 'refused'})}, FEN, 'white win', tree), /the table KPK/);
@@ -62,10 +66,10 @@ test('a tree that loses many moves is given up', async () => {
   assert.equal(core.requests.length, 13);
 });
 test('squares by what they leave of the tree', () => {
-  const there = (kept, faults) => ({kept, of: 9, faults, stamp: faults ? `unsound ${faults}` : 'sound'});
+  const there = (kept, faults) => ({kept, of: 9, faults, stamp: faults ? `${faults} duals` : 'sound'});
   const list = byTree([
     spot(1, null, there(8, 0)), spot(2, null, there(9, 2)), spot(3, null, null), spot(4, null, there(0, 0)),
     spot(5, null, there(9, 0))
   ]);
-  assert.deepEqual(list.map(s => thereText(s.text, s)), ['5: sound', '2: unsound 2', '1: sound, 1 of 9 moves dropped']);
+  assert.deepEqual(list.map(s => thereText(s.text, s)), ['5: sound', '2: 2 duals', '1: sound, 1 of 9 moves dropped']);
 });

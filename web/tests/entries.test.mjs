@@ -34,8 +34,8 @@ test('each entry has a row and a stamp', () => {
   const d = doc(['unsound 1', 'sound', 'sound']), review = readReview(REVIEW);
   const rows = entriesOf(d, [review]);
   assert.deepEqual(rows.map(r => [r.kind, r.title, r.author, r.stamp]), [
-    ['time', 'A, "first"', 'Reti', 'sound but for loss of time'],
-    ['holds', 'B', 'Reti (set for an earlier study)', 'holds'],
+    ['time', 'A, "first"', 'Reti', 'sound, duals waste time'],
+    ['correct', 'B', 'Reti (set for an earlier study)', 'correct, no solution yet'],
     ['left out', '', 'Kasparyan, G.', 'left out: not six fields, and not four'],
     [
       'left out', 'line 3 of the PGN', '',
@@ -44,8 +44,8 @@ test('each entry has a row and a stamp', () => {
     ['not read', 'Kh8 Pc6 / Ka6 Ph5', '', 'not read: line 18, Kz9']
   ]);
   assert.deepEqual(
-    countsOf(rows), [['time', 1], ['holds', 1], ['not read', 1], ['left out', 2], ['waste', 1], ['same', 3]]);
-  assert.equal(stampOf(d, d.studies[0], null).text, 'unsound 1');
+    countsOf(rows), [['time', 1], ['correct', 1], ['not read', 1], ['left out', 2], ['waste', 1], ['same', 3]]);
+  assert.equal(stampOf(d, d.studies[0], null).text, '1 fault');
   assert.deepEqual(d.studies.map(s => hasSolution(d.lines, s, null)), [true, false, false]);
   assert.equal(nameOf({...d.studies[0], originals: {White: 'Réti'}}, 'White'), 'Réti');
 });
@@ -121,10 +121,10 @@ test('the list as comma-separated values', () => {
   const [, first, second] = text.split('\r\n');
   assert.equal(first,
     `10,"A, ""first""",Reti,${
-      FEN},White to win,sound but for loss of time,1,1,1,,1. Kg7,"same position as No. 11, a study without a number"`);
+      FEN},White to win,"sound, duals waste time",1,1,1,,1. Kg7,"same position as No. 11, a study without a number"`);
   assert.equal(second,
     `11,B,Reti (set for an earlier study),${
-      FEN},White to win (set for an earlier study),holds,,,,,,"same position as No. 10, a study without a number"`);
+      FEN},White to win (set for an earlier study),"correct, no solution yet",,,,,,"same position as No. 10, a study without a number"`);
   assert.equal(text.split('\r\n').length, 7);
 });
 test('a name that was refused is not that of the study before, and facts of a part are not those of the entry', () => {

@@ -10,6 +10,7 @@ import {faultKind} from '../src/fault_kinds.js';
 import {readReview, readView} from '../src/parse_answers.js';
 import {samePositions, sameText} from '../src/same_positions.js';
 import {assumeAccepted} from '../src/script.js';
+import {dualsText, faultyStamp, wrongText} from '../src/stamps.js';
 import {bareTree} from '../src/unmarked.js';
 
 const FEN = '7K/8/k1P5/7p/8/8/8/8 w - - 0 1', MIRRORED = 'K7/8/5P1k/p7/8/8/8/8 w - - 0 1',
@@ -34,7 +35,7 @@ const [first] = judged(LINES).studies, root = bareTree(LINES.slice(0, first.end)
 test('kinds of faults, and the worst one in words', () => {
   const [row] = entriesOf(judged(LINES), [REVIEW]);
   assert.deepEqual([row.faults, row.fault], [['main', 'waste'], '2. Kf6: also Kf7']);
-  assert.deepEqual(countsOf([row]), [['unsound', 1], ['main', 1], ['waste', 1], ['same', 1]]);
+  assert.deepEqual(countsOf([row]), [['duals', 1], ['main', 1], ['waste', 1], ['same', 1]]);
   const fault = (path, kind, duals = 1, time = 0) => faultKind({path, kind, duals, time}, true);
   assert.deepEqual(
     [
@@ -46,7 +47,7 @@ test('kinds of faults, and the worst one in words', () => {
 });
 test('a dual that is accepted is kept as a remark, and said', () => {
   let d = judged(LINES);
-  for (const [path, stamp, kind, faults] of [['0.0.0', 'unsound 2, 1 accepted', 'unsound', ['waste']],
+  for (const [path, stamp, kind, faults] of [['0.0.0', '2 duals, 1 wastes time, 1 accepted', 'duals', ['waste']],
          ['0.1.0.0.0', 'sound but for 2 accepted duals', 'accepted', []]]) {
     d = judged(accept(d.lines, d.studies[0], root, path, true).lines);
     const [row] = entriesOf(d, [REVIEW]);
@@ -54,10 +55,31 @@ test('a dual that is accepted is kept as a remark, and said', () => {
   }
   assert.deepEqual(d.lines.slice(0, 2), ['#! accepted Kg7 h4 Kf6: dual', '#! accepted Kg7 Kb6 Kf6 h4 Ke7: dual']);
   const {lines} = accept(d.lines, d.studies[0], root, '0.0.0', false);
-  assert.equal(entriesOf(judged(lines), [REVIEW])[0].stamp, 'unsound 2, 1 accepted');
-  assert.equal(acceptedStamp('unsound 1', 1, 1).text, 'sound but for 1 accepted dual');
+  assert.equal(entriesOf(judged(lines), [REVIEW])[0].stamp, '2 duals, 1 wastes time, 1 accepted');
+  assert.equal(acceptedStamp('1 dual', 1, 1).text, 'sound but for 1 accepted dual');
   const away = lines.map(line => (line === 'insert 0.1.0 h4' ? 'insert 0.1.0 Kc7' : line));
-  assert.equal(entriesOf(judged(away), [REVIEW])[0].stamp, 'unsound 2');
+  assert.equal(entriesOf(judged(away), [REVIEW])[0].stamp, '2 duals, 1 wastes time');
+});
+test('what is wrong with a stipulation, the first mistake, and duals', () => {
+  const aim = (hero, goal, k = 0) => ({hero, goal, k}), fen = '7k/8/8/8/8/8/1q6/K5R1 w - - 0 1';
+  const cases = [
+    [aim('White', 'draw'), 'sound', 'White mates in 10', 'wrong: White wins'],
+    [aim('Black', 'draw'), 'wrong', 'White mates in 10', 'does not draw'], [aim('White', 'draw'), 'sound', 'draw', ''],
+    [aim('White', 'win'), 'wrong', 'draw', 'does not win'], [aim('White', 'win'), 'unsound 1', 'White mates in 10', ''],
+    [aim('White', 'mate', 3), 'wrong', 'White mates in 2', 'wrong: White mates in 2'],
+    [aim('White', 'mate', 3), 'wrong', 'White mates in 4', 'does not mate in 3'],
+    [aim('White', 'mate', 3), 'wrong', 'draw', 'does not mate in 3'],
+    [aim('White', 'mate', 3), 'sound', 'White mates in 3', ''],
+    [aim('Black', 'draw'), 'sound', 'mate', 'wrong: Black wins'],
+    [aim('White', 'draw'), 'wrong', 'mate', 'does not draw']
+  ];
+  for (const [asked, verdict, start, text] of cases) assert.equal(wrongText(asked, verdict, start, fen), text);
+  assert.deepEqual([[1, 0], [3, 0], [3, 1], [5, 4], [2, 2]].map(([n, time]) => dualsText(n, time)),
+    ['1 dual', '3 duals', '3 duals, 1 wastes time', '5 duals, 4 waste time', 'sound, duals waste time']);
+  const fault = (path, san, kind) => ({path, san, kind, duals: 1, time: 0});
+  assert.deepEqual(faultyStamp(fen, {faults: [fault('0', 'Rg8+', 'dual'), fault('0.1.0', 'Ka2', 'mistake')]}),
+    {kind: 'mistake', text: 'fails at 2. Ka2'});
+  assert.deepEqual(faultyStamp(fen, {faults: [fault('0', 'Rg8+', 'dual')]}), {kind: 'duals', text: '1 dual'});
 });
 test('the same position as it is, mirrored, with colours exchanged', () => {
   const same = samePositions([FEN, MIRRORED, COLOURS, FEN, '7K/8/k1P5/7p/8/8/8/8 b - - 0 1']);

@@ -129,12 +129,13 @@ test('what a list says of a document', () => {
     aim: {hero: 'White', goal: 'win', k: 0}
   });
   const said = (studies, shown = lines, reviews = []) => summary({studies, lines: shown, refused: []}, reviews);
-  assert.deepEqual(said([study('unsound 3', 'A')]), {title: 'A, Réti', verdict: 'unsound 3'});
-  const waste = 'sound but for loss of time';
-  assert.deepEqual(said([study('unsound 1', 'A')], lines, [{waste}]), {title: 'A, Réti', verdict: waste});
+  assert.deepEqual(said([study('unsound 3', 'A')]), {title: 'A, Réti', verdict: '3 faults'});
+  assert.deepEqual(said([study('unsound 1', 'A')], lines, [{faults: [{path: '0', kind: 'dual', duals: 2, time: 2}]}]),
+    {title: 'A, Réti', verdict: 'sound, duals waste time'});
   assert.deepEqual(said([study('unsound 3', '?'), study('sound', 'B'), study('sound', 'B')]),
-    {title: 'Réti and 2 more studies', verdict: '2 sound, 1 unsound'});
-  assert.deepEqual(said([study('sound', 'A')], [lines[0], '']), {title: 'A, Réti', verdict: 'holds'});
+    {title: 'Réti and 2 more studies', verdict: '2 sound, 1 with duals'});
+  assert.deepEqual(
+    said([study('sound', 'A')], [lines[0], '']), {title: 'A, Réti', verdict: 'correct, no solution yet'});
   assert.deepEqual(said([{...study('', '?'), tags: {}}]), {title: 'Kb6 Pc6 / Ka1 Rd5', verdict: 'not judged'});
 });
 test('copies are versions of one document, a name is kept, and the list can be sorted', () => {

@@ -22,7 +22,7 @@ const squares = m => (m.from < 0 ? '-' : squareName(m.from) + squareName(m.to) +
 function viewText(view) {
   const rows = [
     `study ${view.fen}`, `counts ${view.counts}`, `stipulation ${aimText(view.aim)}: ${view.verdict}, ${view.start}`,
-    `sentence ${view.sentence}`
+    `stamp ${view.stamp}`, `sentence ${view.sentence}`
   ];
   for (const n of allNodes(view.root))
     rows.push(
@@ -49,10 +49,10 @@ test('values in words', () => {
   const view = readView(views.find(([name, path]) => name === 'saavedra_1895.views' && path === 'root')[2]);
   assert.equal(valueText('White', view.root.value), 'White mates in 26');
   assert.equal(valueText('White', view.root.value), view.start);
-  assert.equal(verdictSentence(view, 'unsound'),
-    'The stipulation is correct; the solution has 3 faults. At the start: White mates in 26.');
+  assert.equal(verdictSentence(view, 'duals'),
+    'The stipulation is correct; the solution has 3 duals. At the start: White mates in 26.');
   assert.equal(verdictSentence(view, 'time'),
-    'The stipulation is correct; the solution has 3 faults, which only waste time. At the start: White mates in 26.');
+    'The stipulation is correct; the solution has 3 duals, which only waste time. At the start: White mates in 26.');
   assert.equal(view.counts, '2 + 2, 0300.10 b6a1');
   assert.equal(valueSign('White', 'Black', {kind: 'loss', n: 0}), '#');
   assert.equal(valueSign('White', 'White', {kind: 'loss', n: 6}), '−3');

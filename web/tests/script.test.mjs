@@ -19,9 +19,9 @@ import {
   repliesOf,
   savedScript,
   assumeAccepted,
-  verdictsBefore,
   toRun
 } from '../src/script.js';
+import {verdictsBefore} from '../src/stamps.js';
 import {isListed} from '../src/tables.js';
 import {DIGESTS} from '../src/digests.js';
 import {SECONDS} from '../src/seconds.js';
@@ -128,7 +128,7 @@ test('a study with more than one game', () => {
   ];
   const script = readScript(lines, sent, replies);
   assert.deepEqual(script.studies.map(s => [s.verdict, s.games.length, verdictsBefore(s)]),
-    [['wrong', 2, ['White to win: wrong']], ['sound', 1, []]]);
+    [['wrong', 2, ['White to win: does not win']], ['sound', 1, []]]);
   assert.equal(gamesOf(script), replies.filter(r => r.startsWith('[')).join(''));
   assert.equal(savedScript(script, []).split('\n').filter(line => line === 'pgn').length, 3);
   assert.deepEqual(reportedLines(script), [...lines.slice(0, 4), 'pgn', ...lines.slice(4)]);

@@ -3,4 +3,5 @@ pub mod Diagram
 pub mod Known
 pub mod Counts
 pub mod Head
+pub mod Mistake
 pub mod Verdict

@@ -71,7 +71,7 @@ fn first_ply_offset(side: Side) -> u32
 
 /// The number of the move that is made at this depth of a study with this start.
 #[tactic(auto, unfolding(crate::specs::Words::number_at))]
-fn number_at(start: &Start, depth: usize) -> u32
+pub fn number_at(start: &Start, depth: usize) -> u32
     ensures { result ≡ number_at start.now depth }
 {
     start.number as u32 + (plies_of(depth) + first_ply_offset(start.position.to_move())) / 2

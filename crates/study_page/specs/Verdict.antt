@@ -1,7 +1,7 @@
 -- The part of a page with the verdict.
 use Rattle.std.specs.Prelude.{ℕ, ◌==◌, List, [], ◌++◌, length, if◌then◌else◌}
 use Rattle.study_head.specs.declared.verdict.Stamp.{Stamp}
-use Rattle.study_head.specs.declared.verdict.Stamp.TheVariants.{Wrong, Sound, Holds, Unsound, NotRead}
+use Rattle.study_head.specs.declared.verdict.Stamp.TheVariants.{Wins, Mates, Misses, Fails, Sound, Correct, Duals, NotRead}
 use Rattle.study_head.specs.declared.verdict.Judgement.{Judgement}
 use Rattle.study_head.specs.Verdict.{stamp_words, sentence, start_words}
 use Rattle.study_html.specs.declared.element.Element.{Element}
@@ -9,12 +9,15 @@ use Rattle.study_html.specs.declared.element.Element.TheVariants as element
 use Rattle.study_html.specs.Escape.{escaped_text}
 use Rattle.study_html.specs.Elements.{element_text}
 
--- a study that is sound but for loss of time is framed as a sound one
+-- a study whose duals only waste time is framed as a sound one
 abbrev pub stamp_element : Stamp → Element
-stamp_element Wrong = element.Wrong
+stamp_element (Wins side) = element.Wrong
+stamp_element (Mates side v) = element.Wrong
+stamp_element (Misses x) = element.Wrong
+stamp_element (Fails m) = element.Wrong
 stamp_element Sound = element.Sound
-stamp_element Holds = element.Sound
-stamp_element (Unsound faults time) = if time == faults then element.Sound else element.Unsound
+stamp_element Correct = element.Sound
+stamp_element (Duals duals time) = if time == duals then element.Sound else element.Unsound
 stamp_element (NotRead line) = element.Unsound
 
 unfoldable pub stamp_part : Stamp → List ℕ

@@ -147,7 +147,8 @@ fn add_verdict<'a, 'b, A: Allocator, B: Allocator>(
         ++ field (stamp_words (entry_judgement (marked_study bench.now) time unread).stamp)) }
 {
     let mut words = Text::new(alloc);
-    add_stamp_words(&mut words, entry_judgement(bench, time, unread).stamp)?;
+    let judged = entry_judgement(bench, time, unread);
+    add_stamp_words(&mut words, &judged.stamp)?;
     add_field(text, words.as_slice())
 }
 

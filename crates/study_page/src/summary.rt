@@ -132,7 +132,8 @@ fn put_judged<'a, 'b, A: Allocator, B: Allocator>(
     let mut verdict = Text::new(alloc);
     add_stipulation(&mut stipulation, bench.stipulation())?;
     put_words(alloc, html, Element::Cell, stipulation.as_slice())?;
-    add_stamp_words(&mut verdict, entry_judgement(bench, time, unread).stamp)?;
+    let judged = entry_judgement(bench, time, unread);
+    add_stamp_words(&mut verdict, &judged.stamp)?;
     put_words(alloc, html, Element::Cell, verdict.as_slice())
 }
 

@@ -1,5 +1,6 @@
 //! The part of a page with the verdict.
 ghost use Rattle.std.specs.Prelude.{◌≡◌, ◌++◌, ◌==◌, OnOk, if◌then◌else◌};
+ghost use Rattle.study_head.specs.Verdict.{IsLegalStamp};
 ghost use Rattle.study_page.specs.Verdict.{stamp_element, stamp_part, fault_list, verdict_part};
 
 use std::alloc::{AllocError, Allocator};
@@ -7,23 +8,26 @@ use study_head::{Judgement, Stamp, add_sentence, add_stamp_words, add_start_valu
 use study_html::{Element, Html, put_words};
 use study_text::Text;
 
-fn stamp_element(stamp: Stamp) -> Element
-    ensures { result ≡ stamp_element stamp }
+fn stamp_element(stamp: &Stamp) -> Element
+    ensures { result ≡ stamp_element stamp.now }
 {
     match stamp {
-        Stamp::Wrong => Element::Wrong,
+        Stamp::Wins(_) => Element::Wrong,
+        Stamp::Mates(_, _) => Element::Wrong,
+        Stamp::Misses(_) => Element::Wrong,
+        Stamp::Fails(_) => Element::Wrong,
         Stamp::Sound => Element::Sound,
-        Stamp::Holds => Element::Sound,
-        Stamp::Unsound(faults, time) => unsound_element(faults, time),
+        Stamp::Correct => Element::Sound,
+        Stamp::Duals(duals, time) => duals_element(*duals, *time),
         Stamp::NotRead(_) => Element::Unsound,
     }
 }
 
-/// The frame of a study with so many faults, of which so many lose time alone.
-fn unsound_element(faults: u32, time: u32) -> Element
-    ensures { result ≡ (if time == faults then Element.Sound else Element.Unsound) }
+/// The frame of a study with so many duals, of which so many only waste time.
+fn duals_element(duals: u32, time: u32) -> Element
+    ensures { result ≡ (if time == duals then Element.Sound else Element.Unsound) }
 {
-    if time == faults {
+    if time == duals {
         Element::Sound
     } else {
         Element::Unsound
@@ -34,9 +38,10 @@ fn unsound_element(faults: u32, time: u32) -> Element
 fn put_stamp<'a, A: Allocator>(
     alloc: &'a A,
     html: &mut Html<'_, A>,
-    stamp: Stamp,
+    stamp: &Stamp,
 ) -> Result<(), AllocError>
-    ensures { OnOk result (html.new ≡ html.old ++ stamp_part stamp) }
+    requires { IsLegalStamp stamp.now }
+    ensures { OnOk result (html.new ≡ html.old ++ stamp_part stamp.now) }
 {
     let mut text = Text::new(alloc);
     let mut within = Html::new(alloc);
@@ -62,13 +67,14 @@ pub fn put_verdict<'a, A: Allocator>(
     judged: &Judgement,
     faults: &Html<'_, A>,
 ) -> Result<(), AllocError>
+    requires { IsLegalStamp judged.now.stamp }
     ensures { OnOk result (html.new ≡ html.old ++ verdict_part judged.now faults.now) }
 {
     let mut part = Html::new(alloc);
     let mut says = Text::new(alloc);
     let mut start = Text::new(alloc);
-    put_stamp(alloc, &mut part, judged.stamp)?;
-    add_sentence(&mut says, judged.empty, judged.stamp)?;
+    put_stamp(alloc, &mut part, &judged.stamp)?;
+    add_sentence(&mut says, judged.empty, &judged.stamp)?;
     put_words(alloc, &mut part, Element::Paragraph, says.as_slice())?;
     add_start_value(&mut start, judged.first, judged.value)?;
     put_words(alloc, &mut part, Element::Paragraph, start.as_slice())?;

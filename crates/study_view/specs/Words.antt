@@ -15,7 +15,8 @@ use Rattle.study_marks.specs.declared.mark.Mark.{Mark}
 use Rattle.study_marks.specs.declared.mark.MoveMark.{MoveMark}
 use Rattle.study_marks.specs.Marks.{value_words, on_move_text}
 use Rattle.study_head.specs.Counts.{counts_words}
-use Rattle.study_head.specs.Verdict.{verdict_words}
+use Rattle.study_head.specs.Verdict.{stamp_words, verdict_words}
+use Rattle.study_head.specs.declared.verdict.Stamp.{Stamp}
 use Rattle.study_head.specs.declared.verdict.Judgement.{Judgement}
 use Rattle.study_facts.specs.Words.{front_words}
 
@@ -52,6 +53,10 @@ counts_line p = codes "counts " ++ (counts_words p.men ++ codes "\n")
 -- the start of the study, and its counts of men
 unfoldable pub start_lines : Start → List ℕ
 start_lines start = study_line start ++ counts_line start.position
+
+-- `stamp 3 duals`: the verdict as a judge reads it
+unfoldable pub stamp_line : Stamp → List ℕ
+stamp_line x = codes "stamp " ++ (stamp_words x ++ codes "\n")
 
 -- `sentence The stipulation is wrong. At the start: draw.`
 unfoldable pub sentence_line : Judgement → List ℕ

@@ -14,18 +14,19 @@ ghost use Rattle.study_facts.specs.Order.{LinesOfEach, written_order};
 ghost use Rattle.study_facts.specs.Zugzwang.{ZugzwangLines};
 ghost use Rattle.study_view.specs.Asked.{HasViewed, HasWalked};
 ghost use Rattle.study_view.specs.Marking.{holding_count, line_of_move};
-ghost use Rattle.study_view.specs.View.{start_to, node_line, head_lines, IsView, IsViewOf, asked_at};
+ghost use Rattle.study_view.specs.View.{start_to, node_line, judged_lines, head_lines, IsView, IsViewOf, asked_at};
+ghost use Rattle.study_head.specs.Verdict.{IsLegalStamp};
 ghost use Rattle.study_view.specs.Words.{at_line};
 
 use crate::fault::ViewFault;
 use crate::move_lines::{ViewNode, add_moves};
 use crate::nodes::{Lines, add_nodes};
 use crate::probe::evaluate_legal_moves;
-use crate::words::{add_move_count, add_sentence_line, add_start};
+use crate::words::{add_move_count, add_sentence_line, add_stamp_line, add_start};
 use std::alloc::{AllocError, Allocator};
 use std::io::Write;
 use study_facts::{EvaluatedMove, NodeContext, value_at};
-use study_head::judgement_of;
+use study_head::{Judgement, judgement_of};
 use study_marks::{Bench, aim_of};
 use study_moves::MAX_MOVES;
 use study_notation::Start;
@@ -35,7 +36,20 @@ use study_text::{Text, write_text};
 use study_tree::Path;
 use study_values::Values;
 
-/// The start with its counts of men, and the verdict, as one word and in sentences.
+/// The verdict as a judge reads it, as a stamp and in sentences.
+#[tactic(auto, unfolding(crate::specs::View::judged_lines))]
+fn add_judged<A: Allocator>(
+    text: &mut Text<'_, A>,
+    judged: &Judgement,
+) -> Result<(), AllocError>
+    requires { IsLegalStamp judged.now.stamp }
+    ensures { OnOk result (text.new ≡ text.old ++ judged_lines judged.now) }
+{
+    add_stamp_line(text, &judged.stamp)?;
+    add_sentence_line(text, judged)
+}
+
+/// The start with its counts of men, the verdict as scripts have it, and as a judge reads it.
 #[tactic(auto, unfolding(crate::specs::View::head_lines))]
 fn add_head<'b, A: Allocator, B: Allocator>(
     text: &mut Text<'_, A>,
@@ -45,7 +59,7 @@ fn add_head<'b, A: Allocator, B: Allocator>(
 {
     add_start(text, bench.start())?;
     add_stipulation_line(text, bench, root_mark(bench))?;
-    add_sentence_line(text, &judgement_of(bench, 0))
+    add_judged(text, &judgement_of(bench, 0))
 }
 
 /// The lines of all nodes.

@@ -5,13 +5,14 @@ ghost use Rattle.study_moves.specs.Rules.{is_legal};
 ghost use Rattle.study_notation.specs.FenSpelling.{fen_text, square_text};
 ghost use Rattle.study_marks.specs.Marks.{on_move_text};
 ghost use Rattle.study_marks.specs.Bench.{node_seen};
+ghost use Rattle.study_head.specs.Verdict.{IsLegalStamp};
 ghost use Rattle.study_view.specs.Words.{promoted_text, squares_text, moved_words, move_to_node_text, mark_words, study_line, counts_line, start_lines};
-ghost use Rattle.study_view.specs.Words.{sentence_line, shown_words, node_words, count_words, at_line, reached_words, move_line};
+ghost use Rattle.study_view.specs.Words.{stamp_line, sentence_line, shown_words, node_words, count_words, at_line, reached_words, move_line};
 
 use std::alloc::{AllocError, Allocator};
 use study_board::{Kind, Position, Square};
 use study_facts::{add_line_start, add_value};
-use study_head::{Judgement, add_counts, add_verdict_words};
+use study_head::{Judgement, Stamp, add_counts, add_stamp_words, add_verdict_words};
 use study_marks::{Mark, MoveMark, NodeView, on_move_text};
 use study_moves::{Move, in_check, legal_moves};
 use study_notation::{Start, write_fen};
@@ -147,12 +148,24 @@ pub fn add_start<A: Allocator>(text: &mut Text<'_, A>, start: &Start) -> Result<
     add_counts_line(text, &start.position)
 }
 
+/// The line with the verdict as a judge reads it.
+#[tactic(auto, unfolding(crate::specs::Words::stamp_line))]
+pub fn add_stamp_line<A: Allocator>(text: &mut Text<'_, A>, stamp: &Stamp) -> Result<(), AllocError>
+    requires { IsLegalStamp stamp.now }
+    ensures { OnOk result (text.new ≡ text.old ++ stamp_line stamp.now) }
+{
+    text.add(b"stamp ")?;
+    add_stamp_words(text, stamp)?;
+    text.add(b"\n")
+}
+
 /// The line with the verdict in sentences.
 #[tactic(auto, unfolding(crate::specs::Words::sentence_line))]
 pub fn add_sentence_line<A: Allocator>(
     text: &mut Text<'_, A>,
     judged: &Judgement,
 ) -> Result<(), AllocError>
+    requires { IsLegalStamp judged.now.stamp }
     ensures { OnOk result (text.new ≡ text.old ++ sentence_line judged.now) }
 {
     text.add(b"sentence ")?;

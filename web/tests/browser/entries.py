@@ -84,14 +84,14 @@ def test_ten_entries_are_ten_rows(user):
     assert len(list_) == 10, list_
     assert [
         row[4].split(":")[0].split(" ")[0] for row in list_
-    ] == "sound sound left left holds left unsound left wrong sound".split(), list_
+    ] == "sound sound left left correct, left fails left does sound".split(), list_
     assert list_[0][2] == "Réti, Richard" and list_[1][2] == "Троицкий"
     assert "Kh9" in list_[2][4] and "6 men" in list_[3][4] and "null move" in list_[5][4], list_
     assert list_[2][1:3] == ["Three", "A"] and list_[3][1:3] == ["Four", "B"], list_
     assert [row[0] for row in list_] == [str(n) for n in range(1, 11)], list_
     assert list_[0][3] == "White to win\n(from the Result)" and "(line 24, column 4)" in list_[2][4], list_
     menu = user.js("return [...document.getElementById('studies').options].map(o => o.innerText)")
-    assert len(menu) == 10 and menu[2] == "3. Three, A: left out" and menu[8].startswith("9. Nine, G: wrong"), menu
+    assert len(menu) == 10 and menu[2] == "3. Three, A: left out" and menu[8].startswith("9. Nine, G: does not win"), menu
     user.choose("studies", "5")
     assert user.text("head").split("\n\n")[:2] == ["Ten", "No. 10 \u00b7 H"], user.text("head")
     user.js("const e = document.getElementById('studies'); e.selectedIndex = 3; e.dispatchEvent(new Event('change'))")
@@ -109,7 +109,9 @@ def test_ten_entries_are_ten_rows(user):
         user.size(1366, height)
         assert user.js("const s = document.querySelector('#list .scroll'); return s.scrollWidth <= s.clientWidth")
     counts = user.js("return [...document.querySelectorAll('#list [data-kind]')].map(b => b.innerText)")
-    assert counts[:5] == ["3 sound", "1 unsound", "1 wrong", "1 holds", "4 left out"], counts
+    assert counts[:5] == [
+        "3 sound", "1 whose own move fails", "1 wrong", "1 correct, no solution yet", "4 left out"
+    ], counts
     user.js("document.querySelector('#list [data-kind=wrong]').click()")
     assert [row[0] for row in rows(user)] == ["9"]
     user.js("document.querySelector('#list [data-kind=wrong]').click()")
@@ -119,13 +121,13 @@ def test_ten_entries_are_ten_rows(user):
     assert (
         name == "entries.checked.csv" and len(table) == 11 and table[2][2] == "Троицкий" and table[1][5] == "sound"
     ), table
-    assert table[7][5].startswith("unsound") and int(table[7][6]) + 1 >= 1 and int(table[1][8]) > 0
+    assert table[7][5] == "fails at 1. b4" and int(table[7][6]) + 1 >= 1 and int(table[1][8]) > 0
     name, saved = user.download("savePgn")
     assert name == "entries.checked.pgn" and '[White "Троицкий"]' in saved and '[Annotator "an editor"]' in saved
     assert "{The only move. White mates in" in saved.replace("\n", " ")
     user.d.find_element(By.CSS_SELECTOR, '[data-import="white draw"]').click()
     user.settle()
-    assert len(rows(user)) == 10 and rows(user)[7][4].startswith(("sound", "wrong", "unsound")), rows(user)
+    assert len(rows(user)) == 10 and re.match(r"sound|wrong: |does not |fails at |\d+ (dual|fault)", rows(user)[7][4]), rows(user)
     user.picture("entries")
     user.click("undo")
     user.settle()
@@ -215,7 +217,7 @@ def test_a_game_with_a_bad_move_is_opened_up_to_there(user):
     user.click("readAgain")
     user.until("!document.getElementById('cut')", 60)
     user.settle()
-    assert user.text("stamp").startswith("unsound") and "#! up to" not in script(user), user.text("stamp")
+    assert re.match(r"\d+ dual|fails at ", user.text("stamp")) and "#! up to" not in script(user), user.text("stamp")
     assert "#! game 2, line 9: stipulated by its tag Result" in script(user) and "insert 0.0.0.0 Ke3" in script(user)
     assert [row[0] for row in rows(user)] == ["1", "2", "3"] and "The key" in script(user)
 
@@ -405,7 +407,7 @@ def test_a_file_goes_back_as_its_authors(user):
     opened(user, "entries.checked.pgn", saved, "document.getElementById('import').innerText === ''")
     assert user.download("savePgn") == ("entries.checked.pgn", saved)
     user.choose("aimGoal", "draw")
-    assert "stipulated by hand" in script(user) and user.text("stamp").startswith("unsound"), script(user)
+    assert "stipulated by hand" in script(user) and user.text("stamp") == "wrong: White wins", script(user)
     assert '[Result "1-0"]' in user.download("savePgn")[1]
 
 
@@ -517,7 +519,7 @@ def test_a_mate_begins_earlier(user):
         assert len(chips) == len(set(chips)) > 1 and all(" from " in chip for chip in chips), chips
         user.d.find_element(By.CSS_SELECTOR, "#earlier [data-before]").click()
     user.settle()
-    assert "\nstipulate white mate 3\n" in script(user) and user.text("stamp") != "wrong", script(user)
+    assert "\nstipulate white mate 3\n" in script(user) and not user.text("stamp").startswith("wrong"), script(user)
 
 
 def test_a_diagram_is_saved(user):

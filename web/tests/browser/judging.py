@@ -37,7 +37,7 @@ def opened(user, text=PGN):
     user.until("document.getElementById('stamp')", 60)
     user.settle()
     user.until("[...document.querySelectorAll('#list .stamped')].length > 3", 60)
-    user.until("document.querySelector('[data-kind=cook], [data-kind=main], [data-kind=fails]')", 60)
+    user.until("document.querySelector('[data-kind=cook], [data-kind=main], [data-kind=mistake]')", 60)
 
 
 def script(user):
@@ -121,10 +121,10 @@ def test_the_list(user):
     assert user.js(ROWS) == ["Three", "Four"]
     user.by("findEntry").send_keys(Keys.BACK_SPACE * 5)
     user.settle()
-    user.d.find_element(By.CSS_SELECTOR, "[data-kind=fails]").click()
+    user.d.find_element(By.CSS_SELECTOR, "[data-kind=mistake]").click()
     user.settle()
     assert user.js(ROWS) == ["Three"] and "1. b4 throws it away" in user.text("list"), user.text("list")
-    user.d.find_element(By.CSS_SELECTOR, "[data-kind=fails]").click()
+    user.d.find_element(By.CSS_SELECTOR, "[data-kind=mistake]").click()
     user.settle()
     assert "same position as No. 2 (mirrored), No. 3" in user.text("list"), user.text("list")
     assert "It has the same position as No. 2 (mirrored), No. 3." == user.text("same")
@@ -164,7 +164,7 @@ def test_what_is_heard(user):
     assert user.js(HEARD).startswith("white king g3, the only move that works, White mates in 27"), user.js(HEARD)
     assert "The only move" in user.js(HEARD)
     user.d.find_element(By.XPATH, "//*[@id='rows']//button[.='3']").click()
-    user.until("document.getElementById('spoken').textContent.includes('Verdict: unsound')", 30)
+    user.until("document.getElementById('spoken').textContent.includes('Verdict: fails at 1. b4')", 30)
     user.click("setUp")
     user.until("document.getElementById('spoken').textContent.includes('White to win: correct')", 30)
 

@@ -169,13 +169,13 @@ def test_a_file_whose_tables_lack(user):
     user.fill("tagSite", "Glasgow")
     assert "Glasgow" in user.text("head") and not user.has("stamp")
     title = "Glasgow Weekly Citizen, Barbier and Saavedra and 1 more study"
-    assert sorted(row[:2] for row in documents(user)) == [[title, "not judged"], ["My own", "holds"]]
+    assert sorted(row[:2] for row in documents(user)) == [[title, "not judged"], ["My own", "correct, no solution yet"]]
     if os.path.exists(os.path.join(TABLES, "KRKP.dtm")):
         user.open_tables(TABLES, "KQKR KRKR KRKB KRKN KRKP".split())
         user.click("buildNow") if user.has("buildNow") else None
         user.settle()
         user.until(
-            "document.getElementById('stamp') && document.getElementById('stamp').innerText.includes('unsound 2')", 60
+            "document.getElementById('stamp') && document.getElementById('stamp').innerText.includes('2 duals')", 60
         )
         assert "Glasgow" in user.text("head")
 
@@ -206,7 +206,7 @@ def test_a_set_up_that_was_not_started(user):
     user.until("!document.getElementById('start').disabled", 30)
     user.click("start")
     user.settle()
-    assert script(user).startswith("position " + placed) and user.text("stamp") == "holds"
+    assert script(user).startswith("position " + placed) and user.text("stamp") == "correct, no solution yet"
     assert sorted(row[0] for row in documents(user)) == ["Behind", "Kg2 Pb2 / Kh5"]
     user.click("setUp")
     user.click("manQ")
@@ -276,7 +276,7 @@ def test_a_refused_position_of_the_same_men(user):
     """After a right position a refused one of the same men, and the right one again: its tables are built and laid."""
     fen = "document.getElementById('judged').textContent"
     user.fill("fen", "8/8/8/8/8/1k6/1Q6/K7 b - - 0 1")
-    user.until(fen + ".includes('correct') || " + fen + ".includes('wrong')", 60)
+    user.until(fen + ".includes('correct') || " + fen + ".includes('does not')", 60)
     user.open()
     for text, words in (("8/8/8/8/8/1k6/1Q6/K7 w - - 0 1", "in check"), ("8/8/8/8/8/1k6/7Q/K7 w - - 0 1", "correct")):
         user.fill("fen", text)
@@ -292,7 +292,7 @@ def test_a_refused_position_of_the_same_men(user):
     user.until("!document.getElementById('start').disabled", 30)
     user.click("start")
     user.settle()
-    assert user.text("stamp") == "holds"
+    assert user.text("stamp") == "correct, no solution yet"
 
 
 def tick(user, title):
@@ -369,7 +369,7 @@ def test_storage_that_is_full(user):
             try { localStorage.setItem('filled' + i, text); } catch { text = text.slice(text.length >> 1 || 1); }"""
     )
     started(user, FEN, "Not kept")
-    assert user.by("unkept").is_displayed() and user.text("stamp") == "holds"
+    assert user.by("unkept").is_displayed() and user.text("stamp") == "correct, no solution yet"
     user.js("for (const key of Object.keys(localStorage)) if (key.startsWith('filled')) localStorage.removeItem(key)")
     user.play("Kg3")
     assert not user.by("unkept").is_displayed()

@@ -155,7 +155,7 @@ def test_faults_and_their_repairs(user):
     user.set_up("8/k1P5/2K5/8/8/8/8/8 w - - 0 1", "white mate 2")
     user.play("c8=Q")
     user.until("document.querySelector('.faults')", 30, "the facts")
-    assert user.text("stamp") == "unsound 1" and "throws it away" in user.by("mend").text
+    assert user.text("stamp") == "fails at 1. c8=Q" and "throws it away" in user.by("mend").text
     user.picture("fault")
     user.go("root")
     user.play("c8=R")
@@ -429,7 +429,7 @@ def test_several_studies(user):
     user.set_up(FEN, "white win")
     user.fill("tagWhite", "First")
     user.set_up("8/3k4/8/3KP3/8/8/8/8 b - - 0 1", "black draw", first=False)
-    assert user.text("stamp") == "holds" and "Untitled" in user.text("head") and "First" not in user.text("head")
+    assert user.text("stamp") == "correct, no solution yet" and "Untitled" in user.text("head") and "First" not in user.text("head")
     assert user.js("return document.getElementById('studies').options.length") == 2
     user.choose("studies", "0")
     assert "First" in user.text("head")
@@ -446,7 +446,7 @@ def test_a_study_given_twice(user):
     user.promise("studyboard.open(a[0])", script)
     user.settle()
     assert len(games) == 2 and user.promise("studyboard.pgn()") == "".join(games)
-    assert user.text("stamp") == "unsound 5" and "White to win: wrong" in user.text("verdictsBefore")
+    assert user.text("stamp") == "5 duals" and "White to win: does not win" in user.text("verdictsBefore")
 
 
 def test_from_study_to_study(user):

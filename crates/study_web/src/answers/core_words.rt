@@ -5,11 +5,12 @@ ghost use Rattle.std.specs.Prelude.{◌≡◌, ◌++◌, OnOk, IfOk, IfErr, code
 ghost use Rattle.study_board.specs.declared.men.Side.TheVariants.{White};
 ghost use Rattle.study_values.specs.declared.value.Value.TheVariants.{Draw};
 ghost use Rattle.study_pgn.specs.Values.{value_text};
-ghost use Rattle.study_head.specs.Verdict.{stamp_words, sentence, start_words};
+ghost use Rattle.study_head.specs.Verdict.{IsLegalStamp, stamp_words, sentence, start_words};
 ghost use Rattle.study_page.specs.Rows.{by_words, several_words};
 ghost use Rattle.study_web.specs.Answers.{MayEnd, IsOutOfMemory, IsNoMemory};
 ghost use Rattle.study_web.specs.CoreWords.{word_line, refusal_names, game_names, command_names, kind_name, group_name, group_words};
-ghost use Rattle.study_web.specs.CoreWords.{name_lines, said_line, value_lines, stamp_lines, sentence_lines, verdict_lines, title_lines, last_title_lines};
+ghost use Rattle.study_web.specs.CoreWords.{name_lines, said_line, value_lines, stamp_lines, dual_lines, wrong_lines, fails_line, sentence_lines};
+ghost use Rattle.study_web.specs.CoreWords.{verdict_lines, title_lines, last_title_lines};
 ghost use Rattle.study_web.specs.CoreWords.{head_lines, page_lines, said_lines, keep_line, later_lines, move_lines, zugzwang_lines};
 ghost use Rattle.study_web.specs.CoreWords.{explained_lines, core_words};
 
@@ -20,6 +21,7 @@ use std::alloc::{AllocError, Allocator};
 use study_board::Side;
 use study_command::{CommandKind, read_keyword};
 use study_head::{Stamp, add_sentence, add_stamp_words, add_start_value};
+use study_marks::{Goal, Stipulation};
 use study_pgn::add_value;
 use study_print::game_reason;
 use study_reply::{Refusal, reason_of};
@@ -173,9 +175,10 @@ fn add_values<A: Allocator>(text: &mut Text<'_, A>) -> Result<(), AllocError>
 fn add_stamp_line<A: Allocator>(
     text: &mut Text<'_, A>,
     name: &[u8],
-    stamp: Stamp,
+    stamp: &Stamp,
 ) -> Result<(), AllocError>
-    ensures { OnOk result (text.new ≡ text.old ++ said_line name.now (stamp_words stamp)) }
+    requires { IsLegalStamp stamp.now }
+    ensures { OnOk result (text.new ≡ text.old ++ said_line name.now (stamp_words stamp.now)) }
 {
     add_said_name(text, name)?;
     add_stamp_words(text, stamp)?;
@@ -185,9 +188,10 @@ fn add_stamp_line<A: Allocator>(
 fn add_sentence_line<A: Allocator>(
     text: &mut Text<'_, A>,
     name: &[u8],
-    stamp: Stamp,
+    stamp: &Stamp,
 ) -> Result<(), AllocError>
-    ensures { OnOk result (text.new ≡ text.old ++ said_line name.now (sentence false stamp)) }
+    requires { IsLegalStamp stamp.now }
+    ensures { OnOk result (text.new ≡ text.old ++ said_line name.now (sentence false stamp.now)) }
 {
     add_said_name(text, name)?;
     add_sentence(text, false, stamp)?;
@@ -198,18 +202,48 @@ fn add_sentence_line<A: Allocator>(
 fn add_stamps<A: Allocator>(text: &mut Text<'_, A>) -> Result<(), AllocError>
     ensures { OnOk result (text.new ≡ text.old ++ stamp_lines) }
 {
-    add_stamp_line(text, b"holds", Stamp::Holds)?;
-    add_stamp_line(text, b"time", Stamp::Unsound(1, 1))?;
-    add_stamp_line(text, b"unread", Stamp::NotRead(1))
+    add_stamp_line(text, b"correct", &Stamp::Correct)?;
+    add_stamp_line(text, b"time", &Stamp::Duals(1, 1))?;
+    add_stamp_line(text, b"unread", &Stamp::NotRead(1))
+}
+
+#[tactic(auto, unfolding(crate::specs::CoreWords::dual_lines))]
+fn add_duals<A: Allocator>(text: &mut Text<'_, A>) -> Result<(), AllocError>
+    ensures { OnOk result (text.new ≡ text.old ++ dual_lines) }
+{
+    add_stamp_line(text, b"dual", &Stamp::Duals(1, 0))?;
+    add_stamp_line(text, b"duals", &Stamp::Duals(2, 0))?;
+    add_stamp_line(text, b"wastes", &Stamp::Duals(2, 1))?;
+    add_stamp_line(text, b"waste", &Stamp::Duals(3, 2))
+}
+
+#[tactic(auto, unfolding(crate::specs::CoreWords::wrong_lines))]
+fn add_wrong<A: Allocator>(text: &mut Text<'_, A>) -> Result<(), AllocError>
+    ensures { OnOk result (text.new ≡ text.old ++ wrong_lines) }
+{
+    let win = Stipulation {
+        hero: Side::White,
+        goal: Goal::Win,
+    };
+    add_stamp_line(text, b"wins", &Stamp::Wins(Side::White))?;
+    add_stamp_line(text, b"sooner", &Stamp::Mates(Side::White, Value::Win(1)))?;
+    add_stamp_line(text, b"misses", &Stamp::Misses(win))
+}
+
+#[tactic(auto, unfolding(crate::specs::CoreWords::fails_line, study_head::specs::Verdict::fails_at))]
+fn fails_line() -> &'static [u8]
+    ensures { result.now ≡ fails_line }
+{
+    b"word fails fails at 1. Kb2\n"
 }
 
 #[tactic(auto, unfolding(crate::specs::CoreWords::sentence_lines))]
 fn add_sentences<A: Allocator>(text: &mut Text<'_, A>) -> Result<(), AllocError>
     ensures { OnOk result (text.new ≡ text.old ++ sentence_lines) }
 {
-    add_sentence_line(text, b"unread-sentence", Stamp::NotRead(1))?;
-    add_sentence_line(text, b"time-sentence", Stamp::Unsound(1, 1))?;
-    add_sentence_line(text, b"times-sentence", Stamp::Unsound(2, 2))
+    add_sentence_line(text, b"unread-sentence", &Stamp::NotRead(1))?;
+    add_sentence_line(text, b"time-sentence", &Stamp::Duals(1, 1))?;
+    add_sentence_line(text, b"times-sentence", &Stamp::Duals(2, 2))
 }
 
 #[tactic(auto, unfolding(crate::specs::CoreWords::verdict_lines))]
@@ -218,6 +252,9 @@ fn add_verdicts<A: Allocator>(text: &mut Text<'_, A>) -> Result<(), AllocError>
 {
     add_values(text)?;
     add_stamps(text)?;
+    add_duals(text)?;
+    add_wrong(text)?;
+    text.add(fails_line())?;
     add_sentences(text)
 }
 
