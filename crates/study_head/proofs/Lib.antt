@@ -1,1 +1,2 @@
 mod FirstMistake
+mod VerdictLaws

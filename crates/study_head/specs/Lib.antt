@@ -5,3 +5,4 @@ pub mod Counts
 pub mod Head
 pub mod Mistake
 pub mod Verdict
+pub mod Laws
