@@ -24,7 +24,7 @@ const LIST: &str =
     "<article class=\"sum\"><header><h1>Entries and verdicts</h1></header><table><thead><tr><th>No.</th><th>Title</th><th>Author</th>\
 <th>Stipulation</th><th>Verdict</th></tr></thead><tbody>\
 <tr><td>1</td><td>game 1, line 1 (Kasparyan, G.)</td><td></td><td></td><td>left out: 7 men</td></tr>\
-<tr><td>2</td><td><a href=\"#e2\">R &amp; D</a></td><td></td><td>White to draw</td><td>holds</td></tr>\
+<tr><td>2</td><td><a href=\"#e2\">R &amp; D</a></td><td></td><td>White to draw</td><td>correct, no solution yet</td></tr>\
 <tr><td>3</td><td>game 3, line 52, column 17</td><td></td><td></td><td>NoSuchMove at &lt;Kb6&gt;: no legal move of this position</td></tr>\
 </tbody></table></article></body></html>\n";
 

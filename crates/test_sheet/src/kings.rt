@@ -1,4 +1,4 @@
-//! The table of two kings.
+//! Tables of two kings, and of more men.
 use std::alloc::Global;
 use std::process::Abort;
 use study_material::Class;
@@ -14,10 +14,21 @@ pub fn two_kings<'a>(
     rt: &impl Abort,
     alloc: &'a Global,
 ) -> Tables<'a, MemorySource<'static>, Global> {
-    let class = Class::parse("KK").ok().expect(rt, "a class");
+    built(rt, alloc, &["KK"])
+}
+
+/// The tables of these classes, lower ones first.
+pub fn built<'a>(
+    rt: &impl Abort,
+    alloc: &'a Global,
+    names: &[&str],
+) -> Tables<'a, MemorySource<'static>, Global> {
     let mut set = TableSet::new(alloc).ok().expect(rt, "a set");
-    let room = BuildRoom::new(alloc, cells(class)).ok().expect(rt, "room");
-    let (table, _) = build(class, &set, room).ok().expect(rt, "a table");
-    assert!(rt; set.add(table).is_ok());
+    for name in names {
+        let class = Class::parse(name).ok().expect(rt, "a class");
+        let room = BuildRoom::new(alloc, cells(class)).ok().expect(rt, "room");
+        let (table, _) = build(class, &set, room).ok().expect(rt, "a table");
+        assert!(rt; set.add(table).is_ok());
+    }
     Tables::Whole(WholeTables::new(set))
 }

@@ -16,3 +16,5 @@ mod old_remarks;
 mod remarks;
 #[cfg(test)]
 mod sheet;
+#[cfg(test)]
+mod verdicts;
