@@ -37,7 +37,7 @@ head_record = codes "Number,Title,Author,FEN,Stipulation,Verdict\r\n"
 unfoldable pub names : Study Mark → List ℕ
 names s = column (known_words (tag_of s.tags Event)) ++ column (known_words (tag_of s.tags White))
 
--- its number, title and author, its start as FEN, the stipulation, and the verdict on a study of whose faults so many lose time alone, if it was read
+-- its number, title and author, its start as FEN, the stipulation, and the verdict on a study of whose duals so many only waste time, if it was read
 -- to its end
 unfoldable pub record_text : Study Mark → ℕ → EntryInfo → List ℕ
 record_text s time entry =

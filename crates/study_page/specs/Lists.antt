@@ -19,8 +19,8 @@ refusal_part line text name reason =
     ++ (element_text Code (escaped_text text) ++ (escaped_text (codes " ")
     ++ (element_text Strong (escaped_text name) ++ (escaped_text (codes ": ") ++ escaped_text reason)))))
 
--- an entry: its number, its title, which leads to its page, its author, what is asked for, and the verdict on a study of whose faults so many
--- lose time alone, if it was read to its end
+-- an entry: its number, its title, which leads to its page, its author, what is asked for, and the verdict on a study of whose duals so many
+-- only waste time, if it was read to its end
 unfoldable pub summary_row : Study Mark → ℕ → EntryInfo → List ℕ
 summary_row s time entry =
     element_text Row (element_text Cell (escaped_text (decimal entry.number))

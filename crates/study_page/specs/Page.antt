@@ -97,7 +97,7 @@ page_text s entry time faults duals tries zugzwangs defences ends =
 
 -- ---- what it says
 
--- The page of an annotated study, as this entry: head, diagram and verdict, of whose faults so many lose time alone, the tree of
+-- The page of an annotated study, as this entry: head, diagram and verdict, of whose duals so many only waste time, the tree of
 -- the solution, and then part by part what each has of the nodes.
 abbrev pub IsPage : Study Mark → EntryInfo → List ℕ → Type 0
 IsPage s entry text =

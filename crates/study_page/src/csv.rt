@@ -152,7 +152,7 @@ fn add_verdict<'a, 'b, A: Allocator, B: Allocator>(
     add_field(text, words.as_slice())
 }
 
-/// The record of an entry, of whose faults so many lose time alone.
+/// The record of an entry, of whose duals so many only waste time.
 #[tactic(auto, unfolding(crate::specs::Csv::record_text))]
 fn add_record<'a, 'b, A: Allocator, B: Allocator>(
     alloc: &'a A,

@@ -326,7 +326,7 @@ pub struct Listed<'l, 's, S: Allocator> {
     pub rows: &'l Html<'s, S>,
 }
 
-/// The rows with one more, of the study of whose faults so many lose time alone.
+/// The rows with one more, of the study of whose duals so many only waste time.
 fn with_row<'s, 'b, S: Allocator, B: Allocator>(
     list: &Listed<'_, 's, S>,
     bench: &Bench<'b, B>,

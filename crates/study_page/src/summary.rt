@@ -138,7 +138,7 @@ fn put_judged<'a, 'b, A: Allocator, B: Allocator>(
 }
 
 /// Adds a row for this entry: its number, its title, its author, what is asked for and the verdict, by how many of its
-/// faults lose time alone, or which line of it was refused.
+/// duals only waste time, or which line of it was refused.
 #[tactic(auto, unfolding(crate::specs::Lists::summary_row))]
 pub fn add_entry<'a, 'b, A: Allocator, B: Allocator>(
     alloc: &'a A,

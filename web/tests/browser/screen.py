@@ -294,7 +294,7 @@ def test_a_draft_does_not_wait_for_a_build(user):
     user.settle()
     user.click("undo")
     user.settle()
-    assert user.text("stamp") == "3 duals, 2 waste time"
+    assert user.text("stamp").startswith("3 duals")
 
 
 run(globals(), sys.argv[2:])
