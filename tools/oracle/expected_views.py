@@ -71,6 +71,16 @@ def first_mistake(hero, start, rest):
     return None
 
 
+def has_main_fault(hero, start, rest):
+    """Whether the hero has a dual or a mistake among the first moves of the nodes."""
+    white = start[1] == "w"
+    for words in [line.split(" ") for line in rest if re.match(r"node 0(\.0)* ", line)]:
+        if white == (hero == "White") and ("dual" in words or words[-9] == "mistake"):
+            return True
+        white = not white
+    return False
+
+
 def with_head(view):
     """A view with the counts of men behind its first line, and the verdict as a judge reads it behind its second."""
     start, stipulation, *rest = [line for line in view.splitlines() if not line.startswith(("counts ", "stamp ", "sentence "))]
@@ -78,7 +88,8 @@ def with_head(view):
     hero, fields = asked.split()[0], start.split(" ")[1:]
     to_move = {line.split(" ")[-5] for line in rest if line.startswith("node ") and not line.startswith("node root ")}
     empty = ("b" if hero == "White" else "w") not in to_move
-    found = report_facts.Judged(asked, value, fields[1] == "w", verdict, empty, first_mistake(hero, fields, rest), 0)
+    found = report_facts.Judged(asked, value, fields[1] == "w", verdict, empty, first_mistake(hero, fields, rest), 0,
+                                  has_main_fault(hero, fields, rest))
     counts = report_facts.counts(report_facts.Position.of(start.removeprefix("study ")))
     lines = [start, f"counts {counts}", stipulation, f"stamp {found.stamp}", f"sentence {found.words} At the start: {value}.", *rest]
     return "".join(line + "\n" for line in lines)

@@ -436,9 +436,9 @@ def wrong_claim(asked, start, white_first):
 
 class Judged:
     """The verdict on a study as a judge reads it: by what is asked for, the start's value and who moves there, the verdict of the lines, whether no move
-    of the hero is given, the move of the first mistake with its number, and how many duals only waste time."""
+    of the hero is given, the move of the first mistake with its number, how many duals only waste time, and whether the main line has a dual."""
 
-    def __init__(self, asked, start, white_first, verdict, empty, mistake, time):
+    def __init__(self, asked, start, white_first, verdict, empty, mistake, time, main):
         wrong = wrong_claim(asked, start, white_first)
         duals = int(verdict.split()[1]) if verdict.startswith("unsound") else 0
         self.frame = "sound" if duals == time else "unsound"
@@ -454,9 +454,11 @@ class Judged:
                 "The stipulation is correct, and every move of the solution is the only one that works."
         else:
             waste = "" if not time else f", {time} waste{'s' if time == 1 else ''} time"
-            self.stamp = "sound, duals waste time" if time == duals else f"{duals} dual{'' if duals == 1 else 's'}{waste}"
+            place = "" if main else " in a variation" if duals == 1 else " in variations"
+            none = "" if main else ", none in the main line"
+            self.stamp = "sound, duals waste time" if time == duals else f"{duals} dual{'' if duals == 1 else 's'}{place}{waste}{none}"
             which = "" if not time else (", which" if time == duals else f"; {time} of them") + f" only waste{'s' if time == 1 else ''} time"
-            self.words = f"The stipulation is correct; the solution has {'one dual' if duals == 1 else f'{duals} duals'}{which}."
+            self.words = f"The stipulation is correct; the solution has {'one dual' if duals == 1 else f'{duals} duals'}{place}{which}{none}."
         if empty:
             self.words += " No move of the solution is given yet."
 
@@ -466,7 +468,8 @@ def judged(study):
     slips = [fact[0] for fact in study.of("fault") if fact[-1] == "mistake"]
     mistake = study.label(tuple(map(int, slips[0].split(".")))) if slips else None
     time = time_faults([" ".join(fact) for fact in study.facts])
-    found = Judged(study.asked, study.start_value, study.white_first, study.verdict, ["empty"] in study.facts, mistake, time)
+    main = any(re.fullmatch(r"0(\.0)*", fact[0]) for fact in study.of("fault"))
+    found = Judged(study.asked, study.start_value, study.white_first, study.verdict, ["empty"] in study.facts, mistake, time, main)
     if study.unread:
         found.stamp, found.frame = f"not read: line {study.unread}", "unsound"
         found.words = "A line of this study could not be read, so there is no verdict."

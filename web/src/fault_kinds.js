@@ -12,7 +12,7 @@ export const FAULT_KINDS = /** @type {[string, string][]} */ ([
   ['side', 'with a dual in a variation'], ['waste', 'where a dual only wastes time']
 ]);
 /** @param {string} path */
-const isMain = path => /^0(\.0)*$/.test(path);
+export const isMain = path => /^0(\.0)*$/.test(path);
 /**
  * The kind of a fault: the author's move fails, a dual only wastes time, or other moves work at the first move, in the
  * main line or in a variation.

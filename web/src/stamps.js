@@ -2,7 +2,7 @@
 // The stamp of a study, in the words of the printed page: what is wrong with its stipulation; else the author's first
 // mistake; else its duals, of which some may be accepted; but none where a line of it was not read.
 import {acceptedAmong, acceptedStamp, hasAccepted} from './accepted.js';
-import {faultKind, numbered} from './fault_kinds.js';
+import {faultKind, isMain, numbered} from './fault_kinds.js';
 import {other, sideOf} from './fen.js';
 import {isEdit, openingsBefore, wordsOf} from './script.js';
 import {bareTree} from './unmarked.js';
@@ -80,12 +80,17 @@ export function wrongText(aim, verdict, start, fen) {
  * `3 duals, 2 waste time`
  * @param {number} duals
  * @param {number} time      how many of them only waste time
+ * @param {boolean} main     whether some dual is in the main line
  */
-export function dualsText(duals, time) {
+export function dualsText(duals, time, main) {
   if (time === duals) return wordOf('time');
-  const waste = time ? wordOf(time === 1 ? 'wastes' : 'waste') : '';
-  return (duals === 1 ? wordOf('dual') : wordOf('duals').replace('2', `${duals}`)) +
-    waste.replace(/^[^,]*/, '').replace(/\d+/, `${time}`);
+  const waste = time ? wordOf(time === 1 ? 'wastes' : 'waste') : '', one = duals === 1,
+        [count, none] = wordOf(main ? (one ? 'dual' : 'duals')
+            : one                   ? 'in-variation'
+                                    : 'in-variations')
+                          .split(/(?=, )/);
+  return (one ? count : count.replace('2', `${duals}`)) + waste.replace(/^[^,]*/, '').replace(/\d+/, `${time}`) +
+    (none || '');
 }
 /**
  * What a solution with faults is called: by its first mistake, or by its duals.
@@ -98,7 +103,10 @@ export function faultyStamp(fen, {faults}) {
         time = faults.filter(fault => faultKind(fault, true) === 'waste').length;
   if (mistake)
     return {kind: 'mistake', text: wordOf('fails').replace('1. Kb2', numbered(fen, mistake.path, mistake.san))};
-  return {kind: time === faults.length ? 'time' : 'duals', text: dualsText(faults.length, time)};
+  return {
+    kind: time === faults.length ? 'time' : 'duals',
+    text: dualsText(faults.length, time, faults.some(({path}) => isMain(path)))
+  };
 }
 /** @param {string} n */
 const faultsText = n => `${n} ${n === '1' ? 'fault' : 'faults'}`;

@@ -98,7 +98,10 @@ export function verdictSentence(view, kind) {
   const [, faults] = view.verdict.split(' '), start = `${atStart(view.start)}.`;
   if (kind === 'not read') return `${wordOf('unread-sentence')} ${start}`;
   if (kind !== 'time') return view.sentence;
-  return `${faults === '1' ? wordOf('time-sentence') : wordOf('times-sentence').replace('2', faults)} ${start}`;
+  const [waste] = /, which [^.]*/.exec(wordOf(faults === '1' ? 'time-sentence' : 'times-sentence')) || [''],
+        none = view.sentence.indexOf(wordOf('in-variation').replace(/^[^,]*/, '')),
+        at = none < 0 ? view.sentence.indexOf('.') : none;
+  return view.sentence.slice(0, at) + waste + view.sentence.slice(at);
 }
 /** @param {{mark: string}} move */
 export const markSign = ({mark}) => (mark === 'only' ? '!' : mark === 'mistake' ? '?' : '');

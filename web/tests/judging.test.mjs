@@ -74,8 +74,12 @@ test('what is wrong with a stipulation, the first mistake, and duals', () => {
     [aim('White', 'draw'), 'wrong', 'mate', 'does not draw']
   ];
   for (const [asked, verdict, start, text] of cases) assert.equal(wrongText(asked, verdict, start, fen), text);
-  assert.deepEqual([[1, 0], [3, 0], [3, 1], [5, 4], [2, 2]].map(([n, time]) => dualsText(n, time)),
+  assert.deepEqual([[1, 0], [3, 0], [3, 1], [5, 4], [2, 2]].map(([n, time]) => dualsText(n, time, true)),
     ['1 dual', '3 duals', '3 duals, 1 wastes time', '5 duals, 4 waste time', 'sound, duals waste time']);
+  assert.deepEqual([[1, 0], [3, 0], [5, 4], [2, 2]].map(([n, time]) => dualsText(n, time, false)), [
+    '1 dual in a variation, none in the main line', '3 duals in variations, none in the main line',
+    '5 duals in variations, 4 waste time, none in the main line', 'sound, duals waste time'
+  ]);
   const fault = (path, san, kind) => ({path, san, kind, duals: 1, time: 0});
   assert.deepEqual(faultyStamp(fen, {faults: [fault('0', 'Rg8+', 'dual'), fault('0.1.0', 'Ka2', 'mistake')]}),
     {kind: 'mistake', text: 'fails at 2. Ka2'});

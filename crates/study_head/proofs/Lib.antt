@@ -1,2 +1,3 @@
 mod FirstMistake
 mod VerdictLaws
+mod MainLineFaults

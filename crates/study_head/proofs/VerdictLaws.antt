@@ -19,6 +19,7 @@ use Rattle.study_facts.proofs.FaultsListed.{faults-of-solution}
 use Rattle.study_head.specs.declared.mistake.NamedMove.{NamedMove}
 use Rattle.study_head.specs.declared.verdict.Stamp.{Stamp}
 use Rattle.study_head.specs.declared.verdict.Stamp.TheVariants.{Sound, Duals}
+use Rattle.study_head.specs.MainLine.{has_main_fault}
 use Rattle.study_head.specs.Mistake.{mistake_among, named_fault, first_mistake}
 use Rattle.study_head.specs.Verdict.{asks_too_little, excess_stamp, wrong_stamp, solution_stamp, mistake_stamp, first_stamp, stamp_of}
 use Rattle.study_head.specs.Laws.{AreDuals, DualsAreCounted, SoundHasNoFault}
@@ -26,7 +27,7 @@ use Rattle.study_head.specs.Laws.{AreDuals, DualsAreCounted, SoundHasNoFault}
 -- the stamps of a study whose stipulation is correct, and which has no mistake
 abbrev IsRight : Stamp → Bool
 IsRight Sound = true
-IsRight (Duals d t) = true
+IsRight (Duals d t main) = true
 IsRight _ = false
 
 not-excess : (g : Goal) (hero first : Side) (v : Value) → IsRight (excess_stamp g hero first v) ≡ true → ⊥
@@ -65,7 +66,7 @@ all-duals (x ∷ xs) h = go (is_mistake (Some x.mark)) refl (all-duals xs) h
 
 module _ (s : Study Mark) (time : ℕ) where
   abbrev of_solution : Stamp
-  of_solution = solution_stamp s.tree.label.faults (is_empty (aim_of s).hero_first s.tree.below) time
+  of_solution = solution_stamp s.tree.label.faults (is_empty (aim_of s).hero_first s.tree.below) time (has_main_fault s)
 
   right : IsRight (stamp_of s time) ≡ true
       → (meets_stipulation (aim_of s) s.tree.label.value ≡ true) × (first_mistake s ≡ None) × (stamp_of s time ≡ of_solution)
@@ -79,25 +80,26 @@ verdict-by : (s : Study Mark) (b : Bool) → meets_stipulation (aim_of s) s.tree
 verdict-by s b meets e = rw meets (rw e refl)
 
 -- by the number of duals
-by-duals : (n : ℕ) (e : Bool) (time duals t : ℕ) → solution_stamp n e time ≡ Duals duals t → (n ≡ duals) × ((n == 0) ≡ false)
-by-duals n e time duals t h = go (n == 0) refl e h
+by-duals : (n : ℕ) (e : Bool) (time : ℕ) (line : Bool) (duals t : ℕ) (main : Bool) → solution_stamp n e time line ≡ Duals duals t main
+    → (n ≡ duals) × ((n == 0) ≡ false)
+by-duals n e time line duals t main h = go (n == 0) refl e h
   where
-    go : (b : Bool) → (n == 0) ≡ b → (e : Bool) → solution_stamp n e time ≡ Duals duals t → (n ≡ duals) × ((n == 0) ≡ false)
+    go : (b : Bool) → (n == 0) ≡ b → (e : Bool) → solution_stamp n e time line ≡ Duals duals t main → (n ≡ duals) × ((n == 0) ≡ false)
     go true z true = rw z (λ h. let no : ⊥ = cc in absurd no)
     go true z false = rw z (λ h. let no : ⊥ = cc in absurd no)
     go false z e = rw z (λ h. (let same : n ≡ duals = cc in same, refl))
 
-by-sound : (n : ℕ) (e : Bool) (time : ℕ) → solution_stamp n e time ≡ Sound → (n == 0) ≡ true
-by-sound n e time h = go (n == 0) refl h
+by-sound : (n : ℕ) (e : Bool) (time : ℕ) (line : Bool) → solution_stamp n e time line ≡ Sound → (n == 0) ≡ true
+by-sound n e time line h = go (n == 0) refl h
   where
-    go : (b : Bool) → (n == 0) ≡ b → solution_stamp n e time ≡ Sound → (n == 0) ≡ true
+    go : (b : Bool) → (n == 0) ≡ b → solution_stamp n e time line ≡ Sound → (n == 0) ≡ true
     go true z = rw z (λ h. refl)
     go false z = rw z (λ h. let no : ⊥ = cc in absurd no)
 
 pub duals-counted : DualsAreCounted
-duals-counted s time duals t h e =
+duals-counted s time duals t main h e =
     let r = right s time (ap IsRight e) in
-    let n = by-duals s.tree.label.faults (is_empty (aim_of s).hero_first s.tree.below) time duals t (sym r.2 ∙ e) in (
+    let n = by-duals s.tree.label.faults (is_empty (aim_of s).hero_first s.tree.below) time (has_main_fault s) duals t main (sym r.2 ∙ e) in (
       verdict-by s false r.0 n.1 ∙ ap unsound n.0,
       (faults-of-solution s h).0 ∙ n.0,
       all-duals (solution_faults s) (none-named s (mistake_among (solution_faults s)) r.1),
@@ -106,7 +108,7 @@ duals-counted s time duals t h e =
 pub sound-faultless : SoundHasNoFault
 sound-faultless s time h e =
     let r = right s time (ap IsRight e) in
-    let n = by-sound s.tree.label.faults (is_empty (aim_of s).hero_first s.tree.below) time (sym r.2 ∙ e) in (
+    let n = by-sound s.tree.label.faults (is_empty (aim_of s).hero_first s.tree.below) time (has_main_fault s) (sym r.2 ∙ e) in (
       verdict-by s true r.0 n,
       (faults-of-solution s h).0 ∙ eqb-true s.tree.label.faults 0 n,
     )

@@ -1,5 +1,5 @@
 -- Laws of the verdict on a study.
-use Rattle.std.specs.Prelude.{◌≡◌, ℕ, false, List, [], ◌∷◌, length, Some}
+use Rattle.std.specs.Prelude.{◌≡◌, ℕ, Bool, false, List, [], ◌∷◌, length, Some}
 use Rattle.study_marks.specs.declared.mark.Mark.{Mark}
 use Rattle.study_marks.specs.Annotated.{IsAnnotated}
 use Rattle.study_marks.specs.Study.{Study}
@@ -17,7 +17,7 @@ AreDuals (x ∷ xs) = (is_mistake (Some x.mark) ≡ false) × AreDuals xs
 -- a study with a stamp of duals has a correct stipulation, and so many faults, each of them a dual
 abbrev pub DualsAreCounted : Type 0
 DualsAreCounted =
-    (s : Study Mark) (time duals t : ℕ) → IsAnnotated s → stamp_of s time ≡ Duals duals t
+    (s : Study Mark) (time duals t : ℕ) (main : Bool) → IsAnnotated s → stamp_of s time ≡ Duals duals t main
     → (verdict s ≡ unsound duals) × (length (solution_faults s) ≡ duals) × AreDuals (solution_faults s)
 
 -- a study with the stamp `sound` has a correct stipulation and no fault

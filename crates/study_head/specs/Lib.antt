@@ -4,5 +4,6 @@ pub mod Known
 pub mod Counts
 pub mod Head
 pub mod Mistake
+pub mod MainLine
 pub mod Verdict
 pub mod Laws

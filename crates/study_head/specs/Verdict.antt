@@ -15,6 +15,7 @@ use Rattle.study_head.specs.declared.mistake.NamedMove.{NamedMove}
 use Rattle.study_head.specs.declared.verdict.Stamp.{Stamp}
 use Rattle.study_head.specs.declared.verdict.Stamp.TheVariants.{Wins, Mates, Misses, Fails, Sound, Correct, Duals, NotRead}
 use Rattle.study_head.specs.declared.verdict.Judgement.{Judgement}
+use Rattle.study_head.specs.MainLine.{has_main_fault}
 use Rattle.study_head.specs.Mistake.{IsLegalMove, move_name, first_mistake}
 
 abbrev pub is_sooner : ℕ → Option ℕ → Bool
@@ -38,9 +39,10 @@ wrong_stamp x first v =
     if asks_too_little x.goal (same_side x.hero first) v then Some (excess_stamp x.goal x.hero first v)
     else (if meets_stipulation (record { goal = x.goal; hero_first = same_side x.hero first }) v then None else Some (Misses x))
 
--- of a solution without a mistake, by the number of its duals, whether it has no move of the hero, and how many of the duals only waste time
-abbrev pub solution_stamp : ℕ → Bool → ℕ → Stamp
-solution_stamp duals e time = if duals == 0 then (if e then Correct else Sound) else Duals duals time
+-- of a solution without a mistake, by the number of its duals, whether it has no move of the hero, how many of the duals only waste time, and whether
+-- some dual is in the main line
+abbrev pub solution_stamp : ℕ → Bool → ℕ → Bool → Stamp
+solution_stamp duals e time main = if duals == 0 then (if e then Correct else Sound) else Duals duals time main
 
 abbrev pub mistake_stamp : Option NamedMove → Stamp → Stamp
 mistake_stamp None other = other
@@ -55,7 +57,7 @@ first_stamp (Some x) other = x
 abbrev pub stamp_of : Study Mark → ℕ → Stamp
 stamp_of s time =
     first_stamp (wrong_stamp s.stipulation s.start.position.to_move s.tree.label.value)
-    (mistake_stamp (first_mistake s) (solution_stamp s.tree.label.faults (is_empty (aim_of s).hero_first s.tree.below) time))
+    (mistake_stamp (first_mistake s) (solution_stamp s.tree.label.faults (is_empty (aim_of s).hero_first s.tree.below) time (has_main_fault s)))
 
 -- the move that a stamp names is legal
 abbrev pub IsLegalStamp : Stamp → Type 0
@@ -99,12 +101,21 @@ waste_verb n = if n == 1 then codes " wastes time" else codes " waste time"
 abbrev pub waste_words : ℕ → List ℕ
 waste_words n = if n == 0 then [] else (codes ", " ++ (decimal n ++ waste_verb n))
 
+-- ` in variations`, if the main line has none
+abbrev pub place_words : ℕ → Bool → List ℕ
+place_words n main = if main then [] else (if n == 1 then codes " in a variation" else codes " in variations")
+
+abbrev pub none_words : Bool → List ℕ
+none_words main = if main then [] else codes ", none in the main line"
+
 -- if all duals only waste time, the study is sound but for that
-abbrev pub duals_stamp : ℕ → ℕ → List ℕ
-duals_stamp duals time = if time == duals then codes "sound, duals waste time" else duals_words duals ++ waste_words time
+abbrev pub duals_stamp : ℕ → ℕ → Bool → List ℕ
+duals_stamp duals time main =
+    if time == duals then codes "sound, duals waste time"
+    else duals_words duals ++ (place_words duals main ++ (waste_words time ++ none_words main))
 
 -- `wrong: White wins`, `wrong: White mates in 2`, `does not win`, `fails at 1. Ka2`, `sound`, `correct, no solution yet`, `3 duals, 2 waste time`,
--- `sound, duals waste time`, `not read: line 17`
+-- `2 duals in variations, none in the main line`, `sound, duals waste time`, `not read: line 17`
 abbrev pub stamp_words : Stamp → List ℕ
 stamp_words (Wins side) = wrong ++ wins_words side
 stamp_words (Mates side v) = wrong ++ value_text side v
@@ -112,7 +123,7 @@ stamp_words (Misses x) = misses_words x.goal
 stamp_words (Fails m) = fails_at ++ move_name m
 stamp_words Sound = codes "sound"
 stamp_words Correct = codes "correct, no solution yet"
-stamp_words (Duals duals time) = duals_stamp duals time
+stamp_words (Duals duals time main) = duals_stamp duals time main
 stamp_words (NotRead line) = unread_words line
 
 unfoldable pub wrong_sentence : List ℕ
@@ -138,8 +149,9 @@ wasted_words duals time = if time == 0 then [] else (which_words duals time ++ o
 unfoldable pub has_duals : List ℕ
 has_duals = codes "The stipulation is correct; the solution has "
 
-abbrev pub duals_sentence : ℕ → ℕ → List ℕ
-duals_sentence duals time = has_duals ++ (number_words duals ++ (wasted_words duals time ++ full_stop))
+abbrev pub duals_sentence : ℕ → ℕ → Bool → List ℕ
+duals_sentence duals time main =
+    has_duals ++ (number_words duals ++ (place_words duals main ++ (wasted_words duals time ++ (none_words main ++ full_stop))))
 
 abbrev pub misses_sentence : Stipulation → List ℕ
 misses_sentence x = wrong_sentence ++ (side_name x.hero ++ (codes " " ++ (misses_words x.goal ++ full_stop)))
@@ -158,7 +170,7 @@ stamp_sentence (Misses x) = misses_sentence x
 stamp_sentence (Fails m) = fails_sentence m
 stamp_sentence Sound = codes "The stipulation is correct, and every move of the solution is the only one that works."
 stamp_sentence Correct = codes "The stipulation is correct."
-stamp_sentence (Duals duals time) = duals_sentence duals time
+stamp_sentence (Duals duals time main) = duals_sentence duals time main
 stamp_sentence (NotRead line) = codes "A line of this study could not be read, so there is no verdict."
 
 -- where the solution has no move of the hero

@@ -6,6 +6,7 @@ mod gbr_code;
 mod head;
 mod known_tags;
 mod laws;
+mod main_line;
 mod mistake;
 mod verdict;
 mod words;
@@ -15,6 +16,7 @@ pub use gbr_code::add_counts;
 pub use head::{moves_first, put_figure, put_head, title_words};
 pub use known_tags::known_tag;
 pub use laws::{duals_are_counted, sound_has_no_fault};
+pub use main_line::has_main_fault;
 pub use mistake::{NamedMove, add_move_name, first_mistake};
 pub use verdict::{
     Judgement, Stamp, add_sentence, add_stamp_words, add_start_value, add_verdict_words,

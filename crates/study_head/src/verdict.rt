@@ -3,13 +3,14 @@ ghost use Rattle.std.specs.Prelude.{◌≡◌, ◌++◌, Option, OnOk, IfSome};
 ghost use Rattle.study_board.specs.Men.{same_side};
 ghost use Rattle.study_marks.specs.BenchState.{marked_study};
 ghost use Rattle.study_head.specs.Verdict.{asks_too_little, excess_stamp, wrong_stamp, solution_stamp, stamp_of, IsLegalStamp, not_read, unread_words};
-ghost use Rattle.study_head.specs.Verdict.{goal_words, misses_words, wins_words, wrong, fails_at, duals_words, waste_verb, waste_words, duals_stamp, stamp_words};
-ghost use Rattle.study_head.specs.Verdict.{wrong_sentence, full_stop, number_words, which_words, only_waste_words, wasted_words, has_duals, duals_sentence};
+ghost use Rattle.study_head.specs.Verdict.{goal_words, misses_words, wins_words, wrong, fails_at, duals_words, waste_verb, waste_words, place_words, none_words, duals_stamp};
+ghost use Rattle.study_head.specs.Verdict.{stamp_words, wrong_sentence, full_stop, number_words, which_words, only_waste_words, wasted_words, has_duals, duals_sentence};
 ghost use Rattle.study_head.specs.Verdict.{misses_sentence, has_mistake, fails_sentence, stamp_sentence, no_solution_words, sentence, at_start, start_words};
 ghost use Rattle.study_head.specs.Verdict.{verdict_words, judgement_of, entry_judgement};
 ghost use Rattle.study_head.specs.Mistake.{IsLegalMove, move_name};
 ghost use Rattle.study_pgn.specs.Values.{value_text};
 
+use crate::main_line::has_main_fault;
 use crate::mistake::{NamedMove, add_move_name, first_mistake};
 use std::alloc::{AllocError, Allocator};
 use study_board::Side;
@@ -34,8 +35,8 @@ pub enum Stamp {
     Sound,
     /// The stipulation is correct, and no move of the hero is given.
     Correct,
-    /// The number of duals, and how many of them only waste time.
-    Duals(u32, u32),
+    /// The number of duals, how many of them only waste time, and whether some dual is in the main line.
+    Duals(u32, u32, bool),
     /// No verdict is given, since this line of the script could not be read.
     NotRead(u32),
 }
@@ -84,12 +85,12 @@ fn wrong_stamp(stipulation: Stipulation, first: Side, value: Value) -> Option<St
 }
 
 /// Of a solution without a mistake.
-fn solution_stamp(duals: u32, empty: bool, time: u32) -> Stamp
-    ensures stamp { result ≡ solution_stamp duals empty time }
+fn solution_stamp(duals: u32, empty: bool, time: u32, main: bool) -> Stamp
+    ensures stamp { result ≡ solution_stamp duals empty time main }
     ensures legal { IsLegalStamp result }
 {
     if duals != 0 {
-        Stamp::Duals(duals, time)
+        Stamp::Duals(duals, time, main)
     } else if empty {
         Stamp::Correct
     } else {
@@ -108,7 +109,7 @@ fn stamp_of<'b, B: Allocator>(bench: &Bench<'b, B>, time: u32) -> Stamp
         Some(wrong) => wrong,
         None => match first_mistake(bench) {
             Some(mistake) => Stamp::Fails(mistake),
-            None => solution_stamp(root.faults, is_empty(bench), time),
+            None => solution_stamp(root.faults, is_empty(bench), time, has_main_fault(bench)),
         },
     }
 }
@@ -234,19 +235,49 @@ fn add_waste<A: Allocator>(text: &mut Text<'_, A>, time: u32) -> Result<(), Allo
     text.add(waste_verb(time))
 }
 
-/// Adds `3 duals, 2 waste time`, or that all only waste time.
-fn add_duals<A: Allocator>(text: &mut Text<'_, A>, duals: u32, time: u32) -> Result<(), AllocError>
-    ensures { OnOk result (text.new ≡ text.old ++ duals_stamp duals time) }
+/// Where duals are that are not in the main line.
+fn place_words(duals: u32, main: bool) -> &'static [u8]
+    ensures { result.now ≡ place_words duals main }
+{
+    if main {
+        b""
+    } else if duals == 1 {
+        b" in a variation"
+    } else {
+        b" in variations"
+    }
+}
+
+fn none_words(main: bool) -> &'static [u8]
+    ensures { result.now ≡ none_words main }
+{
+    if main {
+        b""
+    } else {
+        b", none in the main line"
+    }
+}
+
+/// Adds `3 duals, 2 waste time`, `2 duals in variations, none in the main line`, or that all only waste time.
+fn add_duals<A: Allocator>(
+    text: &mut Text<'_, A>,
+    duals: u32,
+    time: u32,
+    main: bool,
+) -> Result<(), AllocError>
+    ensures { OnOk result (text.new ≡ text.old ++ duals_stamp duals time main) }
 {
     if time == duals {
         return text.add(b"sound, duals waste time");
     }
     add_dual_count(text, duals)?;
-    add_waste(text, time)
+    text.add(place_words(duals, main))?;
+    add_waste(text, time)?;
+    text.add(none_words(main))
 }
 
 /// Adds `wrong: White wins`, `wrong: White mates in 2`, `does not win`, `fails at 1. Ka2`, `sound`, `correct, no solution yet`, `3 duals, 2 waste time`,
-/// `sound, duals waste time`, `not read: line 17`.
+/// `2 duals in variations, none in the main line`, `sound, duals waste time`, `not read: line 17`.
 pub fn add_stamp_words<A: Allocator>(
     text: &mut Text<'_, A>,
     stamp: &Stamp,
@@ -261,7 +292,7 @@ pub fn add_stamp_words<A: Allocator>(
         Stamp::Fails(mistake) => add_failure(text, mistake),
         Stamp::Sound => text.add(b"sound"),
         Stamp::Correct => text.add(b"correct, no solution yet"),
-        Stamp::Duals(duals, time) => add_duals(text, *duals, *time),
+        Stamp::Duals(duals, time, main) => add_duals(text, *duals, *time, *main),
         Stamp::NotRead(line) => add_unread(text, *line),
     }
 }
@@ -340,12 +371,15 @@ fn add_duals_sentence<A: Allocator>(
     text: &mut Text<'_, A>,
     duals: u32,
     time: u32,
+    main: bool,
 ) -> Result<(), AllocError>
-    ensures { OnOk result (text.new ≡ text.old ++ duals_sentence duals time) }
+    ensures { OnOk result (text.new ≡ text.old ++ duals_sentence duals time main) }
 {
     text.add(has_duals())?;
     add_number(text, duals)?;
+    text.add(place_words(duals, main))?;
     add_wasted(text, duals, time)?;
+    text.add(none_words(main))?;
     text.add(full_stop())
 }
 
@@ -410,7 +444,7 @@ fn add_stamp_sentence<A: Allocator>(text: &mut Text<'_, A>, stamp: &Stamp) -> Re
             b"The stipulation is correct, and every move of the solution is the only one that works.",
         ),
         Stamp::Correct => text.add(b"The stipulation is correct."),
-        Stamp::Duals(duals, time) => add_duals_sentence(text, *duals, *time),
+        Stamp::Duals(duals, time, main) => add_duals_sentence(text, *duals, *time, *main),
         Stamp::NotRead(_) => {
             text.add(b"A line of this study could not be read, so there is no verdict.")
         }

@@ -17,7 +17,7 @@ stamp_element (Misses x) = element.Wrong
 stamp_element (Fails m) = element.Wrong
 stamp_element Sound = element.Sound
 stamp_element Correct = element.Sound
-stamp_element (Duals duals time) = if time == duals then element.Sound else element.Unsound
+stamp_element (Duals duals time main) = if time == duals then element.Sound else element.Unsound
 stamp_element (NotRead line) = element.Unsound
 
 unfoldable pub stamp_part : Stamp → List ℕ

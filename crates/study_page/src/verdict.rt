@@ -18,7 +18,7 @@ fn stamp_element(stamp: &Stamp) -> Element
         Stamp::Fails(_) => Element::Wrong,
         Stamp::Sound => Element::Sound,
         Stamp::Correct => Element::Sound,
-        Stamp::Duals(duals, time) => duals_element(*duals, *time),
+        Stamp::Duals(duals, time, _) => duals_element(*duals, *time),
         Stamp::NotRead(_) => Element::Unsound,
     }
 }

@@ -86,12 +86,16 @@ value_lines =
 unfoldable pub stamp_lines : List ℕ
 stamp_lines =
     said_line (codes "correct") (stamp_words Correct)
-    ++ (said_line (codes "time") (stamp_words (Duals 1 1)) ++ said_line (codes "unread") (stamp_words (NotRead 1)))
+    ++ (said_line (codes "time") (stamp_words (Duals 1 1 true)) ++ said_line (codes "unread") (stamp_words (NotRead 1)))
 
 unfoldable pub dual_lines : List ℕ
 dual_lines =
-    said_line (codes "dual") (stamp_words (Duals 1 0)) ++ (said_line (codes "duals") (stamp_words (Duals 2 0))
-    ++ (said_line (codes "wastes") (stamp_words (Duals 2 1)) ++ said_line (codes "waste") (stamp_words (Duals 3 2))))
+    said_line (codes "dual") (stamp_words (Duals 1 0 true)) ++ (said_line (codes "duals") (stamp_words (Duals 2 0 true))
+    ++ (said_line (codes "wastes") (stamp_words (Duals 2 1 true)) ++ said_line (codes "waste") (stamp_words (Duals 3 2 true))))
+
+unfoldable pub variation_lines : List ℕ
+variation_lines =
+    said_line (codes "in-variation") (stamp_words (Duals 1 0 false)) ++ said_line (codes "in-variations") (stamp_words (Duals 2 0 false))
 
 unfoldable pub wrong_lines : List ℕ
 wrong_lines =
@@ -104,10 +108,10 @@ fails_line = said_line (codes "fails") (fails_at ++ codes "1. Kb2")
 unfoldable pub sentence_lines : List ℕ
 sentence_lines =
     said_line (codes "unread-sentence") (sentence false (NotRead 1))
-    ++ (said_line (codes "time-sentence") (sentence false (Duals 1 1)) ++ said_line (codes "times-sentence") (sentence false (Duals 2 2)))
+    ++ (said_line (codes "time-sentence") (sentence false (Duals 1 1 true)) ++ said_line (codes "times-sentence") (sentence false (Duals 2 2 true)))
 
 unfoldable pub verdict_lines : List ℕ
-verdict_lines = value_lines ++ (stamp_lines ++ (dual_lines ++ (wrong_lines ++ (fails_line ++ sentence_lines))))
+verdict_lines = value_lines ++ (stamp_lines ++ (dual_lines ++ (variation_lines ++ (wrong_lines ++ (fails_line ++ sentence_lines)))))
 
 -- of the parts of a printed page
 unfoldable pub title_lines : List ℕ

@@ -6,7 +6,8 @@ use study_list::write_list;
 use study_text::{MemoryReader, MemoryWriter};
 
 /// Studies, each with its verdict. White mates in three moves from the first position, by Rc7 alone; 1. Kb6 stalemates, and after 1. Rc7 Kb8 2. Rc6 the
-/// mate comes too late. The last two have the colours exchanged. Two kings always draw.
+/// mate comes too late. The last two have the colours exchanged. Two kings always draw; the last of
+/// these studies begins with White's only legal move.
 const VERDICTS: &str = "position k7/1R6/8/K7/8/8/8/8 w - - 0 1
 stipulate white draw -> wrong: White wins
 stipulate black draw -> does not draw
@@ -34,6 +35,15 @@ stipulate white draw -> 1 dual
 insert 0 Ka7 -> 1 dual
 insert 0.0 Ka3 -> 2 duals
 stipulate white mate 1 -> does not mate in 1
+position 8/8/8/8/8/8/2k5/K7 w - - 0 1
+stipulate white draw -> \"correct, no solution yet\"
+insert root Ka2 -> sound
+insert 0 Kc3 -> sound
+insert 0 Kd3 -> sound
+insert 0.1 Kb2 -> \"1 dual in a variation, none in the main line\"
+insert 0.1.0 Ke3 -> \"1 dual in a variation, none in the main line\"
+insert 0.1.0.0 Kb1 -> \"2 duals in variations, none in the main line\"
+insert 0.0 Ka3 -> 3 duals
 ";
 
 /// Each verdict is that of its line, in the list of a script that has the study after each of these lines.
@@ -57,7 +67,7 @@ fn each_study_has_its_verdict(rt: HostRuntime) -> Result<(), Fail> {
     assert!(rt; answer.is_ok());
     let list = std::str::from_utf8(list.taken.as_slice()).unwrap_or("no text");
     let wanted = VERDICTS.lines().filter_map(|row| row.split(" -> ").nth(1));
-    assert!(rt; list.lines().count() == 1 + 24);
+    assert!(rt; list.lines().count() == 1 + 32);
     for (record, verdict) in list.lines().skip(1).zip(wanted) {
         assert!(rt; record.trim_end().ends_with(verdict), "{record}");
     }

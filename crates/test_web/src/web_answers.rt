@@ -30,6 +30,7 @@ pgn
 const VIEW: &str = r#"study k7/1R6/8/K7/8/8/8/8 w - - 0 1
 counts 2 + 1, 0100.00 a5a8
 stipulation White to mate in 3: sound, White mates in 3
+stamp sound
 sentence The stipulation is correct, and every move of the solution is the only one that works. At the start: White mates in 3.
 node root - - win 5 - faults 0 k7/1R6/8/K7/8/8/8/8 w - - 0 1
 node 0 Rc7 b7c7 loss 4 only faults 0 k7/2R5/8/K7/8/8/8/8 b - - 1 1
@@ -646,6 +647,8 @@ word dual 1 dual
 word duals 2 duals
 word wastes 2 duals, 1 wastes time
 word waste 3 duals, 2 waste time
+word in-variation 1 dual in a variation, none in the main line
+word in-variations 2 duals in variations, none in the main line
 word wins wrong: White wins
 word sooner wrong: White mates in 1
 word misses does not win
