@@ -100,7 +100,7 @@ const lost = ({there}) => (there ? there.of - there.kept : 0);
 /** @param {Spot} spot */
 const faultsOf = ({there}) => (there ? there.faults : 0);
 /**
- * `h3: sound`, `g2: unsound 2, 3 of 14 moves dropped`
+ * `h3: sound`, `g2: 2 duals, 3 of 14 moves dropped`
  * @param {string} name
  * @param {Spot} spot
  */
