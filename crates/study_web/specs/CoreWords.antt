@@ -1,5 +1,5 @@
 -- Words that a page shows without a reply that has them, a line each.
-use Rattle.std.specs.Prelude.{ℕ, false, List, [], ◌++◌, Option, Some, None, codes}
+use Rattle.std.specs.Prelude.{ℕ, false, true, List, [], ◌++◌, Option, Some, None, codes}
 use Rattle.std.specs.List.{flat_map}
 use Rattle.study_board.specs.declared.men.Side.TheVariants as side
 use Rattle.study_values.specs.declared.value.Value.TheVariants.{Win, Loss, Draw}
