@@ -38,10 +38,7 @@ use study_values::Values;
 
 /// The verdict as a judge reads it, as a stamp and in sentences.
 #[tactic(auto, unfolding(crate::specs::View::judged_lines))]
-fn add_judged<A: Allocator>(
-    text: &mut Text<'_, A>,
-    judged: &Judgement,
-) -> Result<(), AllocError>
+fn add_judged<A: Allocator>(text: &mut Text<'_, A>, judged: &Judgement) -> Result<(), AllocError>
     requires { IsLegalStamp judged.now.stamp }
     ensures { OnOk result (text.new ≡ text.old ++ judged_lines judged.now) }
 {
