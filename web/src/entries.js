@@ -5,7 +5,7 @@ import {control, sideOf} from './fen.js';
 import {byWeight, faultKind, faultText} from './fault_kinds.js';
 import {mostGames, originalsIn, sourceText} from './imported.js';
 import {leftOutBy, whyLeftOut} from './left_out.js';
-import {sameText, samePositions} from './same_positions.js';
+import {positionsReached, reachedText, samePositions, sameText} from './same_positions.js';
 import {isCommand, isEdit, isPosition, wordsOf} from './script.js';
 import {acceptedOf, stampOf} from './stamps.js';
 import {bareTree} from './unmarked.js';
@@ -15,8 +15,8 @@ import {aimText, reason} from './words.js';
 /** @typedef {import('./types.js').Aim} Aim */
 /**
  * `kind` is what the list is filtered by; `at` the place of a study, -1 of an entry that was left out; `number` that of
- * its game; `against` what speaks against its stipulation; `same` which other studies have its men; `fault` its first
- * fault in words, and `faults` the kinds of all that are not accepted.
+ * its game; `against` what speaks against its stipulation; `same` which other studies have, or reach, its position;
+ * `fault` its first fault in words, and `faults` the kinds of all that are not accepted.
  * @typedef {{line: number, at: number, number: string, kind: string, title: string, author: string, fen: string,
  *   aim: string, against: string[], stamp: string, review: Review | null, same: string, fault: string,
  *   faults: string[]}} Entry
@@ -207,11 +207,12 @@ function faultsOf(doc, s, review) {
  * The entries in the order of the script.
  * @param {Doc} doc
  * @param {(Review | null)[]} reviews      of each study, as far as they are known
+ * @param {(import('./same_positions.js').Stop[] | null)[]} mainLines
  * @returns {Entry[]}
  */
-export function entriesOf(doc, reviews = []) {
-  const numbers = numbersOf(doc), same = samePositions(doc.studies.map(s => s.fen)),
-        studies = doc.studies.map((s, at) => {
+export function entriesOf(doc, reviews = [], mainLines = []) {
+  const numbers = numbersOf(doc), fens = doc.studies.map(s => s.fen), same = samePositions(fens),
+        reached = positionsReached(fens, mainLines), studies = doc.studies.map((s, at) => {
           const {kind, text} = stampOf(doc, s, reviews[at] || null);
           return {
             line: s.from,
@@ -225,7 +226,7 @@ export function entriesOf(doc, reviews = []) {
             against: s.origin ? s.origin.against : [],
             stamp: text,
             review: kind === 'not read' ? null : reviews[at] || null,
-            same: sameText(same[at], numbers),
+            same: [sameText(same[at], numbers), reachedText(reached[at], numbers)].filter(Boolean).join(' and the '),
             ...faultsOf(doc, s, kind === 'not read' ? null : reviews[at] || null)
           };
         });

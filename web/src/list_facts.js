@@ -3,11 +3,17 @@
 import {track} from './actions.js';
 import {app, doc, services, PAGES} from './state.js';
 import {entriesOf} from './entries.js';
-import {readReview} from './parse_answers.js';
+import {readReview, readView} from './parse_answers.js';
 import {editsTo, fensOf, toText} from './script.js';
+import {moveName} from './words.js';
 /** @typedef {import('./types.js').Doc} Doc @typedef {import('./types.js').Review} Review */
 
-const found = /** @type {Map<string, Review | null>} */ (new Map()), MOST = 20000, MOST_UNWANTED = 200;
+/**
+ * What the program says of a study, and the positions of its main line behind the start.
+ * @typedef {{review: Review | null, mainLine: import('./same_positions.js').Stop[] | null}} Found
+ */
+const found = /** @type {Map<string, Found>} */ (new Map()), MOST = 20000, MOST_UNWANTED = 200;
+const NOTHING = /** @type {Found} */ ({review: null, mainLine: null});
 /**
  * The lines of each study that is judged, alone.
  * @param {Doc} d
@@ -19,25 +25,30 @@ function textsOf(d) {
   return list;
 }
 const texts = /** @type {WeakMap<any[], string[]>} */ (new WeakMap());
-let last = /** @type {{studies: any[] | null, known: number, reviews: (Review | null)[]}} */ (
-  {studies: null, known: 0, reviews: []});
+let last = /** @type {{studies: any[] | null, known: number, facts: Found[], reviews: (Review | null)[]}} */ (
+  {studies: null, known: 0, facts: [], reviews: []});
 /**
- * The facts of each study, as far as they are known: the same list as long as nothing was added.
+ * The facts of each study, as far as they are known: the same lists as long as nothing was added.
  * @param {Doc} d
  */
-export function knownReviews(d) {
-  if (last.studies !== d.studies || last.known !== found.size)
-    last = {studies: d.studies, known: found.size, reviews: textsOf(d).map(text => found.get(text) || null)};
-  return last.reviews;
+function knownFacts(d) {
+  if (last.studies !== d.studies || last.known !== found.size) {
+    const facts = textsOf(d).map(text => found.get(text) || NOTHING);
+    last = {studies: d.studies, known: found.size, facts, reviews: facts.map(({review}) => review)};
+  }
+  return last;
 }
+/** @param {Doc} d */
+export const knownReviews = d => knownFacts(d).reviews;
 let listed = /** @type {{from: any[], entries: import('./entries.js').Entry[]}} */ ({from: [], entries: []});
 /**
  * The entries of a script, with what is known of them: the same list as long as nothing has changed.
  * @param {Doc} d
  */
 export function knownEntries(d) {
-  const from = [d.lines, d.studies, d.refused, knownReviews(d)];
-  if (!from.every((thing, i) => thing === listed.from[i])) listed = {from, entries: entriesOf(d, knownReviews(d))};
+  const {facts, reviews} = knownFacts(d), from = [d.lines, d.studies, d.refused, reviews];
+  if (!from.every((thing, i) => thing === listed.from[i]))
+    listed = {from, entries: entriesOf(d, reviews, facts.map(({mainLine}) => mainLine))};
   return listed.entries;
 }
 /**
@@ -49,12 +60,22 @@ export function unknownFacts(d) {
   return count > MOST_UNWANTED ? count : 0;
 }
 const pause = (/** @type {number} */ ms) => new Promise(on => setTimeout(on, ms));
+/**
+ * The positions of a main line behind the start, each with the move that leads to it.
+ * @param {import('./types.js').TreeNode} root
+ */
+function mainLineOf(root) {
+  const line = [];
+  for (let node = root.children[0]; node; node = node.children[0]) line.push({fen: node.fen, move: moveName(node)});
+  return line;
+}
 /** @param {string} text */
 async function find(text) {
   await services.tables.loadFor(fensOf(text.split('\n')), services.facts);
-  const {text: facts} = await services.facts.answer('review', text + 'pgn\n', PAGES);
+  const {text: facts} = await services.facts.answer('review', text + 'pgn\n', PAGES),
+               view = readView((await services.facts.answer('view root', text, PAGES)).text);
   if (found.size >= MOST) found.clear();
-  found.set(text, readReview(facts));
+  found.set(text, {review: readReview(facts), mainLine: view && mainLineOf(view.root)});
 }
 /**
  * Finds what is not known yet. Unless the user wants it, it ends where the document changes, and leaves long lists
@@ -72,7 +93,7 @@ export async function reviewAll(d, wanted) {
       if (doc().lines !== d.lines || services.facts.waiting()) return void (stamp === app.stamp && later(d));
     }
     await find(text).catch(() => {
-      found.set(text, null);
+      found.set(text, NOTHING);
     });
   }
   services.reading(0, 0);

@@ -158,7 +158,8 @@ export const noteLines = (moves, text) => partsOf(
 /**
  * What a game says beside its moves, as remarks: `#! tag NAME TEXT`, `#! note MOVES: TEXT`, and `#! note+ MOVES: TEXT`
  * for what is more of a long comment; `#! result TEXT`, where the result behind the moves is not that of the tag. In a
- * game that this page saved with its marks `#! mark MOVES: $1` is a glyph of the program or of the author.
+ * game that this page saved with its marks `#! mark MOVES: $1` is a glyph of the program or of the author, and
+ * `#! accepted MOVES: dual` a dual that a judge accepts.
  * @param {string} game
  */
 export function remarksOf(game) {
@@ -171,6 +172,7 @@ export function remarksOf(game) {
     if (kind === 'result') {
       if (text !== tags.Result) out.push(`#! result ${text}`);
     } else if (!first) {
+      if (own && kind === 'comment' && ACCEPTED.test(text)) out.push(`#! accepted ${key}: dual`);
       out.push(...noteLines(key, own && kind === 'comment' ? withoutOurs(text) : text));
     } else if (!said.some(other => other.key === key && other.kind === 'nag' && other.place === 'comment'))
       out.push(`#! mark ${key}: ${text}`);
@@ -193,7 +195,9 @@ function saidIn(movetext) {
 }
 const VALUE = '(draw|mate|(White|Black) mates in \\d+)',
       VERDICT = '(White|Black) to (win|draw|mate in \\d+): (wrong|sound|unsound \\d+), ' + VALUE,
-      OPENING = new RegExp(`^${VERDICT}(\\. |$)`), OURS = new RegExp(`(^|(?<=[.!?:;,\\])]) )${VALUE}(; dual \\d+)?$`);
+      OPENING = new RegExp(`^${VERDICT}(\\. |$)`),
+      OURS = new RegExp(`(^|(?<=[.!?:;,\\])]) )${VALUE}(; dual \\d+(; accepted)?)?$`);
+const ACCEPTED = new RegExp(`${VALUE}; dual \\d+; accepted$`);
 /** What a saved game says behind `sound`, which is no verdict on a solution then; its words are fixed. */
 export const noMove = () => 'holds: no move of the solution is given';
 /**

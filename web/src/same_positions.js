@@ -47,12 +47,55 @@ export function samePositions(fens) {
   });
 }
 /**
+ * A position of a main line, and the move after which it stands.
+ * @typedef {{fen: string, move: string}} Stop
+ */
+/**
+ * For each position the main lines of others that lead to it, each with the move after which it stands there.
+ * @param {string[]} fens
+ * @param {(Stop[] | null)[]} mainLines      of each study, as far as they are known
+ * @returns {{first: {at: number, how: string, move: string}[], count: number}[]}
+ */
+export function positionsReached(fens, mainLines) {
+  const starts = /** @type {Map<string, {start: number, how: string}[]>} */ (new Map()),
+        found = fens.map(() => /** @type {{at: number, how: string, move: string}[]} */ ([]));
+  fens.forEach((fen, start) => {
+    const known = /** @type {Set<string>} */ (new Set());
+    for (const [i, form] of formsOf(fen).forms.entries()) {
+      if (known.has(form)) continue;
+      known.add(form);
+      starts.set(form, [...(starts.get(form) || []), {start, how: FORMS[i][0]}]);
+    }
+  });
+  for (const [at, line] of mainLines.entries())
+    for (const {fen, move} of line || [])
+      for (const {start, how} of starts.get(placed(fen)) || [])
+        if (start !== at && !found[start].some(one => one.at === at)) found[start].push({at, how, move});
+  return found.map(list => ({first: list.slice(0, FIRST), count: list.length}));
+}
+/**
+ * Names of studies with what is said of each, the first three of many.
+ * @param {{first: {at: number}[], count: number}} found
+ * @param {string[]} numbers
+ * @param {(one: any) => string} said
+ */
+function listed({first, count}, numbers, said) {
+  const name = (/** @type {number} */ at) => (numbers[at] ? `No. ${numbers[at]}` : 'a study without a number'),
+        more = count - first.length;
+  return first.map(one => name(one.at) + said(one)).join(', ') + (more > 0 ? ` and ${more} more` : '');
+}
+/**
  * `same position as No. 2 (mirrored)`; of many the first three.
  * @param {Same} same
  * @param {string[]} numbers
  */
-export function sameText({first, count}, numbers) {
-  const name = (/** @type {number} */ at) => (numbers[at] ? `No. ${numbers[at]}` : 'a study without a number'),
-        list = first.map(({at, how}) => name(at) + (how && ` (${how})`)), more = count - list.length;
-  return list.length ? `same position as ${list.join(', ')}${more > 0 ? ` and ${more} more` : ''}` : '';
-}
+export const sameText = (same, numbers) =>
+  (same.count ? `same position as ${listed(same, numbers, ({how}) => how && ` (${how})`)}` : '');
+/**
+ * `position of No. 5 after 2... Kd5 (mirrored)`; of many the first three.
+ * @param {ReturnType<typeof positionsReached>[number]} reached
+ * @param {string[]} numbers
+ */
+export const reachedText = (reached, numbers) =>
+  (reached.count ? `position of ${listed(reached, numbers, ({how, move}) => ` after ${move}${how && ` (${how})`}`)}`
+                 : '');

@@ -12,8 +12,8 @@ import {aimText} from './words.js';
  * @typedef {{key: string, opens: string, number: string, san: string, glyphs: string[], comments: string[],
  *   closes: string}} Item
  */
-/** What the author says at a move; `marks` are glyphs that he or the program wrote. */
-/** @typedef {{comments: string[], glyphs: string[], marks: string[]}} Note */
+/** What is said at a move: `marks` are glyphs of the author or the program, `accepted` a judge's tick at a dual. */
+/** @typedef {{comments: string[], glyphs: string[], marks: string[], accepted: boolean}} Note */
 
 /**
  * A game of the program, taken apart.
@@ -68,6 +68,8 @@ function bySquares(keys) {
   for (const key of keys) found.set(squaresOf(key), found.has(squaresOf(key)) ? undefined : key);
   return found;
 }
+/** @returns {Note} */
+const noNote = () => ({comments: [], glyphs: [], marks: [], accepted: false});
 /**
  * The notes of remarks at the moves of a game; those at moves that are not in it are left out.
  * @param {string[]} remarks
@@ -78,12 +80,13 @@ export function notesAt(remarks, items) {
         nearly = new Map([...keys].reverse().map(key => [loose(key), key])), squares = bySquares(keys);
   for (const {word: kind, rest} of remarks.map(ownRemark)) {
     const [moves, text] = cutAt(rest, ': ');
-    if (!AT_MOVES.has(kind) || kind === 'accepted' || !text) continue;
+    if (!AT_MOVES.has(kind) || !text) continue;
     const key = moves === '-' ? '' : moves,
           at = keys.has(key) ? key : nearly.get(loose(key)) || squares.get(squaresOf(key));
     if (at === undefined) continue;
-    const note = notes.get(at) || {comments: [], glyphs: [], marks: []}, last = note.comments.length - 1;
+    const note = notes.get(at) || noNote(), last = note.comments.length - 1;
     if (kind === 'mark') note.marks.push(text);
+    else if (kind === 'accepted') note.accepted = true;
     else if (/^\$\d+$/.test(text)) note.glyphs.push(text);
     else if (kind === 'note+' && last >= 0) note.comments[last] += ` ${text}`;
     else note.comments.push(text);
@@ -105,6 +108,13 @@ function glyphsOf(item, note, marks) {
   return [...new Set([first, ...note.glyphs.filter(glyph => !judgesMove(glyph))])].filter(Boolean);
 }
 /**
+ * The program's comments at a move; behind a dual that a judge accepts `accepted`.
+ * @param {Item} item
+ * @param {Note} note
+ */
+const ourComments = ({comments}, {accepted}) =>
+  (accepted ? comments.map(text => text.replace(/dual \d+$/, '$&; accepted')) : comments);
+/**
  * The words of a game. A number of Black's move only stands where something stands between it and White's.
  * @param {Item[]} items
  * @param {Map<string, Note>} notes
@@ -114,7 +124,7 @@ function glyphsOf(item, note, marks) {
 function wordsOfGame(items, notes, marks, said) {
   let follows = false;
   return items.flatMap(item => {
-    const note = notes.get(item.key) || {comments: [], glyphs: [], marks: []}, ours = marks ? item.comments : [],
+    const note = notes.get(item.key) || noNote(), ours = marks ? ourComments(item, note) : [],
           comment = joined(item.san ? [...note.comments, ...ours] : [...ours, ...said, ...note.comments]),
           number = follows && !item.opens && /\.\.\.$/.test(item.number) ? '' : item.number;
     follows = Boolean(item.san && !comment && !item.closes);

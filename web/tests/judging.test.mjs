@@ -8,7 +8,7 @@ import {entriesOf} from '../src/entries.js';
 import {countsOf, findEntries, isOfKind, sortEntries} from '../src/entry_list.js';
 import {faultKind} from '../src/fault_kinds.js';
 import {readReview, readView} from '../src/parse_answers.js';
-import {samePositions, sameText} from '../src/same_positions.js';
+import {positionsReached, reachedText, samePositions, sameText} from '../src/same_positions.js';
 import {assumeAccepted} from '../src/script.js';
 import {dualsText, faultyStamp, wrongText} from '../src/stamps.js';
 import {bareTree} from '../src/unmarked.js';
@@ -94,6 +94,20 @@ test('the same position as it is, mirrored, with colours exchanged', () => {
   ]);
   assert.equal(sameText(same[1], ['2', '5', '12', '']),
     'same position as No. 2 (mirrored), No. 12 (mirrored, colours exchanged), a study without a number (mirrored)');
+});
+test('a position in the main line of another study, as it is or turned', () => {
+  const other = '8/8/8/8/8/k7/8/K6R w - - 0 1',
+        after = [{fen: MIRRORED, move: '1. Kg6'}, {fen: other, move: '1... h4'}],
+        reached = positionsReached([FEN, other, '8/8/8/8/8/8/k1K5/7R w - - 5 9'], [null, after, after]);
+  assert.deepEqual(reached.map(({first}) => first), [
+    [{at: 1, how: 'mirrored', move: '1. Kg6'}, {at: 2, how: 'mirrored', move: '1. Kg6'}],
+    [{at: 2, how: '', move: '1... h4'}], []
+  ]);
+  assert.equal(reachedText(reached[0], ['1', '2', '']),
+    'position of No. 2 after 1. Kg6 (mirrored), a study without a number after 1. Kg6 (mirrored)');
+  assert.equal(reachedText(reached[2], ['1', '2', '']), '');
+  const twice = entriesOf(judged([...LINES, '', ...LINES]), [], [null, [{fen: FEN, move: '5. Kg7'}]]);
+  assert.match(twice[0].same, /^(same position as .* and the )?position of .* after 5\. Kg7$/);
 });
 test('names are found whatever their accents, and each column sorts', () => {
   const rows = entriesOf(judged(LINES), [REVIEW]), names = list => list.map(({title}) => title);

@@ -155,6 +155,14 @@ test('what is written is read and written again the same', () => {
   assert.ok(text.replace(/\s+/g, ' ').includes('2. Kf3 $1 {White mates in 27; dual 2} 1-0'), text);
   assert.equal(withNotes(dual, remarksOf(text)), text);
 });
+test('a dual that a judge accepts is one when the game is read again', () => {
+  const game = `[Event "?"]\n\n{White to win: unsound 1, White mates in 9} 1. Kg3! {White mates in 9} Kf5
+2. Kf3 $4 {White mates in 8; dual 2} 1-0\n\n`,
+        tick = '#! accepted Kg3 Kf5 Kf3: dual', saved = withNotes(game, [tick, '#! note Kg3 Kf5 Kf3: Or Kf2.']);
+  assert.match(saved, /\{Or Kf2\. White mates in 8; dual 2; accepted\}/);
+  assert.deepEqual(remarksOf(saved).filter(line => /accepted|note/.test(line)), [tick, '#! note Kg3 Kf5 Kf3: Or Kf2.']);
+  assert.doesNotMatch(withNotes(game, [tick], false), /accepted/);
+});
 test('a study without a move of the hero is not saved as sound alone', () => {
   const position = 'position 8/8/8/6k1/8/8/1P5K/8 w - - 0 1', lines = [position, 'stipulate white win', 'pgn'],
         replies = [position, 'stipulate White to win', '[Event "?"]\n\n{White to win: sound, draw} 1-0\n\n'];
