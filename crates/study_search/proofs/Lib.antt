@@ -1,6 +1,7 @@
 pub mod Faults
 mod LeastMate
 pub mod OnlyMoves
+pub mod OneRow
 mod OneMove
 mod Promotions
 mod HalfPoints

@@ -1,5 +1,6 @@
 pub mod Faults
 pub mod OnlyMoves
+pub mod Rows
 pub mod Listed
 pub mod Themes
 pub mod Finding

@@ -1,6 +1,7 @@
 //! Laws over the definitions: functions that do nothing.
 ghost use Rattle.study_search.specs.Pairs.{OneOfTwoIsListed};
 ghost use Rattle.study_search.specs.Laws.{EachIsFoundOnce, OneOfTwoImagesIsFound, NextFoundsAreAll, FewerOnlyMoves};
+ghost use Rattle.study_search.specs.Rows.{RowsAreUnique};
 
 use study_moves::{bare_agrees, values_are_unique};
 
@@ -26,6 +27,11 @@ pub fn next_founds_are_all()
 /// If the hero has to find so many only moves in a row, he has to find any smaller number, too.
 pub fn fewer_only_moves()
     ensures { FewerOnlyMoves }
+{}
+
+/// A position has at most one row of so many only moves, and only if the hero has to find so many.
+pub fn rows_are_unique()
+    ensures { RowsAreUnique }
 {}
 
 /// If both sides have the same men, one of the two placements of a mutual zugzwang with White to move is listed.

@@ -12,6 +12,7 @@ mod laws;
 mod longest;
 mod only_moves;
 mod pairs;
+mod rows;
 mod themes;
 mod value;
 mod zugzwang;
@@ -19,11 +20,12 @@ mod zugzwang;
 pub use finding::{Search, most_only_moves, next_found};
 pub use laws::{
     each_is_found_once, fewer_only_moves, next_founds_are_all, one_of_two_images_is_found,
-    one_of_two_is_listed,
+    one_of_two_is_listed, rows_are_unique,
 };
 pub use longest::longest_mate;
 pub use only_moves::{Outcome, has_only_moves, key_move, only_move};
 pub use pairs::is_listed_of_two;
+pub use rows::{LongestRow, Row, longest_row, row_of};
 pub use themes::{Theme, has_theme, is_underpromotion};
 pub use value::value_of;
 pub use zugzwang::is_zugzwang;

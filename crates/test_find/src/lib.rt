@@ -8,3 +8,5 @@ mod listing;
 mod program;
 #[cfg(test)]
 mod request;
+#[cfg(test)]
+mod rows;

@@ -1,5 +1,4 @@
-use Rattle.std.proofs.Common.{◌≡◌, true, ◌↔◌, IfOk, subst}
-use Rattle.study_board.specs.Position.{Position}
+use Rattle.std.proofs.Common.{subst}
 use Rattle.study_moves.specs.Rules.{after}
 use Rattle.study_search.specs.declared.only_moves.Outcome.{Outcome}
 use Rattle.study_zugzwang.specs.Zugzwang.{IsZugzwang}

@@ -1,5 +1,3 @@
-use Rattle.std.proofs.Common.{◌≡◌, true, ◌↔◌, IfOk, subst}
-use Rattle.study_board.specs.Position.{Position}
 use Rattle.study_moves.specs.Rules.{after}
 use Rattle.study_zugzwang.specs.Zugzwang.{IsZugzwang}
 use Rattle.study_search.specs.OnlyMoves.{IsKey}
