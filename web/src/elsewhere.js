@@ -33,16 +33,16 @@ export function fenWith(fen, from, to) {
   return [placement({...others, [to]: letter}), ...rest].join(' ');
 }
 /**
- * How many only moves in a row the defender can make the side to move find; null if it has no such result. A program
- * of before does not know this request: then there is no answer.
+ * How many only moves in a row the defender can make the side to move find, with the moves of such a row; null if it
+ * has no such result.
  * @param {Engine} core
  * @param {'win' | 'draw'} goal
  * @param {string} fen
- * @returns {Promise<number | null | undefined>}
+ * @returns {Promise<{count: number, moves: string[]} | null>}
  */
 export async function rowAt(core, goal, fen) {
-  const {text} = await core.answer(`row ${goal} ${fen}`, '', PAGES);
-  return text === 'UnknownCommand\n' ? undefined : /^\d+\n$/.test(text) ? Number(text) : null;
+  const {text} = await core.answer(`row ${goal} ${fen}`, '', PAGES), [count, ...moves] = text.trim().split(' ');
+  return /^\d+$/.test(count) ? {count: Number(count), moves} : null;
 }
 /**
  * The squares of each number of only moves in a row, the largest first.

@@ -1,8 +1,9 @@
 // @ts-check
 // What the tables know: the positions of a class that have a theme, found piece by piece in a core of their own.
 import {services, PAGES} from './state.js';
+import {sideOf} from './fen.js';
 import {readValue, refusalIn} from './parse_answers.js';
-import {counted, reason} from './words.js';
+import {counted, reason, winner} from './words.js';
 /** @typedef {import('./types.js').Value} Value */
 /** @typedef {{fen: string, values: Value[], key: string}} Found      a zugzwang has two values, and no key move */
 /**
@@ -77,6 +78,31 @@ export function manMissing(name, filters) {
 export function opened({fen, values: [white, black]}) {
   if (!black || white.kind !== 'draw' || black.kind === 'draw') return {fen, value: white};
   return {fen: fen.replace(' w ', ' b '), value: black};
+}
+/**
+ * The result that a theme of only moves in a row keeps; of other themes null.
+ * @param {string} theme      with its number
+ */
+export function rowSought(theme) {
+  const [, goal] = /^(win|draw) \d+$/.exec(theme) || [];
+  return goal === 'win' || goal === 'draw' ? goal : null;
+}
+/**
+ * A position that was found as a study: with the whole row of only moves if they win, with as many as the theme says if
+ * they draw, since such a row may have no end; without a row with its key.
+ * @param {Found} found
+ * @param {string} theme      with its number
+ * @param {string[]} row
+ */
+export function linesOf(found, theme, row) {
+  const {fen, value} = opened(found), won = winner(sideOf(fen), value),
+              hero = (won || (found.key ? sideOf(fen) : 'White')).toLowerCase(), [goal, n] = theme.split(' ');
+  const moves = !row.length ? [found.key].filter(Boolean)
+    : goal === 'draw'       ? row.slice(0, 2 * Number(n) - 1)
+                            : row,
+        insert = (/** @type {string} */ san, /** @type {number} */ i) =>
+          `insert ${i ? Array(i).fill('0').join('.') : 'root'} ${san}`;
+  return [`position ${fen}`, `stipulate ${hero} ${won ? 'win' : 'draw'}`, ...moves.map(insert)];
 }
 const PIECE = 1 << 14, ALIKE = 300;
 /**

@@ -2,10 +2,12 @@
 // The panel 'Find': a class, a theme and squares; what is found while it searches; a press opens one.
 import {$, button, h, put, smallButton, panelHead} from './dom.js';
 import {track} from './actions.js';
+import {rowAt} from './elsewhere.js';
 import {app, services} from './state.js';
 import {CLASSES} from './core_host.js';
+import {diagramOf} from './drawing.js';
 import {control, sideOf} from './fen.js';
-import {THEMES, manMissing, narrowing, opened, search, searchText} from './finding.js';
+import {THEMES, linesOf, manMissing, narrowing, opened, rowSought, search, searchText} from './finding.js';
 import {openText} from './opening.js';
 import {toText} from './script.js';
 import {draftFen} from './setup.js';
@@ -24,7 +26,7 @@ const form = {
 };
 /**
  * @type {{spawn: () => import('./engine.js').Core, search: Search | null, going: boolean, fault: string,
- *   shown: string, advice: string, lacking: string, here: string, chosen: boolean}}
+ *   shown: string, theme: string, preview: string, advice: string, lacking: string, here: string, chosen: boolean}}
  */
 const state = {
   spawn: () => services.core,
@@ -32,6 +34,8 @@ const state = {
   going: false,
   fault: '',
   shown: '',
+  theme: '',
+  preview: '',
   advice: '',
   lacking: '',
   here: '',
@@ -139,7 +143,8 @@ function find() {
   };
   const shown = [wanted.name, wanted.theme, wanted.filters].filter(Boolean).join(' '),
         lacking = manMissing(wanted.name, wanted.filters), advice = narrowing(form.theme, Number(form.n));
-  Object.assign(state, {search: null, going: true, fault: '', shown, advice, lacking});
+  Object.assign(
+    state, {search: null, going: true, fault: '', shown, theme: wanted.theme, preview: '', advice, lacking});
   showFinding();
   const found = (/** @type {Search} */ now) => {
     state.search = now;
@@ -162,26 +167,37 @@ function soFar() {
   if (!now) return state.going ? 'Its tables are being read, or built …' : '';
   return `${state.shown}: ${now.found.length || !state.lacking ? searchText(now, state.advice) : `${state.lacking}.`}`;
 }
-/** @param {Found} found */
-function linesOf(found) {
-  const {fen, value} = opened(found), won = winner(sideOf(fen), value);
-  const hero = (won || (found.key ? sideOf(fen) : 'White')).toLowerCase();
-  return toText([
-    `position ${fen}`, `stipulate ${hero} ${won ? 'win' : 'draw'}`, ...(found.key ? [`insert root ${found.key}`] : [])
-  ]);
+/**
+ * Opens a position as a study: with the row of only moves that its theme says, else with its key.
+ * @param {Found} found
+ * @param {string} theme      with its number
+ */
+async function openFound(found, theme) {
+  close();
+  const goal = rowSought(theme), {fen} = opened(found);
+  if (goal) await services.tables.loadFor([fen], services.facts);
+  const row = goal ? await rowAt(services.facts, goal, fen) : null;
+  await openText(toText(linesOf(found, theme, row ? row.moves : [])), 'board');
+}
+/**
+ * The diagram of the position under the pointer or the focus, beside the list.
+ * @param {string} fen
+ */
+function preview(fen) {
+  state.preview = fen;
+  put('findPreview', diagramOf(fen, true));
 }
 /** @param {Found} found */
 function rowView(found) {
   const mover = sideOf(found.fen), [first, second] = found.values;
   const words = second ? `White to move: ${valueText('White', first)}; Black to move: ${valueText('Black', second)}`
                        : valueText(mover, first);
-  return h('li', {},
-    button(control(found.fen), 'open it as a study',
-      () => {
-        close();
-        openText(linesOf(found), 'board');
-      },
-      {class: 'link', 'data-found': found.fen}),
+  return h('li', {}, button(control(found.fen), 'open it as a study', () => track(openFound(found, state.theme)), {
+    class: 'link',
+    'data-found': found.fen,
+    onmouseenter: () => preview(found.fen),
+    onfocus: () => preview(found.fen)
+  }),
     ` ${second ? '' : `${mover} to move: `}${found.key && `${found.key}, `}${words}`);
 }
 /** The panel, drawn again as it searches; what is typed in it stays. */
@@ -194,7 +210,9 @@ export function showFinding() {
     h('p', {class: 'note'},
       'All positions of these men that have the theme, each once up to symmetry, none missing: proved. ' +
         'A press opens one as a study.'),
-    formView(), h('p', {id: 'findState'}, soFar()), h('ol', {class: 'found', id: 'foundList'}, found.map(rowView)));
+    formView(), h('p', {id: 'findState'}, soFar()),
+    h('div', {class: 'finds'}, h('ol', {class: 'found', id: 'foundList'}, found.map(rowView)),
+      h('div', {id: 'findPreview'}, found.length > 0 && state.preview && diagramOf(state.preview, true))));
   const again = id && $(id);
   if (again) again.focus({preventScroll: true});
 }

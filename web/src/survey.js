@@ -73,7 +73,6 @@ async function forEach(d, all, spots, look) {
   }
   if (shown()) services.showJudged();
 }
-let known = true;
 /**
  * The number of only moves in a row at each dot.
  * @param {Draft} d
@@ -82,16 +81,15 @@ let known = true;
 async function rows(d, man) {
   const {hero, goal} = readAim(d.aim), fen = draftFen(), spots = d.survey;
   const dots = (spots || []).filter(spot => spot.sign === 'dot');
-  if (!known || !dots.length || goal === 'mate' || hero !== sideOf(fen)) return;
+  if (!dots.length || goal === 'mate' || hero !== sideOf(fen)) return;
   await loadTables(fen);
   await forEach(d, spots, dots, async spot => {
     const moved = fenWith(fen, man, spot.to);
     let row = await rowAt(services.facts, goal, moved);
     // a draw is exceeded where the hero wins: there the moves count that alone win
-    if (row === null && goal === 'draw') row = await rowAt(services.facts, 'win', moved);
-    known = row !== undefined;
-    spot.row = row === undefined ? null : row;
-    return known;
+    if (!row && goal === 'draw') row = await rowAt(services.facts, 'win', moved);
+    spot.row = row && row.count;
+    return true;
   });
 }
 

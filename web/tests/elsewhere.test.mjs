@@ -11,12 +11,13 @@ test('a man stands on another square, and all else is as it was', () => {
   assert.equal(fenWith(FEN, 15, 23), '8/8/8/6k1/8/7K/1P6/8 w - - 0 1');
   assert.equal(fenWith('4k3/8/8/8/4P3/8/8/4K3 b - e3 3 9', 60, 56), 'k7/8/8/8/4P3/8/8/4K3 b - e3 3 9');
 });
-test('a row of only moves is a number, or none, or the program does not know the request', async () => {
+test('a row of only moves is a number with moves, or none', async () => {
   const core = (text, ended) => ({answer: async request => ({text: request === `row win ${FEN}` ? text : '?', ended})});
-  assert.equal(await rowAt(core('4\n', 'done'), 'win', FEN), 4);
+  assert.deepEqual(await rowAt(core('0\n', 'done'), 'win', FEN), {count: 0, moves: []});
+  assert.deepEqual(
+    await rowAt(core('2 Kxh8 Kg6 Kg8\n', 'done'), 'win', FEN), {count: 2, moves: ['Kxh8', 'Kg6', 'Kg8']});
   assert.equal(await rowAt(core('none\n', 'done'), 'win', FEN), null);
   assert.equal(await rowAt(core('NoTable KRK\n', 'refused'), 'win', FEN), null);
-  assert.equal(await rowAt(core('UnknownCommand\n', 'refused'), 'win', FEN), undefined);
 });
 test('the longest rows come first, and squares without one are left out', () => {
   assert.deepEqual(

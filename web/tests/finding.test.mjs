@@ -3,7 +3,7 @@ import test from 'node:test';
 import assert from 'node:assert/strict';
 import {placesBefore} from '../src/earlier.js';
 import {menOf} from '../src/fen.js';
-import {manMissing, narrowing, opened, placements, readFound, searchText} from '../src/finding.js';
+import {linesOf, manMissing, narrowing, opened, placements, readFound, rowSought, searchText} from '../src/finding.js';
 
 test('a line of a list is read', () => {
   assert.deepEqual(readFound('1B6/3K4/8/1k6/8/P7/8/8 w - - 0 1 draw loss 38'),
@@ -19,6 +19,17 @@ test('a zugzwang opens with the side to move with which somebody wins', () => {
     opened(readFound('8/8/8/5n2/8/1RK5/8/2k5 w - - 0 1 win 69 Kd3')).fen, '8/8/8/5n2/8/1RK5/8/2k5 w - - 0 1');
   assert.equal(
     opened(readFound('8/8/8/8/1pK5/kP6/8/8 w - - 0 1 loss 20 loss 22')).fen, '8/8/8/8/1pK5/kP6/8/8 w - - 0 1');
+});
+test('a position opens with its row of only moves', () => {
+  const draw = readFound('6kR/8/5K2/8/8/8/8/8 b - - 0 1 draw Kxh8'), row = ['Kxh8', 'Kg6', 'Kg8'],
+        head = ['position 6kR/8/5K2/8/8/8/8/8 b - - 0 1', 'stipulate black draw', 'insert root Kxh8'];
+  assert.deepEqual(linesOf(draw, 'draw 2', row), [...head, 'insert 0 Kg6', 'insert 0.0 Kg8']);
+  assert.deepEqual(linesOf(draw, 'draw 1', row), head);
+  assert.deepEqual(linesOf(draw, 'into draw', []), head);
+  const win = readFound('8/8/8/5n2/8/1RK5/8/2k5 w - - 0 1 win 69 Kd3');
+  assert.equal(linesOf(win, 'win 1', ['Kd3', 'Kd1', 'Rb1+']).length, 5);
+  assert.equal(linesOf(readFound('8/8/8/8/1pK5/kP6/8/8 w - - 0 1 loss 20 loss 22'), 'zugzwang', []).length, 2);
+  assert.deepEqual(['win 6', 'draw 12', 'zugzwang', 'try win'].map(rowSought), ['win', 'draw', null, null]);
 });
 test('a man that a class does not have', () => {
   assert.equal(manMissing('KPK', 'pa7'), 'KPK has no P of Black, so pa7 fits no position');

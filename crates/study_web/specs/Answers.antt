@@ -43,7 +43,7 @@ use Rattle.study_web.specs.Opened.{AreAllRight, IsOfFiles, IsOfFileValues, IsOfF
 use Rattle.study_web.specs.Asked.{Asked, Asks, run, review, report, tables, wording, remarks, make, view, survey, passed, find, unread, row, bring}
 use Rattle.study_web.specs.CoreWords.{core_words}
 use Rattle.study_web.specs.RemarkRows.{rows_from}
-use Rattle.study_web.specs.Row.{IsRow}
+use Rattle.study_web.specs.Row.{IsRowAnswer}
 use Rattle.study_web.specs.Setup.{AreTables, positions_in, squares_text}
 use Rattle.study_web.specs.Store.{IsShelf, AreRightFiles}
 use Rattle.study_web.specs.Reported.{denial_text, ending_of, IsDenied}
@@ -212,7 +212,7 @@ IsFoundTo spans bytes piece text ended =
 -- the number of only moves in a row from the position, if the opened files are right
 abbrev pub IsRowOver : List FileSpan → List ℕ → SoughtOutcome → Start → List ℕ → Ending → Type 0
 IsRowOver spans bytes o start =
-    IsWhole (λ text. AreAllRight spans bytes → IsRow o start.position text) (IsOfFileValues spans bytes start.position) IsNoMemory
+    IsWhole (λ text. AreAllRight spans bytes → IsRowAnswer o start.position text) (IsOfFileValues spans bytes start.position) IsNoMemory
 
 -- the same over the files that the position needs; no others are opened
 abbrev pub IsRowTo : List FileSpan → List ℕ → SoughtOutcome → Start → List ℕ → Ending → Type 0

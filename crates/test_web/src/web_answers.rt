@@ -483,7 +483,8 @@ fn found_over_tables(rt: HostRuntime) -> Result<(), Fail> {
 }
 
 /// The only moves in a row are counted over the files that the position needs; other files are not opened. The numbers are an independent program's:
-/// that draw of king and rook, of which no position has three; a king that may go anywhere; and a win.
+/// that draw of king and rook, of which no position has three; a king that may go anywhere; and a win. The row is by hand: after other moves than Kg6 and
+/// Kf7 the bare king has several.
 #[test]
 fn rows_over_tables(rt: HostRuntime) -> Result<(), Fail> {
     let alloc = rt.alloc();
@@ -495,7 +496,7 @@ fn rows_over_tables(rt: HostRuntime) -> Result<(), Fail> {
     };
     let spans = [cut, two[0], two[1]];
     let cases = [
-        ("row draw 6kR/8/5K2/8/8/8/8/8 b - - 0 1", "2\n"),
+        ("row draw 6kR/8/5K2/8/8/8/8/8 b - - 0 1", "2 Kxh8 Kg6 Kg8\n"),
         ("row draw k7/8/8/8/8/8/8/K7 w - - 0 1", "0\n"),
         ("row draw k7/1R6/8/K7/8/8/8/8 w - - 0 1", "none\n"),
         ("row win k7/1R6/8/K7/8/8/8/8 w - - 0 1", "0\n"),

@@ -1,12 +1,14 @@
-//! How many only moves in a row the defender can make the side to move find.
-ghost use Rattle.std.specs.Prelude.{◌≡◌, ◌≤◌, ◌++◌, true, decimal, IfSome, IfOk, IfErr, OnOk};
+//! How many only moves in a row the defender can make the side to move find, and such a row.
+ghost use Rattle.std.specs.Prelude.{◌≡◌, ◌≤◌, ◌++◌, codes, decimal, IfSome, IfOk, IfErr, OnOk, MatchOption, Some, None};
 ghost use Rattle.study_material.specs.declared.class.Class.{Class as AClass};
 ghost use Rattle.study_material.specs.Needs.{NeedsClass};
 ghost use Rattle.study_search.specs.Faults.{CanReport};
-ghost use Rattle.study_search.specs.OnlyMoves.{IsMost};
+ghost use Rattle.study_search.specs.Rows.{IsLine};
 ghost use Rattle.study_web.specs.Answers.{MayEnd, IsNoMemory};
 ghost use Rattle.study_web.specs.Opened.{IsOfValues};
-ghost use Rattle.study_web.specs.Row.{row_text, IsRow};
+ghost use Rattle.study_search.specs.OnlyMoves.{IsMost};
+ghost use Rattle.study_search.specs.Rows.{IsRow};
+ghost use Rattle.study_web.specs.Row.{moves_text, row_text, IsRowAnswer};
 ghost use Rattle.study_web.specs.Reported.{line_of};
 
 use crate::answers::setup::add;
@@ -16,60 +18,73 @@ use crate::request_fault::RequestFault;
 use crate::tables::open_tables;
 use itoa::Buffer;
 use std::alloc::{AllocError, Allocator};
+use study_board::Position;
+use study_moves::{Move, played};
+use study_notation::write_san;
 use study_reply::{Refusal, of_probe};
 use study_script::TableStore;
-use study_search::most_only_moves;
+use study_search::{LongestRow, longest_row};
 use study_values::{ProbeFault, Values};
 
 /// The largest number that is counted.
 const LIMIT: u8 = 12;
 
-/// The number, and a line feed.
-fn add_number<A: Allocator>(text: &mut Vec<u8, &A>, n: u8) -> Result<(), AllocError>
-    ensures { OnOk result (text.new.items ≡ text.old.items ++ line_of (decimal n)) }
+/// Adds moves in turn, a blank before each.
+fn add_moves<A: Allocator>(
+    text: &mut Vec<u8, &A>,
+    p: &Position,
+    moves: &[Move],
+) -> Result<(), AllocError>
+    requires { IsLine p.now moves.now }
+    ensures { OnOk result (text.new.items ≡ text.old.items ++ moves_text p.now moves.now) }
 {
-    let mut buffer = Buffer::new();
-    add(text, buffer.format(n as u32).as_bytes())?;
-    add(text, b"\n")
+    let Some((m, rest)) = moves.split_first() else {
+        return Ok(());
+    };
+    add(text, b" ")?;
+    let san = write_san(p, *m);
+    add(text, san.as_str().as_bytes())?;
+    add_moves(text, &played(p, *m), rest)
 }
 
-/// `5`, or `none`.
-fn row_text<'a, A: Allocator>(alloc: &'a A, most: Option<u8>) -> Result<Vec<u8, &'a A>, AllocError>
-    ensures { IfOk result (λ text. text.items ≡ row_text most) }
+/// `2 Kf7 Kb6 Ke7`, or `none`.
+fn row_text<'a, A: Allocator>(
+    alloc: &'a A,
+    p: &Position,
+    found: &Option<LongestRow>,
+) -> Result<Vec<u8, &'a A>, AllocError>
+    requires { IfSome found.now (λ f. IsLine p.now f.row.items) }
+    ensures { IfOk result (λ text. MatchOption found.now
+        (text.items ≡ line_of (codes "none"))
+        (λ f. text.items ≡ row_text p.now f.count f.row.items)) }
 {
     let mut text = Vec::new(alloc);
-    match most {
-        None => add(&mut text, b"none\n")?,
-        Some(n) => add_number(&mut text, n)?,
+    match found {
+        None => add(&mut text, b"none")?,
+        Some(found) => {
+            let mut buffer = Buffer::new();
+            add(&mut text, buffer.format(found.count as u32).as_bytes())?;
+            add_moves(&mut text, p, found.row.as_slice())?;
+        }
     }
+    add(&mut text, b"\n")?;
     Ok(text)
 }
 
-/// The same, or want of memory.
-fn reported_row<'a, A: Allocator>(
-    alloc: &'a A,
-    most: Option<u8>,
-) -> Result<Vec<u8, &'a A>, AnswerFault>
-    ensures text { IfOk result (λ text. text.items ≡ row_text most) }
-    ensures none { IfErr result (λ why.
-        why ≡ AnswerFault.Denied (RequestFault.Refused Refusal.OutOfMemory)) }
-{
-    match row_text(alloc, most) {
-        Ok(text) => Ok(text),
-        Err(_) => Err(AnswerFault::Denied(RequestFault::Refused(Refusal::OutOfMemory))),
-    }
-}
-
-/// The number, or why a value cannot be read.
-fn most_of<V: Values>(asked: &Rowed, values: &mut V) -> Result<Option<u8>, ProbeFault>
-    ensures game { V.source.is_honest values.old
-        → IfOk result (IsMost asked.now.outcome asked.now.start.position 12) }
+/// The longest row, or why a value cannot be read.
+fn found_row<V: Values>(asked: &Rowed, values: &mut V) -> Result<Option<LongestRow>, ProbeFault>
+    ensures game { V.source.is_honest values.old → IfOk result (λ found. MatchOption found
+        (IsMost asked.now.outcome asked.now.start.position 12 None)
+        (λ f. IsMost asked.now.outcome asked.now.start.position 12 (Some f.count)
+        × IsRow asked.now.outcome f.count asked.now.start.position f.row.items)) }
+    ensures legal { IfOk result (λ found. IfSome found
+        (λ f. IsLine asked.now.start.position f.row.items)) }
     ensures faults { IfErr result (CanReport V.source (NeedsClass asked.now.start.position) values.old) }
 {
-    most_only_moves(&asked.start.position, asked.outcome, LIMIT, values)
+    longest_row(&asked.start.position, asked.outcome, LIMIT, values)
 }
 
-/// The number, over all files of a store.
+/// The number and the row, over all files of a store.
 #[tactic(auto, using(crate::proofs::Denials::values_over))]
 pub fn row_of<'a, S: TableStore, A: Allocator>(
     alloc: &'a A,
@@ -79,16 +94,19 @@ pub fn row_of<'a, S: TableStore, A: Allocator>(
 ) -> Result<Vec<u8, &'a A>, AnswerFault>
     requires { IfSome pages (λ n. (1 ≤ n) × (n ≤ 4096)) }
     ensures text { ((c : AClass) → S.honest store.old true c)
-        → IfOk result (λ text. IsRow asked.now.outcome asked.now.start.position text.items) }
+        → IfOk result (λ text. IsRowAnswer asked.now.outcome asked.now.start.position text.items) }
     ensures none { IfErr result
         (MayEnd (IsOfValues (S.headers store.old) (S.faults store.old) ((c : AClass)
         → S.honest store.old true c) asked.now.start.position) IsNoMemory) }
 {
     match open_tables(alloc, store, pages) {
         Err(denial) => Err(AnswerFault::Denied(denial)),
-        Ok(mut tables) => match most_of(asked, &mut tables) {
+        Ok(mut tables) => match found_row(asked, &mut tables) {
             Err(fault) => Err(AnswerFault::Denied(RequestFault::Refused(of_probe(fault)))),
-            Ok(most) => reported_row(alloc, most),
+            Ok(found) => match row_text(alloc, &asked.start.position, &found) {
+                Ok(text) => Ok(text),
+                Err(_) => Err(AnswerFault::Denied(RequestFault::Refused(Refusal::OutOfMemory))),
+            },
         },
     }
 }
