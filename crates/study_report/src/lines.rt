@@ -2,7 +2,7 @@
 ghost use Rattle.std.specs.Prelude.{◌++◌, ◌∷◌, [], OnOk, OnErr};
 ghost use Rattle.std.specs.Io.KnownBytes.{Appends};
 ghost use Rattle.study_text.specs.Taken.{TakesPrefix};
-ghost use Rattle.study_reply.specs.Replied.error_text;
+ghost use Rattle.study_reply.specs.Replied.{error_text};
 ghost use Rattle.study_report.specs.Lines.{refusal_line, unread_line, review_remark};
 
 use crate::remarks::{behind, is_not_read};
@@ -21,7 +21,7 @@ use study_values::Values;
 pub struct Lines;
 
 impl Report for Lines {
-    ghost use Rattle.study_reply.specs.Replied.error_text;
+    ghost use Rattle.study_reply.specs.Replied.{error_text};
     ghost use Rattle.study_report.specs.Lines.{IsReviewAs, IsReviewForm};
 
     ghost tells = { λ plain info text. IsReviewAs plain info text };
