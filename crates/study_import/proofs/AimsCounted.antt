@@ -17,18 +17,18 @@ use Rattle.study_games.specs.declared.symbols.Outcome.{Outcome}
 use Rattle.study_games.specs.declared.symbols.Outcome.TheVariants.{WhiteWins, BlackWins, Drawn}
 use Rattle.study_games.specs.declared.symbols.Said.{Said}
 use Rattle.study_games.specs.declared.symbols.Said.TheVariants as say
-use Rattle.study_import.specs.declared.game.aims.Aim.{Aim}
+use Rattle.study_reading.specs.declared.aims.Aim.{Aim}
 use Rattle.study_remark.specs.declared.remark.Source.{Source}
 use Rattle.study_remark.specs.declared.remark.Source.TheVariants.{Comment, StipulationTag, ResultTag, Result as EndResult, Given}
-use Rattle.study_import.specs.declared.game.notes.Notes.{Notes}
-use Rattle.study_import.specs.declared.game.aims.Sources.{Sources}
-use Rattle.study_import.specs.Aims.{Found, last_of_phrase, hero_of, goal_named, moves_named, says_moves, moves_counted, or_moves, moves_in}
-use Rattle.study_import.specs.Aims.{moves_behind_in, mate_goal, goal_or_mate}
-use Rattle.study_import.specs.Aims.{goal_in, goal_behind_and, goal_behind_play, or_goal, goal_after_to, goal_behind_to, goal_of_verb, verb_or_mate}
-use Rattle.study_import.specs.Aims.{goal_by_verb, goal_behind_hero, stipulation_by, aim_by, aim_in, says_win, says_draw, mate_sign, goal_of_sign}
-use Rattle.study_import.specs.Aims.{sign_or_mate, goal_signed_by, goal_signed, signed_by, or_stipulation, aim_stated, aim_of_outcome, from_source}
-use Rattle.study_import.specs.Aims.{or_aim, aim_of_result, unless_unread, first_aim, with_doubts, aim_by_sources}
-use Rattle.study_import.specs.Notes.{with_said, with_sign, with_token}
+use Rattle.study_reading.specs.declared.notes.Notes.{Notes}
+use Rattle.study_reading.specs.declared.aims.Sources.{Sources}
+use Rattle.study_reading.specs.Aims.{Found, last_of_phrase, hero_of, goal_named, moves_named, says_moves, moves_counted, or_moves, moves_in}
+use Rattle.study_reading.specs.Aims.{moves_behind_in, mate_goal, goal_or_mate}
+use Rattle.study_reading.specs.Aims.{goal_in, goal_behind_and, goal_behind_play, or_goal, goal_after_to, goal_behind_to, goal_of_verb, verb_or_mate}
+use Rattle.study_reading.specs.Aims.{goal_by_verb, goal_behind_hero, stipulation_by, aim_by, aim_in, says_win, says_draw, mate_sign, goal_of_sign}
+use Rattle.study_reading.specs.Aims.{sign_or_mate, goal_signed_by, goal_signed, signed_by, or_stipulation, aim_stated, aim_of_outcome, from_source}
+use Rattle.study_reading.specs.Aims.{or_aim, aim_of_result, unless_unread, first_aim, with_doubts, aim_by_sources}
+use Rattle.study_reading.specs.Notes.{with_said, with_sign, with_token}
 use Rattle.study_import.specs.Blocks.{tag_aim, sources_of, aim_of_game}
 use Rattle.study_import.specs.Laws.{IsCounted, IsGiven}
 

@@ -9,11 +9,11 @@ use Rattle.study_import.specs.declared.importer.Choice.{Choice}
 use Rattle.study_games.specs.Header.{tags_of, header_fault, value_of}
 use Rattle.study_games.specs.declared.language.Language.{Language}
 use Rattle.study_games.specs.declared.header.HeaderFault.{HeaderFault}
-use Rattle.study_import.specs.declared.game.aims.Aim.{Aim}
-use Rattle.study_import.specs.declared.game.aims.Sources.{Sources}
-use Rattle.study_import.specs.Aims.{aim_by_sources}
-use Rattle.study_import.specs.declared.game.movetext.MovesFault.{MovesFault}
-use Rattle.study_import.specs.Movetext.{Ended}
+use Rattle.study_reading.specs.declared.aims.Aim.{Aim}
+use Rattle.study_reading.specs.declared.aims.Sources.{Sources}
+use Rattle.study_reading.specs.Aims.{aim_by_sources}
+use Rattle.study_reading.specs.declared.movetext.MovesFault.{MovesFault}
+use Rattle.study_import.specs.FewMen.{Ended}
 use Rattle.study_import.specs.Blocks.{Block, Reported, reported_of, reported_up_to, no_study, left_out, sources_of, aim_of_game, aimed_block, stopped_block}
 use Rattle.study_import.specs.Blocks.{text_up_to, aimed_up_to, block_up_to, faulty_block, read_block, game_read, language_of, text_in}
 use Rattle.study_import.specs.Blocks.{fen_in, start_block, fen_block, repeated_name, single_block, header_block, block_of, tail_of, tail_line, under_remark, block_or_tail}

@@ -4,9 +4,9 @@ use Rattle.study_games.specs.Header.{tags_of, header_fault}
 use Rattle.study_import.specs.Blocks.{no_moves, game_read}
 use Rattle.study_import.specs.Laws.{AreWhole}
 use Rattle.study_import.proofs.Whole.{moves_same, tags_same, fault_same}
-use Rattle.study_import.specs.Movetext.{read_moves}
-use Rattle.study_import.specs.Behind.{moves_in, to_the_end}
-use Rattle.study_import.proofs.NoneBehind.{left_same, none_behind}
+use Rattle.study_import.specs.FewMen.{read_moves}
+use Rattle.study_reading.specs.Behind.{moves_in, to_the_end}
+use Rattle.study_reading.proofs.NoneBehind.{left_same, none_behind}
 use Rattle.study_import.proofs.TailFound.{tail_whole}
 
 pub are_whole : AreWhole

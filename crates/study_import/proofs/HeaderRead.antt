@@ -14,7 +14,7 @@ use Rattle.study_games.specs.Header.{Pair, Step, on, step_of, with_tags, tags_in
 use Rattle.study_games.specs.declared.token.TokenFault.TheVariants.{TagForm}
 use Rattle.study_games.specs.declared.header.HeaderFault.{HeaderFault}
 use Rattle.study_games.proofs.Lexing.{run_cut}
-use Rattle.study_import.specs.Notes.{GameRead, game_taken}
+use Rattle.study_import.specs.FewMen.{GameRead, game_taken}
 use Rattle.study_games.proofs.Within.{within_lexed}
 use Rattle.study_import.proofs.Whole.{within_step, same_tags, same_fault, tags_same, fault_same}
 use Rattle.study_import.proofs.ReadSteps.{reads, on_step}

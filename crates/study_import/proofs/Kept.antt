@@ -3,13 +3,13 @@ use Rattle.std.proofs.Common.{◌≡◌, ℕ, zero, suc, Bool, true, false, List
 use Rattle.std.specs.Prelude.{◌==◌, if◌then◌else◌}
 use Rattle.study_games.specs.Tokens.{Token, Lexed, lexed_token}
 use Rattle.study_games.specs.declared.token.TokenFault.{TokenFault}
-use Rattle.study_import.specs.declared.game.token_effects.Reason.{Reason}
-use Rattle.study_import.specs.declared.game.movetext.MovesFault.{MovesFault}
-use Rattle.study_import.specs.declared.game.movetext.Stop.{Stop}
-use Rattle.study_import.specs.declared.game.movetext.Stop.TheVariants as stop
-use Rattle.study_import.specs.Notes.{GameRead, GameTaken, game_taken}
-use Rattle.study_import.specs.declared.game.numbering.Numbering.{Numbering}
-use Rattle.study_import.specs.Movetext.{Ended, goes_on, game_numbered, with_numbering, on_numbered, on_token, fault_at, read_moves}
+use Rattle.study_reading.specs.declared.token_effects.Reason.{Reason}
+use Rattle.study_reading.specs.declared.movetext.MovesFault.{MovesFault}
+use Rattle.study_reading.specs.declared.movetext.Stop.{Stop}
+use Rattle.study_reading.specs.declared.movetext.Stop.TheVariants as stop
+use Rattle.study_reading.specs.declared.numbering.Numbering.{Numbering}
+use Rattle.study_reading.specs.Movetext.{goes_on, with_numbering}
+use Rattle.study_import.specs.FewMen.{GameRead, GameTaken, game_taken, Ended, game_numbered, on_numbered, on_token, fault_at, read_moves}
 
 module _ (P : GameRead → Type 0) (numbers : (g : GameRead) (s : Numbering) → P g → P (with_numbering g s))
     (step : (g : GameRead) (token : Token) (t : GameTaken) → P g → game_taken g token ≡ Ok t → P t.game) where

@@ -2,7 +2,6 @@ pub mod Spelt
 pub mod Claims
 pub mod Moved
 pub mod Played
-pub mod TokenByToken
 pub mod Counted
 pub mod Ended
 mod Apart
@@ -26,7 +25,6 @@ mod TagsTrimmed
 mod Soundness
 mod Placed
 mod Whole
-pub mod NoneBehind
 pub mod Numbers
 pub mod TailFound
 mod AllRead

@@ -24,21 +24,23 @@ use Rattle.study_games.specs.declared.symbols.Said.{Said}
 use Rattle.study_games.specs.declared.symbols.Said.TheVariants as say
 use Rattle.study_games.specs.Symbols.{said_of, san_in}
 use Rattle.study_games.specs.Tokens.{Token, Lexed, blank, aside, opening, closing, star, tag, comment, rest, sign, symbol, lexed_token}
-use Rattle.study_import.specs.declared.game.lines.LineFault.{LineFault}
-use Rattle.study_import.specs.declared.game.moves.MoveFault.{MoveFault}
-use Rattle.study_import.specs.declared.game.moves.MoveFault.TheVariants.{San as SanRefused, NoSuchNode}
-use Rattle.study_import.specs.declared.game.token_effects.Reason.{Reason}
-use Rattle.study_import.specs.declared.game.token_effects.Reason.TheVariants as reason
-use Rattle.study_import.specs.declared.game.movetext.MovesFault.{MovesFault}
-use Rattle.study_import.specs.declared.game.movetext.Stop.TheVariants as stop
-use Rattle.study_import.specs.Lines.{Lines, begin_line, end_line}
-use Rattle.study_import.specs.Moves.{After, child_or_added, moved_by, after_san, after_move_text}
-use Rattle.study_import.specs.Reading.{Reading, insert_line, gone_on, read_on, after_move, symbol_played}
-use Rattle.study_import.specs.Taken.{Taken, going_on, on_line, at_result, cut_line, at_null_move, on_move, taken_symbol, taken_sign, after_token}
-use Rattle.study_import.specs.declared.game.notes.Notes.{Notes}
-use Rattle.study_import.specs.Notes.{GameRead, GameTaken, is_header_tag, noted_on, placed_or, with_signs, signs_noted, game_taken}
-use Rattle.study_import.specs.declared.game.numbering.Numbering.{Numbering}
-use Rattle.study_import.specs.Movetext.{Ended, at_end, goes_on, game_numbered, with_numbering, on_numbered, on_token, fault_at, read_moves}
+use Rattle.study_reading.specs.declared.lines.LineFault.{LineFault}
+use Rattle.study_reading.specs.declared.moves.MoveFault.{MoveFault}
+use Rattle.study_reading.specs.declared.moves.MoveFault.TheVariants.{San as SanRefused, NoSuchNode}
+use Rattle.study_reading.specs.declared.token_effects.Reason.{Reason}
+use Rattle.study_reading.specs.declared.token_effects.Reason.TheVariants as reason
+use Rattle.study_reading.specs.declared.movetext.MovesFault.{MovesFault}
+use Rattle.study_reading.specs.declared.movetext.Stop.TheVariants as stop
+use Rattle.study_reading.specs.Lines.{Lines, begin_line, end_line}
+use Rattle.study_import.specs.Moves.{After, child_or_added, moved_by, after_san, after_move_text, insert_line}
+use Rattle.study_reading.specs.Taken.{going_on, on_line, at_result, cut_line, at_null_move, on_move, taken_sign}
+use Rattle.study_reading.specs.declared.notes.Notes.{Notes}
+use Rattle.study_reading.specs.Notes.{is_header_tag, noted_on, placed_or}
+use Rattle.study_reading.specs.declared.numbering.Numbering.{Numbering}
+use Rattle.study_reading.specs.Movetext.{at_end, goes_on, with_numbering}
+use Rattle.study_reading.specs.Reading.{after_move as after_move_by, symbol_played as symbol_played_by}
+use Rattle.study_import.specs.FewMen.{Reading, gone_on, read_on, after_move, symbol_played, Taken, taken_symbol, after_token, GameRead, GameTaken}
+use Rattle.study_import.specs.FewMen.{with_signs, signs_noted, game_taken, Ended, game_numbered, on_numbered, on_token, fault_at, read_moves}
 use Rattle.study_import.specs.Insertions.{Insertion, made_by, AllAccepted, lines_for, Leads}
 
 -- ---- lists of insertions
@@ -142,7 +144,7 @@ module _ (A : Type 0) where
   read_leads r now (Ok a) f e = let is : gone_on r a ≡ now = cc in subst (λ (z : Reading). Leads A r z) is (f a refl)
 
   played_leads : (r now : Reading) (san : List ℕ) → after_move r san ≡ Ok now → Leads A r now
-  unfolding after_move
+  unfolding after_move_by
   played_leads r now san e = read_leads r now (after_move_text r.study r.lines.path san) (moved_leads r san) e
 
   symbol_by : (r now : Reading) (san : List ℕ) (cut long prints : Bool)
@@ -154,7 +156,7 @@ module _ (A : Type 0) where
   symbol_by r now san false false false e = absurd cc
 
   symbol_leads : (r now : Reading) (text : List ℕ) → symbol_played r text ≡ Ok now → Leads A r now
-  unfolding symbol_played
+  unfolding symbol_played_by
   symbol_leads r now text e = symbol_by r now (san_in text) (nat_le 1 r.lines.cut) (nat_lt 32 (length text)) (list_all is_printable (san_in text)) e
 
   -- ---- a token

@@ -14,10 +14,10 @@ use Rattle.study_marks.specs.declared.refusal.Refusal.{Refusal}
 use Rattle.study_marks.specs.declared.refusal.Refusal.TheVariants as refusal
 use Rattle.study_marks.specs.Queries.{IsOutside}
 use Rattle.study_marks.specs.Edits.{PlainStudy, with_insertion, insert_refusal, there}
-use Rattle.study_import.specs.declared.game.moves.MoveFault.{MoveFault}
-use Rattle.study_import.specs.declared.game.moves.MoveFault.TheVariants.{TooDeep, TreeFull}
-use Rattle.study_import.specs.declared.game.moves.MoveFault.TheVariants.{San, NoSuchNode}
-use Rattle.study_import.specs.declared.game.moves.Step.{Step}
+use Rattle.study_reading.specs.declared.moves.MoveFault.{MoveFault}
+use Rattle.study_reading.specs.declared.moves.MoveFault.TheVariants.{TooDeep, TreeFull}
+use Rattle.study_reading.specs.declared.moves.MoveFault.TheVariants.{San, NoSuchNode}
+use Rattle.study_reading.specs.declared.moves.Step.{Step}
 use Rattle.study_import.specs.Moves.{After, child_or_added, moved_by, after_move_text, after_san, Comes}
 use Rattle.study_notation.specs.declared.fault.SanFault.{SanFault}
 use Rattle.study_notation.specs.Matching.{move_of}

@@ -21,27 +21,13 @@ use Rattle.study_notation.specs.Fen.{is_digit, digits_parsed}
 use Rattle.study_notation.specs.StartAfter.{number_after, start_after}
 use Rattle.study_pgn.specs.Moves.{move_dots}
 use Rattle.study_games.specs.Bytes.{is_blank, begins_symbol}
-use Rattle.study_import.specs.declared.game.numbering.MoveNumber.{MoveNumber}
-use Rattle.study_import.specs.declared.game.numbering.Numbering.{Numbering}
+use Rattle.study_reading.specs.declared.numbering.MoveNumber.{MoveNumber}
+use Rattle.study_reading.specs.declared.numbering.Numbering.{Numbering}
 use Rattle.study_games.proofs.Lexing.{no_ellipsis}
-use Rattle.study_import.specs.Numbering.{has_dot, has_dots, black_moves, is_black_to_move, numbers_fit, with_number, digits_numbered}
+use Rattle.study_reading.specs.Numbering.{has_dot, has_dots, black_moves, is_black_to_move, numbers_fit, with_number, digits_numbered}
 use Rattle.study_import.proofs.Blanks.{IsGap}
 
 -- ---- digits
-
-pow_up : (k i : ℕ) → i ≤ k → 10 ^ i ≤ 10 ^ k
-pow_up zero i l = let e : i ≡ 0 = omega (arith, l) in subst (λ n. 10 ^ n ≤ 10 ^ 0) (sym e) (omega arith)
-pow_up (suc k) i l = elim (cases_lt i (suc k)) [
-  | inl less ↦
-      let low : i ≤ k = omega (arith, less) in
-      let h = pow_up k i low in
-      let up : 10 ^ k ≤ 10 ^ (k + 1) = (let e = pow_more 10 k in omega (arith, e)) in
-      omega (arith, h, up)
-  | inr g ↦ (let e : i ≡ suc k = omega (arith, l, g) in subst (λ n. 10 ^ n ≤ 10 ^ suc k) (sym e) (omega arith))
-]
-
-pub eight_digits : (i : ℕ) → i ≤ 8 → 10 ^ i ≤ 100000000
-eight_digits i l = pow_up 8 i l
 
 digit_from : (c : ℕ) → digit_value c < 10 → is_digit c ≡ true
 digit_from c lt = grind (arith, nat_tests)

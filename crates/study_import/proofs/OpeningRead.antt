@@ -18,7 +18,7 @@ use Rattle.study_games.specs.Bytes.{is_blank}
 use Rattle.study_games.specs.Words.{is_inked, begun_word, first_word}
 use Rattle.study_games.specs.Tokens.{behind}
 use Rattle.study_games.proofs.Lexing.{run_cut}
-use Rattle.study_import.specs.Aims.{ends_clause, ends_phrase, last_of_phrase, hero_of, goal_named, goal_or_mate, goal_in, aim_in, begins_clause}
+use Rattle.study_reading.specs.Aims.{ends_clause, ends_phrase, last_of_phrase, hero_of, goal_named, goal_or_mate, goal_in, aim_in, begins_clause}
 use Rattle.study_import.specs.Laws.{IsCounted}
 use Rattle.study_import.proofs.Ink.{Ink, ink_of, ink_append, decimal_ink}
 use Rattle.study_import.proofs.PathAgain.{number_parsed}

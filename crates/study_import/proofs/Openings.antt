@@ -2,11 +2,10 @@
 use Rattle.std.proofs.Common.{◌≡◌, ℕ, Bool, true, false, List, length, Result, Ok, Err, subst, refl}
 use Rattle.std.specs.Prelude.{◌==◌, not, nat_le, if◌then◌else◌}
 use Rattle.study_games.specs.Tokens.{Token}
-use Rattle.study_import.specs.declared.game.token_effects.Reason.{Reason}
-use Rattle.study_import.specs.declared.game.notes.Notes.{Notes}
-use Rattle.study_import.specs.Taken.{Taken, after_token}
-use Rattle.study_import.specs.Notes.{GameRead, GameTaken, with_token, noted_on, is_header_tag, misplaced, placed_or, with_signs, signs_noted, game_taken}
-use Rattle.study_import.specs.Movetext.{Ended, read_moves}
+use Rattle.study_reading.specs.declared.token_effects.Reason.{Reason}
+use Rattle.study_reading.specs.declared.notes.Notes.{Notes}
+use Rattle.study_reading.specs.Notes.{with_token, noted_on, is_header_tag, misplaced, placed_or}
+use Rattle.study_import.specs.FewMen.{Taken, after_token, GameRead, GameTaken, with_signs, signs_noted, game_taken, Ended, read_moves}
 use Rattle.study_import.proofs.AimsCounted.{IsNoted, opening_noted}
 use Rattle.study_import.proofs.Kept.{kept}
 

@@ -20,26 +20,27 @@ use Rattle.study_games.specs.declared.symbols.Said.{Said}
 use Rattle.study_games.specs.declared.symbols.Said.TheVariants as say
 use Rattle.study_games.specs.Symbols.{said_of, san_in}
 use Rattle.study_games.specs.Tokens.{Token, blank, aside, opening, closing, star, tag, comment, rest, sign, symbol}
-use Rattle.study_import.specs.declared.game.lines.Waiting.{Waiting}
-use Rattle.study_import.specs.declared.game.lines.LineFault.{LineFault}
-use Rattle.study_import.specs.declared.game.lines.LineFault.TheVariants as line_fault
-use Rattle.study_import.specs.declared.game.moves.MoveFault.{MoveFault}
-use Rattle.study_import.specs.declared.game.moves.MoveFault.TheVariants as move_fault
-use Rattle.study_import.specs.declared.game.notes.Notes.{Notes}
-use Rattle.study_import.specs.declared.game.token_effects.Reason.{Reason}
-use Rattle.study_import.specs.declared.game.token_effects.Reason.TheVariants as reason
-use Rattle.study_import.specs.declared.game.movetext.Stop.TheVariants as stop
-use Rattle.study_import.specs.Lines.{Lines, lines_in_variation, begin_line, lines_after_variation, end_line}
+use Rattle.study_reading.specs.declared.lines.Waiting.{Waiting}
+use Rattle.study_reading.specs.declared.lines.LineFault.{LineFault}
+use Rattle.study_reading.specs.declared.lines.LineFault.TheVariants as line_fault
+use Rattle.study_reading.specs.declared.moves.MoveFault.{MoveFault}
+use Rattle.study_reading.specs.declared.moves.MoveFault.TheVariants as move_fault
+use Rattle.study_reading.specs.declared.notes.Notes.{Notes}
+use Rattle.study_reading.specs.declared.token_effects.Reason.{Reason}
+use Rattle.study_reading.specs.declared.token_effects.Reason.TheVariants as reason
+use Rattle.study_reading.specs.declared.movetext.Stop.TheVariants as stop
+use Rattle.study_reading.specs.Lines.{Lines, lines_in_variation, begin_line, lines_after_variation, end_line}
 use Rattle.study_import.specs.Moves.{After, child_or_added, moved_by, after_san, after_move_text}
-use Rattle.study_import.specs.Reading.{Reading, gone_on, read_on, after_move, symbol_played}
-use Rattle.study_import.specs.Taken.{Taken, going_on, on_line, cut_line, on_move, taken_symbol, taken_sign, after_token}
-use Rattle.study_import.specs.Notes.{GameRead, GameTaken, is_header_tag, with_token, noted_on, game_taken}
-use Rattle.study_import.specs.Notes.{said_misplaced, misplaced, placed_or, signs_noted}
+use Rattle.study_reading.specs.Taken.{going_on, on_line, cut_line, on_move, taken_sign}
+use Rattle.study_reading.specs.Notes.{is_header_tag, with_token, noted_on}
+use Rattle.study_reading.specs.Notes.{said_misplaced, misplaced, placed_or}
 use Rattle.study_import.specs.Blocks.{no_moves, game_read}
 use Rattle.study_import.specs.Laws.{IsListed, AreListed}
-use Rattle.study_import.specs.Movetext.{read_moves}
+use Rattle.study_reading.specs.Reading.{after_move as after_move_by, symbol_played as symbol_played_by}
+use Rattle.study_import.specs.FewMen.{Reading, gone_on, read_on, after_move, symbol_played, Taken, taken_symbol, after_token, GameRead, GameTaken}
+use Rattle.study_import.specs.FewMen.{game_taken, signs_noted, read_moves}
 use Rattle.study_import.proofs.Kept.{stops}
-use Rattle.study_import.proofs.NoneBehind.{stops_at_end}
+use Rattle.study_reading.proofs.NoneBehind.{stops_at_end}
 
 abbrev Plain : Type 0
 Plain = Forest (Unit {0})
@@ -186,7 +187,7 @@ on_ok r (Ok a) h = h
 on_ok r (Err fault) h = h
 
 played_ok : (r : Reading) (san : List ℕ) → IsPlaced r → ReadOk (after_move r san)
-unfolding after_move
+unfolding after_move_by
 played_ok r san h = on_ok r (after_move_text r.study r.lines.path san) (moved_ok r san h)
 
 symbol_by : (r : Reading) (san : List ℕ) (cut long prints : Bool) → IsPlaced r
@@ -198,7 +199,7 @@ symbol_by r san false false true h = played_ok r san h
 symbol_by r san false false false h = tt
 
 symbol_ok : (r : Reading) (text : List ℕ) → IsPlaced r → ReadOk (symbol_played r text)
-unfolding symbol_played
+unfolding symbol_played_by
 symbol_ok r text h = symbol_by r (san_in text) (nat_le 1 r.lines.cut) (nat_lt 32 (length text)) (list_all is_printable (san_in text)) h
 
 -- ---- lines

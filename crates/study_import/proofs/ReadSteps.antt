@@ -20,22 +20,24 @@ use Rattle.study_games.specs.declared.symbols.Said.TheVariants as say
 use Rattle.study_games.specs.Symbols.{said_of, san_in}
 use Rattle.study_games.specs.Tokens.{Token, Lexed, lexed_token, behind, is_inside, lexed_comment, comment_at, blank, aside, opening, closing, comment, symbol}
 use Rattle.study_games.proofs.Lexing.{Stops, run_cut, is_plain_symbol, symbol_read}
-use Rattle.study_import.specs.declared.game.lines.Waiting.{Waiting}
-use Rattle.study_import.specs.declared.game.lines.LineFault.{LineFault}
-use Rattle.study_import.specs.declared.game.moves.MoveFault.{MoveFault}
-use Rattle.study_import.specs.declared.game.notes.Notes.{Notes}
-use Rattle.study_import.specs.declared.game.token_effects.Reason.{Reason}
-use Rattle.study_import.specs.declared.game.movetext.MovesFault.{MovesFault}
-use Rattle.study_import.specs.Lines.{Lines, begin_line, end_line}
+use Rattle.study_reading.specs.declared.lines.Waiting.{Waiting}
+use Rattle.study_reading.specs.declared.lines.LineFault.{LineFault}
+use Rattle.study_reading.specs.declared.moves.MoveFault.{MoveFault}
+use Rattle.study_reading.specs.declared.notes.Notes.{Notes}
+use Rattle.study_reading.specs.declared.token_effects.Reason.{Reason}
+use Rattle.study_reading.specs.declared.movetext.MovesFault.{MovesFault}
+use Rattle.study_reading.specs.Lines.{Lines, begin_line, end_line}
 use Rattle.study_import.specs.Moves.{after_move_text, moved_by}
-use Rattle.study_import.specs.Reading.{Reading, after_move, symbol_played}
-use Rattle.study_import.specs.Taken.{on_line, on_move, taken_symbol}
-use Rattle.study_import.specs.Notes.{GameRead, GameTaken, after_header, with_aside, with_comment, with_move, with_said, noted_on, token_taken, game_taken}
-use Rattle.study_import.specs.Notes.{said_misplaced, placed_or, is_wrong_said, more_if, with_signs, signs_noted}
-use Rattle.study_import.specs.declared.game.token_effects.Reason.TheVariants as reason
-use Rattle.study_import.specs.declared.game.numbering.Numbering.{Numbering}
-use Rattle.study_import.specs.Numbering.{digits_numbered, said_numbered, token_numbered}
-use Rattle.study_import.specs.Movetext.{Ended, goes_on, game_numbered, with_numbering, on_numbered, on_token, read_moves}
+use Rattle.study_reading.specs.Taken.{on_line, on_move}
+use Rattle.study_reading.specs.Notes.{after_header, with_aside, with_comment, with_move, with_said, noted_on}
+use Rattle.study_reading.specs.Notes.{said_misplaced, placed_or, more_if}
+use Rattle.study_reading.specs.declared.token_effects.Reason.TheVariants as reason
+use Rattle.study_reading.specs.declared.numbering.Numbering.{Numbering}
+use Rattle.study_reading.specs.Numbering.{digits_numbered, said_numbered, token_numbered}
+use Rattle.study_reading.specs.Movetext.{goes_on, with_numbering}
+use Rattle.study_reading.specs.Reading.{after_move as after_move_by, symbol_played as symbol_played_by}
+use Rattle.study_import.specs.FewMen.{Reading, after_move, symbol_played, taken_symbol, GameRead, GameTaken, token_taken, game_taken, is_wrong_said}
+use Rattle.study_import.specs.FewMen.{with_signs, signs_noted, Ended, game_numbered, on_numbered, on_token, read_moves}
 use Rattle.study_games.proofs.Within.{within_lexed}
 use Rattle.study_import.proofs.Whole.{same_token, moves_same}
 use Rattle.study_import.proofs.Blanks.{IsGap}
@@ -268,7 +270,7 @@ module _ (s : PlainStudy) (path : List ℕ) (from : ℕ) (ws : List Waiting) (o 
 
   plays : (inserts text : List ℕ) (m : Move) → IsNew text m
       → Played (symbol_played (record { study = s; lines = record { path = path; begun = from; waiting = ws; cut = 0 }; inserts = inserts }) text) m
-  unfolding symbol_played after_move after_move_text moved_by
+  unfolding symbol_played_by after_move_by after_move_text moved_by
   plays inserts text m h =
       rw (le-ltb 32 (length text) h.few, h.prints, h.found, h.means, h.place, lt-leb 256 (length path) h.depth, lt-leb 4096 (size_of s.tree) h.room)
       (record { reading = _; is = refl; study = refl; lines = refl })

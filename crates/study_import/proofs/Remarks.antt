@@ -24,28 +24,28 @@ use Rattle.study_games.specs.Words.{first_word, trim}
 use Rattle.study_games.specs.Header.{Pair, tags_of, value_of, named_count, unescape}
 use Rattle.study_games.specs.declared.token.TokenFault.{TokenFault}
 use Rattle.study_games.specs.declared.token.TokenFault.TheVariants as token
-use Rattle.study_import.specs.declared.game.lines.LineFault.{LineFault}
-use Rattle.study_import.specs.declared.game.lines.LineFault.TheVariants as line_fault
-use Rattle.study_import.specs.declared.game.moves.MoveFault.{MoveFault}
-use Rattle.study_import.specs.declared.game.moves.MoveFault.TheVariants as move_fault
-use Rattle.study_import.specs.declared.game.token_effects.Reason.{Reason}
-use Rattle.study_import.specs.declared.game.token_effects.Reason.TheVariants as reason
-use Rattle.study_import.specs.declared.game.movetext.MovesFault.{MovesFault}
-use Rattle.study_import.specs.declared.game.movetext.Stop.{Stop}
-use Rattle.study_import.specs.declared.game.movetext.Stop.TheVariants as stop
+use Rattle.study_reading.specs.declared.lines.LineFault.{LineFault}
+use Rattle.study_reading.specs.declared.lines.LineFault.TheVariants as line_fault
+use Rattle.study_reading.specs.declared.moves.MoveFault.{MoveFault}
+use Rattle.study_reading.specs.declared.moves.MoveFault.TheVariants as move_fault
+use Rattle.study_reading.specs.declared.token_effects.Reason.{Reason}
+use Rattle.study_reading.specs.declared.token_effects.Reason.TheVariants as reason
+use Rattle.study_reading.specs.declared.movetext.MovesFault.{MovesFault}
+use Rattle.study_reading.specs.declared.movetext.Stop.{Stop}
+use Rattle.study_reading.specs.declared.movetext.Stop.TheVariants as stop
 use Rattle.study_remark.specs.declared.remark.Doubt.{Doubt}
 use Rattle.study_remark.specs.declared.remark.Doubt.TheVariants as doubt
 use Rattle.study_remark.specs.declared.remark.Original.{Original}
 use Rattle.study_remark.specs.declared.remark.Original.TheVariants as original
 use Rattle.study_remark.specs.Remarks as told
-use Rattle.study_import.specs.declared.game.aims.Aim.{Aim}
-use Rattle.study_import.specs.declared.game.aims.Doubts.{Doubts}
+use Rattle.study_reading.specs.declared.aims.Aim.{Aim}
+use Rattle.study_reading.specs.declared.aims.Doubts.{Doubts}
 use Rattle.study_remark.specs.declared.remark.Source.{Source}
 use Rattle.study_remark.specs.declared.remark.Source.TheVariants.{Comment, StipulationTag, ResultTag, Result as EndResult, Given}
-use Rattle.study_import.specs.declared.game.notes.Notes.{Notes}
+use Rattle.study_reading.specs.declared.notes.Notes.{Notes}
 use Rattle.study_import.specs.declared.places.Place.{Place}
-use Rattle.study_import.specs.declared.game.aims.Sources.{Sources}
-use Rattle.study_import.specs.Aims.{unaimed_words}
+use Rattle.study_reading.specs.declared.aims.Sources.{Sources}
+use Rattle.study_reading.specs.Aims.{unaimed_words}
 use Rattle.study_import.specs.Blocks.{Entry, Reported, place_in, text_at, token_name, move_name, line_name, reason_name, stop_name, run_words}
 use Rattle.study_import.specs.Blocks.{stop_words, subject_at, not_read_line, symbol_words, name_of, quoted, entry_names, no_colon, told_words, left_out, fault_words, counts_words, counts_line, doubt_line, doubt_lines, source_line, original_named}
 use Rattle.study_import.specs.Blocks.{move_counts, counted_words, behind_line, six_names, remark_byte, tag_text, was_text, latin_line, was_of, was_line, head_line, letters_line}

@@ -45,18 +45,19 @@ use Rattle.study_games.specs.declared.symbols.Outcome.{Outcome}
 use Rattle.study_games.specs.declared.symbols.Outcome.TheVariants.{WhiteWins, BlackWins, Drawn}
 use Rattle.study_games.specs.declared.symbols.Said.TheVariants as say
 use Rattle.study_games.proofs.Lexing.{Stops, is_plain_symbol, symbol_read}
-use Rattle.study_import.specs.declared.game.token_effects.Reason.{Reason}
-use Rattle.study_import.specs.declared.game.movetext.MovesFault.{MovesFault}
+use Rattle.study_reading.specs.declared.token_effects.Reason.{Reason}
+use Rattle.study_reading.specs.declared.movetext.MovesFault.{MovesFault}
 use Rattle.study_remark.specs.declared.remark.Source.TheVariants.{Comment}
-use Rattle.study_import.specs.Aims.{aim_in, outcome_wanted, doubts_of, aim_by_sources}
-use Rattle.study_import.specs.Lines.{Lines}
-use Rattle.study_import.specs.declared.game.notes.Notes.{Notes}
-use Rattle.study_import.specs.Notes.{GameRead, GameTaken, none_yet, with_comment, with_result, game_taken}
-use Rattle.study_import.specs.declared.game.numbering.Numbering.{Numbering}
-use Rattle.study_import.specs.Numbering.{said_numbered}
+use Rattle.study_reading.specs.Aims.{aim_in, outcome_wanted, doubts_of, aim_by_sources}
+use Rattle.study_reading.specs.Lines.{Lines}
+use Rattle.study_reading.specs.declared.notes.Notes.{Notes}
+use Rattle.study_reading.specs.Notes.{none_yet, with_comment, with_result}
+use Rattle.study_reading.specs.declared.numbering.Numbering.{Numbering}
+use Rattle.study_reading.specs.Numbering.{said_numbered}
 use Rattle.study_games.specs.declared.language.Language.{Language}
-use Rattle.study_import.specs.Movetext.{Ended, goes_on, on_numbered, on_token}
-use Rattle.study_import.specs.Behind.{moves_or, moves_left, moves_in, ended_unless, to_the_end}
+use Rattle.study_reading.specs.Movetext.{goes_on}
+use Rattle.study_import.specs.FewMen.{GameRead, GameTaken, game_taken, Ended, on_numbered, on_token}
+use Rattle.study_reading.specs.Behind.{moves_or, moves_left, moves_in, ended_unless, to_the_end}
 use Rattle.study_import.specs.Blocks.{no_moves, game_read, fen_in, printable_byte, tag_text, tag_value_text, text_or_unknown as import_text, sources_of, aim_of_game}
 use Rattle.study_import.specs.Blocks.{repeated_name, language_by, language_of, text_in}
 use Rattle.study_import.specs.Imported.{all_games}

@@ -35,11 +35,11 @@ use Rattle.study_import.specs.declared.importer.Choice.{Choice}
 use Rattle.study_import.specs.Imported.{no_game, script_of}
 use Rattle.study_games.specs.Header.{Pair, tags_of, header_fault, value_of}
 use Rattle.study_games.specs.declared.header.HeaderFault.{HeaderFault}
-use Rattle.study_import.specs.declared.game.aims.Aim.{Aim}
-use Rattle.study_import.specs.declared.game.movetext.MovesFault.{MovesFault}
+use Rattle.study_reading.specs.declared.aims.Aim.{Aim}
+use Rattle.study_reading.specs.declared.movetext.MovesFault.{MovesFault}
 use Rattle.study_games.specs.declared.language.Language.{Language}
-use Rattle.study_import.specs.Movetext.{Ended, read_moves}
-use Rattle.study_import.specs.Reading.{insert_line}
+use Rattle.study_import.specs.FewMen.{Ended, read_moves}
+use Rattle.study_import.specs.Moves.{insert_line}
 use Rattle.study_import.specs.Insertions.{Insertion, made_by, AllAccepted, AllReadAgain, lines_for}
 use Rattle.study_import.specs.Blocks.{Entry, Block, no_study, left_out, token_name, Reported, reported_of, head_line, remark_lines, position_line}
 use Rattle.study_import.specs.Blocks.{stipulation_line, tag_line, tag_value_text, six_names, study_lines, block_lines, sources_of, aim_of_game, aimed_block}
@@ -61,7 +61,7 @@ use Rattle.study_import.proofs.PathAgain.{path_again}
 use Rattle.study_import.proofs.Narrow.{IsOpen, IsNarrow, is_open, narrow_inserted, open_few}
 use Rattle.study_import.proofs.TextAgain.{valid_along, read_again}
 use Rattle.study_import.proofs.Made.{moves_lead}
-use Rattle.study_import.proofs.NoneBehind.{end_is}
+use Rattle.study_reading.proofs.NoneBehind.{end_is}
 use Rattle.study_import.proofs.TagsTaken.{taken}
 use Rattle.study_import.proofs.TagsTrimmed.{text_trimmed, text_prints, text_few}
 use Rattle.study_import.proofs.AimsCounted.{aim_counted}

@@ -3,8 +3,8 @@ use Rattle.std.proofs.Common.{◌≡◌, List, ℕ, Bool, Option, Some, None, Re
 use Rattle.study_notation.specs.declared.start.Start.{Start}
 use Rattle.study_import.specs.declared.importer.Choice.{Choice}
 use Rattle.study_games.specs.declared.language.Language.{Language}
-use Rattle.study_import.specs.declared.game.movetext.MovesFault.{MovesFault}
-use Rattle.study_import.specs.Movetext.{Ended}
+use Rattle.study_reading.specs.declared.movetext.MovesFault.{MovesFault}
+use Rattle.study_import.specs.FewMen.{Ended}
 use Rattle.study_import.specs.Blocks.{Entry, faulty_block, read_block, game_read, language_by, language_of, moves_block}
 use Rattle.study_import.specs.BlocksRead.{Adds}
 

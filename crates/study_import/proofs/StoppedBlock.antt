@@ -6,14 +6,14 @@ use Rattle.std.proofs.lemmas.Result.{IfOk-from_err}
 use Rattle.study_notation.specs.declared.start.Start.{Start}
 use Rattle.study_import.specs.declared.importer.Choice.{Choice}
 use Rattle.study_games.specs.declared.language.Language.{Language}
-use Rattle.study_import.specs.declared.game.lines.LineFault.TheVariants as line_fault
-use Rattle.study_import.specs.declared.game.moves.MoveFault.TheVariants as move_fault
-use Rattle.study_import.specs.declared.game.token_effects.Reason.TheVariants as reason
-use Rattle.study_import.specs.declared.game.movetext.MovesFault.{MovesFault}
-use Rattle.study_import.specs.declared.game.movetext.Stop.{Stop}
-use Rattle.study_import.specs.declared.game.movetext.Stop.TheVariants as stop
-use Rattle.study_import.specs.Movetext.{Ended}
-use Rattle.study_import.specs.MovesRead.{IsReported}
+use Rattle.study_reading.specs.declared.lines.LineFault.TheVariants as line_fault
+use Rattle.study_reading.specs.declared.moves.MoveFault.TheVariants as move_fault
+use Rattle.study_reading.specs.declared.token_effects.Reason.TheVariants as reason
+use Rattle.study_reading.specs.declared.movetext.MovesFault.{MovesFault}
+use Rattle.study_reading.specs.declared.movetext.Stop.{Stop}
+use Rattle.study_reading.specs.declared.movetext.Stop.TheVariants as stop
+use Rattle.study_import.specs.FewMen.{Ended}
+use Rattle.study_reading.specs.MovesRead.{IsReported}
 use Rattle.study_import.specs.Blocks.{Entry, faulty_block, read_block}
 use Rattle.study_import.specs.BlocksRead.{is_of_memory, Adds}
 

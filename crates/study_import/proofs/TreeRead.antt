@@ -35,8 +35,8 @@ use Rattle.study_games.specs.Symbols.{said_of, san_in}
 use Rattle.study_games.specs.declared.symbols.Said.TheVariants as say
 use Rattle.study_games.specs.Tokens.{is_inside}
 use Rattle.study_games.proofs.Lexing.{Stops, symbol_digit, is_plain_symbol}
-use Rattle.study_import.specs.declared.game.lines.Waiting.{Waiting}
-use Rattle.study_import.specs.Notes.{GameRead}
+use Rattle.study_reading.specs.declared.lines.Waiting.{Waiting}
+use Rattle.study_import.specs.FewMen.{GameRead}
 use Rattle.study_import.specs.Written.{without_marks}
 use Rattle.study_import.proofs.Ink.{Ink, ink_of, decimal_ink}
 use Rattle.study_import.proofs.Spelling.{move_short}
@@ -45,8 +45,8 @@ use Rattle.study_import.proofs.SanSymbols.{symbol_is, symbol_said, symbol_move, 
 use Rattle.study_import.proofs.TreeHoles.{Plain, put, put_has, put_here, put_way, put_width, put_place, put_moves, put_last, put_put, put_nodes}
 use Rattle.study_import.proofs.TreeHoles.{position_on, beside, beside_assoc, beside_none, last_put, last_has, last_is, last_moves, last_nodes}
 use Rattle.study_import.proofs.TreeHoles.{beside_nodes, beside_place, first_put, first_beside}
-use Rattle.study_import.specs.declared.game.numbering.Numbering.{Numbering}
-use Rattle.study_import.specs.Numbering.{has_dot}
+use Rattle.study_reading.specs.declared.numbering.Numbering.{Numbering}
+use Rattle.study_reading.specs.Numbering.{has_dot}
 use Rattle.study_import.proofs.Numbers.{IsFirst, Fits, Counted, counted_on, no_dot, number_fits}
 use Rattle.study_import.proofs.ReadSteps.{At, Reached, reached_on, gap_step, dot_step, number_step, glyph_step, comment_step, IsNew, move_step}
 use Rattle.study_import.proofs.ReadSteps.{open_step, close_step, decimal_digits, decimal_some}

@@ -8,12 +8,12 @@ use Rattle.study_games.specs.Tokens.{Token, Lexed, behind}
 use Rattle.study_games.specs.Tokens.{lexed_token, blank}
 use Rattle.study_games.specs.Tokens.{aside, opening, closing, star, tag, comment, rest, sign, symbol}
 use Rattle.study_games.specs.Header.{Pair, Step, on, no_tag, ended, step_of, with_tags, tags_in, with_fault, fault_in}
-use Rattle.study_import.specs.declared.game.token_effects.Reason.{Reason}
-use Rattle.study_import.specs.declared.game.movetext.MovesFault.{MovesFault}
+use Rattle.study_reading.specs.declared.token_effects.Reason.{Reason}
+use Rattle.study_reading.specs.declared.movetext.MovesFault.{MovesFault}
 use Rattle.study_games.proofs.Within.{Within, within_lexed}
-use Rattle.study_import.specs.Notes.{GameRead, GameTaken, game_taken}
-use Rattle.study_import.specs.declared.game.numbering.Numbering.{Numbering}
-use Rattle.study_import.specs.Movetext.{Ended, goes_on, game_numbered, with_numbering, on_numbered, on_token, read_moves}
+use Rattle.study_reading.specs.declared.numbering.Numbering.{Numbering}
+use Rattle.study_reading.specs.Movetext.{goes_on, with_numbering}
+use Rattle.study_import.specs.FewMen.{GameRead, GameTaken, game_taken, Ended, game_numbered, on_numbered, on_token, read_moves}
 
 -- ---- moves
 

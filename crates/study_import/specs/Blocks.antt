@@ -41,29 +41,29 @@ use Rattle.study_remark.specs.declared.remark.Doubt.TheVariants as doubt
 use Rattle.study_remark.specs.declared.remark.Original.{Original}
 use Rattle.study_remark.specs.declared.remark.Original.TheVariants as original
 use Rattle.study_remark.specs.Remarks as told
-use Rattle.study_import.specs.declared.game.lines.LineFault.{LineFault}
-use Rattle.study_import.specs.declared.game.lines.LineFault.TheVariants as line_fault
-use Rattle.study_import.specs.declared.game.moves.MoveFault.{MoveFault}
-use Rattle.study_import.specs.declared.game.moves.MoveFault.TheVariants as move_fault
-use Rattle.study_import.specs.declared.game.token_effects.Reason.{Reason}
-use Rattle.study_import.specs.declared.game.token_effects.Reason.TheVariants as reason
-use Rattle.study_import.specs.declared.game.movetext.MovesFault.{MovesFault}
-use Rattle.study_import.specs.declared.game.movetext.Stop.{Stop}
-use Rattle.study_import.specs.declared.game.movetext.Stop.TheVariants as stop
-use Rattle.study_import.specs.declared.game.aims.Aim.{Aim}
-use Rattle.study_import.specs.declared.game.aims.Doubts.{Doubts}
-use Rattle.study_import.specs.declared.game.aims.Sources.{Sources}
-use Rattle.study_import.specs.declared.game.notes.Notes.{Notes}
+use Rattle.study_reading.specs.declared.lines.LineFault.{LineFault}
+use Rattle.study_reading.specs.declared.lines.LineFault.TheVariants as line_fault
+use Rattle.study_reading.specs.declared.moves.MoveFault.{MoveFault}
+use Rattle.study_reading.specs.declared.moves.MoveFault.TheVariants as move_fault
+use Rattle.study_reading.specs.declared.token_effects.Reason.{Reason}
+use Rattle.study_reading.specs.declared.token_effects.Reason.TheVariants as reason
+use Rattle.study_reading.specs.declared.movetext.MovesFault.{MovesFault}
+use Rattle.study_reading.specs.declared.movetext.Stop.{Stop}
+use Rattle.study_reading.specs.declared.movetext.Stop.TheVariants as stop
+use Rattle.study_reading.specs.declared.aims.Aim.{Aim}
+use Rattle.study_reading.specs.declared.aims.Doubts.{Doubts}
+use Rattle.study_reading.specs.declared.aims.Sources.{Sources}
+use Rattle.study_reading.specs.declared.notes.Notes.{Notes}
 use Rattle.study_import.specs.declared.block.Reported.{Reported as ReportedRead}
 use Rattle.study_import.specs.declared.counts.Count.{Count}
 use Rattle.study_import.specs.declared.importer.Choice.{Choice}
 use Rattle.study_import.specs.declared.places.Place.{Place}
 use Rattle.study_import.specs.declared.places.Entry.{Entry as EntryRead}
-use Rattle.study_import.specs.Aims.{or_stipulation, signed_by, aim_stated, is_unread_tag, outcome_of_tag, aim_by_sources, unaimed_words}
-use Rattle.study_import.specs.Notes.{GameRead, none_yet}
-use Rattle.study_import.specs.Taken.{reading_of}
-use Rattle.study_import.specs.Movetext.{Ended, read_moves}
-use Rattle.study_import.specs.Behind.{to_the_end}
+use Rattle.study_reading.specs.Aims.{or_stipulation, signed_by, aim_stated, is_unread_tag, outcome_of_tag, aim_by_sources, unaimed_words}
+use Rattle.study_reading.specs.Notes.{none_yet}
+use Rattle.study_reading.specs.Taken.{reading_of}
+use Rattle.study_import.specs.FewMen.{GameRead, Ended, read_moves}
+use Rattle.study_reading.specs.Behind.{to_the_end}
 use Rattle.study_import.specs.Tails.{Tail, position_text, tail_in}
 
 -- ---- places

@@ -1,10 +1,10 @@
 -- The result for a game.
 use Rattle.std.specs.Prelude.{◌≡◌, ℕ, Bool, true, false, List, ◌++◌, Result, Ok, Err}
-use Rattle.study_import.specs.declared.game.lines.LineFault.TheVariants as line_fault
-use Rattle.study_import.specs.declared.game.moves.MoveFault.TheVariants as move_fault
-use Rattle.study_import.specs.declared.game.token_effects.Reason.TheVariants as reason
-use Rattle.study_import.specs.declared.game.movetext.Stop.{Stop}
-use Rattle.study_import.specs.declared.game.movetext.Stop.TheVariants as stop
+use Rattle.study_reading.specs.declared.lines.LineFault.TheVariants as line_fault
+use Rattle.study_reading.specs.declared.moves.MoveFault.TheVariants as move_fault
+use Rattle.study_reading.specs.declared.token_effects.Reason.TheVariants as reason
+use Rattle.study_reading.specs.declared.movetext.Stop.{Stop}
+use Rattle.study_reading.specs.declared.movetext.Stop.TheVariants as stop
 use Rattle.study_import.specs.Blocks.{Block}
 
 -- want of memory

@@ -5,7 +5,8 @@ use Rattle.study_notation.specs.Matching.{move_of}
 use Rattle.study_notation.specs.SanSpelling.{move_text}
 use Rattle.study_marks.specs.Study.{position_at}
 use Rattle.study_marks.specs.Edits.{PlainStudy, with_insertion, insert_refusal}
-use Rattle.study_import.specs.Reading.{Reading, insert_line}
+use Rattle.study_import.specs.Moves.{insert_line}
+use Rattle.study_import.specs.FewMen.{Reading}
 
 -- the path of a node, and the move that is inserted there
 abbrev pub Insertion : Type 0

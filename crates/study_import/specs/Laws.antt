@@ -20,15 +20,15 @@ use Rattle.study_import.specs.Blocks.{Tally, is_chosen, tally_with_game, reporte
 use Rattle.study_import.specs.Blocks.{Block, block_lines, fault_line}
 use Rattle.study_import.specs.Blocks.{tail_of, tail_line, under_remark, block_by}
 use Rattle.study_import.specs.Insertions.{Leads, AllReadAgain}
-use Rattle.study_import.specs.declared.game.aims.Aim.{Aim}
-use Rattle.study_import.specs.declared.game.lines.LineFault.TheVariants as line_fault
-use Rattle.study_import.specs.declared.game.moves.MoveFault.TheVariants as move_fault
-use Rattle.study_import.specs.declared.game.token_effects.Reason.TheVariants as reason
-use Rattle.study_import.specs.declared.game.movetext.MovesFault.{MovesFault}
-use Rattle.study_import.specs.declared.game.movetext.Stop.{Stop}
-use Rattle.study_import.specs.declared.game.movetext.Stop.TheVariants as stop
-use Rattle.study_import.specs.Movetext.{Ended, read_moves}
-use Rattle.study_import.specs.Behind.{moves_left, moves_in, to_the_end}
+use Rattle.study_reading.specs.declared.aims.Aim.{Aim}
+use Rattle.study_reading.specs.declared.lines.LineFault.TheVariants as line_fault
+use Rattle.study_reading.specs.declared.moves.MoveFault.TheVariants as move_fault
+use Rattle.study_reading.specs.declared.token_effects.Reason.TheVariants as reason
+use Rattle.study_reading.specs.declared.movetext.MovesFault.{MovesFault}
+use Rattle.study_reading.specs.declared.movetext.Stop.{Stop}
+use Rattle.study_reading.specs.declared.movetext.Stop.TheVariants as stop
+use Rattle.study_import.specs.FewMen.{Ended, read_moves}
+use Rattle.study_reading.specs.Behind.{moves_left, moves_in, to_the_end}
 use Rattle.study_import.specs.Imported.{no_game, script_of, tally_of}
 use Rattle.study_import.specs.Tails.{Tail, tail_from, not_begun, tail_in}
 use Rattle.study_import.specs.Meant.{study_by}

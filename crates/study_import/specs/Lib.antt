@@ -1,13 +1,5 @@
-pub mod Lines
 pub mod Moves
-pub mod Reading
-pub mod Taken
-pub mod Aims
-pub mod Numbering
-pub mod Notes
-pub mod Movetext
-pub mod MovesRead
-pub mod Behind
+pub mod FewMen
 pub mod Tails
 pub mod Masks
 pub mod Blocks

@@ -8,9 +8,9 @@ use Rattle.study_marks.specs.Study.{tag_name}
 use Rattle.study_marks.specs.Edits.{PlainStudy}
 use Rattle.study_games.specs.Header.{Pair, tags_of, header_fault, value_of}
 use Rattle.study_games.specs.declared.header.HeaderFault.{HeaderFault}
-use Rattle.study_import.specs.declared.game.aims.Aim.{Aim}
-use Rattle.study_import.specs.declared.game.movetext.MovesFault.{MovesFault}
-use Rattle.study_import.specs.Movetext.{Ended}
+use Rattle.study_reading.specs.declared.aims.Aim.{Aim}
+use Rattle.study_reading.specs.declared.movetext.MovesFault.{MovesFault}
+use Rattle.study_import.specs.FewMen.{Ended}
 use Rattle.study_import.specs.declared.importer.Choice.{Choice}
 use Rattle.study_import.specs.Tails.{Tail, position_text}
 use Rattle.study_import.specs.Blocks.{six_names, tag_value_text, aim_of_game, repeated_name, game_read, text_up_to, language_of, text_in, fen_in, tail_of}

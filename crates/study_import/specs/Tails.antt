@@ -22,7 +22,7 @@ use Rattle.study_import.specs.declared.tails.Act.{Act}
 use Rattle.study_import.specs.declared.tails.Act.TheVariants as act
 use Rattle.study_import.specs.declared.tails.Search.{Search}
 use Rattle.study_import.specs.declared.tails.Named.{Named}
-use Rattle.study_import.specs.Aims.{aim_stated}
+use Rattle.study_reading.specs.Aims.{aim_stated}
 
 -- ---- the kinds of tokens in the search
 

@@ -10,8 +10,8 @@ ghost use Rattle.study_games.specs.Bytes.{is_letter};
 ghost use Rattle.study_games.specs.Words.{first_word};
 ghost use Rattle.study_games.specs.Games.{game_seen};
 ghost use Rattle.study_games.specs.Header.{tags_of, header_fault, value_of};
-ghost use Rattle.study_import.specs.Notes.{game_of};
-ghost use Rattle.study_import.specs.Aims.{or_stipulation, signed_by};
+ghost use Rattle.study_reading.specs.Notes.{game_of};
+ghost use Rattle.study_reading.specs.Aims.{or_stipulation, signed_by};
 ghost use Rattle.study_import.specs.Blocks.{entry_seen, repeated_moves, behind_line, side_text, goal_text, stipulation_line, source_line};
 ghost use Rattle.study_import.specs.Blocks.{doubt_line, doubt_lines, head_line, tag_unread, sources_of, sourced_block, repeated_name, repeated_words, single_block};
 ghost use Rattle.study_import.specs.Blocks.{position_line, counts_line, counted_words, other_tags, remark_lines, study_lines, block_lines};
@@ -22,12 +22,7 @@ ghost use Rattle.study_import.specs.BlocksRead.{Adds};
 
 use crate::counts::{add_counted, add_counts_line, other_tags};
 use crate::faults::{add_fault, add_left_out, token_name};
-use crate::game::aims::{
-    Aim, Doubts, Sources, aim_by_sources, aim_stated, is_unread_tag, outcome_of_tag, signed_by,
-    unaimed_words,
-};
-use crate::game::movetext::GameReading;
-use crate::game::notes::Notes;
+use crate::game::few_men::FewMen;
 use crate::importer::Choice;
 use crate::letters::add_read;
 use crate::masks::{Mask, add_masked};
@@ -43,6 +38,7 @@ use study_games::{
 };
 use study_marks::{Bench, Goal, Stipulation};
 use study_notation::{FenFault, Start, read_fen, write_fen};
+use study_reading::{Aim, Doubts, GameReading, Notes, Sources, aim_by_sources, aim_stated, is_unread_tag, outcome_of_tag, signed_by, unaimed_words};
 use study_remark::{Doubt, Remark, Subject, add_remark};
 use study_reply::Refusal;
 use study_text::{Piece, Text, add_pieces};
@@ -187,11 +183,11 @@ pub struct Reported<'t> {
 
 /// What was read of a game, in letters of this language if they are not English.
 pub fn reported_of<'t, 'a, A: Allocator>(
-    game: &'t GameReading<'a, A>,
+    game: &'t GameReading<'a, FewMen<'a, A>, A>,
     language: Option<Language>,
     behind: &'t [u8],
 ) -> Reported<'t>
-    ensures { let read = game_of (plain_study (marked_study game.now.reading.bench))
+    ensures { let read = game_of (plain_study (marked_study game.now.reading.study.bench))
         game.now.reading.lines.path.items game.now.reading.lines.begun
         game.now.reading.lines.waiting.items game.now.reading.lines.cut
         game.now.reading.inserts game.now.notes in
@@ -200,7 +196,7 @@ pub fn reported_of<'t, 'a, A: Allocator>(
     Reported {
         language,
         notes: game.notes,
-        repeated: repeated_moves(&game.notes, &game.reading.bench),
+        repeated: repeated_moves(&game.notes, &game.reading.study.bench),
         behind,
         inserts: game.reading.inserts.as_slice(),
     }

@@ -4,10 +4,10 @@ ghost use Rattle.study_games.specs.Header.{tags_of, value_of};
 ghost use Rattle.study_import.specs.Blocks.{separator, count_words, counts_words, count_seen, counted_words, counts_line, found_count, known_count};
 ghost use Rattle.study_import.specs.Blocks.{known_names, other_tags};
 
-use crate::game::notes::Notes;
 use crate::places::at_most;
 use std::alloc::{AllocError, Allocator};
 use study_games::{count_tags, tag_value};
+use study_reading::Notes;
 use study_remark::{Remark, add_remark};
 use study_text::{Piece, Text, add_pieces};
 

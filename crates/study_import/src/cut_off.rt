@@ -7,12 +7,11 @@ ghost use Rattle.study_import.specs.BlocksRead.{Adds};
 
 use crate::block::{Reported, Setting, add_block, reported_of, sources_of};
 use crate::faults::{add_not_read, add_stop, is_of_memory};
-use crate::game::aims::aim_by_sources;
-use crate::game::movetext::MovesFault;
 use crate::letters::begin_game;
 use std::alloc::{AllocError, Allocator};
 use study_games::closed_text;
 use study_notation::Start;
+use study_reading::{MovesFault, aim_by_sources};
 use study_text::Text;
 
 /// The text of a game before the place with so many bytes left, with the variations closed that are open there.

@@ -5,14 +5,11 @@ ghost use Rattle.study_import.specs.Blocks.{token_name, move_name, line_name, st
 ghost use Rattle.study_import.specs.Blocks.{text_at, entry_seen, stop_words, stopped_block, not_read_line};
 ghost use Rattle.study_import.specs.BlocksRead.{is_of_memory, Adds};
 
-use crate::game::lines::LineFault;
-use crate::game::moves::MoveFault;
-use crate::game::movetext::{MovesFault, Stop};
-use crate::game::token_effects::Reason;
 use crate::places::{Entry, Place, place_in, text_at};
 use crate::tags::entry_names;
 use std::alloc::{AllocError, Allocator};
 use study_games::{Run, TokenFault, cut_run, truncate};
+use study_reading::{LineFault, MoveFault, MovesFault, Reason, Stop};
 use study_remark::{Remark, Subject, add_remark};
 use study_reply::Refusal;
 use study_text::{Piece, Text, add_pieces};

@@ -3,7 +3,7 @@ ghost use Rattle.std.specs.Prelude.{◌≡◌, true, Some, Err, IfOk, IsErr};
 ghost use Rattle.study_games.specs.Languages.{in_english};
 ghost use Rattle.study_marks.specs.Study.{plain_study};
 ghost use Rattle.study_marks.specs.BenchState.{marked_study};
-ghost use Rattle.study_import.specs.Notes.{game_of};
+ghost use Rattle.study_reading.specs.Notes.{game_of};
 ghost use Rattle.study_import.specs.Blocks.{entry_seen, faulty_block, no_moves, game_read};
 ghost use Rattle.study_import.specs.Blocks.{is_unknown_move, is_read, first_readable, language_by, language_of, moves_block};
 ghost use Rattle.study_import.specs.BlocksRead.{is_of_memory, Adds};
@@ -11,27 +11,23 @@ ghost use Rattle.study_import.specs.BlocksRead.{is_of_memory, Adds};
 use crate::block::{Setting, add_aimed, reported_of};
 use crate::cut_off::add_faulty;
 use crate::faults::is_of_memory;
-use crate::game::lines::Lines;
-use crate::game::moves::MoveFault;
-use crate::game::movetext::{GameReading, MovesFault, Stop};
-use crate::game::notes::Notes;
-use crate::game::reading::Reading;
-use crate::game::token_effects::Reason;
+use crate::game::few_men::FewMen;
 use crate::game::values::NoValues;
 use std::alloc::{AllocError, Allocator};
 use study_board::Side;
 use study_games::{Language, in_english};
 use study_marks::{Bench, Goal, Stipulation};
 use study_notation::Start;
+use study_reading::{GameReading, Lines, MoveFault, MovesFault, Notes, Reading, Reason, Stop};
 use study_text::Text;
 
 /// A game before its first move.
 pub fn begin_game<'a, A: Allocator>(
     alloc: &'a A,
     start: Start,
-) -> Result<GameReading<'a, A>, AllocError>
+) -> Result<GameReading<'a, FewMen<'a, A>, A>, AllocError>
     ensures { IfOk result (λ g.
-        game_of (plain_study (marked_study g.reading.bench))
+        game_of (plain_study (marked_study g.reading.study.bench))
         g.reading.lines.path.items g.reading.lines.begun
         g.reading.lines.waiting.items g.reading.lines.cut g.reading.inserts
         g.notes ≡ no_moves start) }
@@ -43,8 +39,7 @@ pub fn begin_game<'a, A: Allocator>(
     match Bench::new(alloc, start, any, &mut NoValues { asked: 0 }) {
         Ok(bench) => Ok(GameReading {
             reading: Reading {
-                alloc,
-                bench,
+                study: FewMen { alloc, bench },
                 lines: Lines::new(alloc),
                 inserts: Text::new(alloc),
             },

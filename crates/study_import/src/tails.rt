@@ -7,7 +7,6 @@ ghost use Rattle.study_games.specs.Tokens.{token_seen};
 ghost use Rattle.study_import.specs.Tails.{position_text, is_start, says_mate, is_mate_tag, part_said, part_of, act_before, act_among, act_behind, act_of};
 ghost use Rattle.study_import.specs.Tails.{bytes_then, search_then, position_then, tail_from, not_begun, named_seen, EndsNamed};
 
-use crate::game::aims::aim_stated;
 use crate::masks::{Mask, add_masked};
 use std::alloc::{AllocError, Allocator};
 use study_board::Side;
@@ -15,6 +14,7 @@ use study_command::as_text;
 use study_games::{Said, Token, begins_feed, read_token, say, unescape};
 use study_marks::{Goal, Stipulation};
 use study_notation::read_fen;
+use study_reading::aim_stated;
 use study_text::Text;
 
 /// The kind of a token in the search for a tail.

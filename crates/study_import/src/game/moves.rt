@@ -7,44 +7,12 @@ ghost use Rattle.study_marks.specs.BenchState.{marked_study};
 ghost use Rattle.study_import.specs.Moves.{Comes, moved_by, after_move_text};
 
 use crate::game::values::NoValues;
-use std::alloc::{AllocError, Allocator};
+use std::alloc::Allocator;
 use study_marks::{Bench, Refusal};
 use study_moves::Move;
-use study_notation::{SanFault, read_san};
+use study_notation::read_san;
+use study_reading::{MoveFault, Step};
 use study_tree::Path;
-
-/// Why a move cannot be read.
-#[derive(Clone, Copy)]
-pub enum MoveFault {
-    /// There is no such node.
-    NoSuchNode,
-    /// The text is not a legal move here.
-    San(SanFault),
-    /// More than 256 plies.
-    TooDeep,
-    /// More than 4,096 nodes.
-    TreeFull,
-    /// No memory is left.
-    OutOfMemory,
-}
-
-impl From<AllocError> for MoveFault {
-    ghost use Rattle.std.specs.Prelude.{◌≡◌};
-    ghost use Rattle.study_import.specs.declared.game.moves.MoveFault.TheVariants.{OutOfMemory};
-
-    ghost from_gives = { λ _ fault. fault ≡ OutOfMemory };
-
-    fn from(_error: AllocError) -> MoveFault {
-        MoveFault::OutOfMemory
-    }
-}
-
-/// The child to which a move leads, and the move if the child is new.
-#[derive(Clone, Copy)]
-pub struct Step {
-    pub place: u16,
-    pub added: Option<Move>,
-}
 
 /// Goes to the child with the move that the text spells; if there is none, to a new child, the last.
 #[tactic(auto, unfolding(crate::specs::Moves::after_move_text))]

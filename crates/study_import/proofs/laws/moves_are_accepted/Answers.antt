@@ -1,7 +1,7 @@
 use Rattle.std.proofs.Common.{length, true}
 use Rattle.study_import.specs.Blocks.{no_moves, game_read}
-use Rattle.study_import.specs.Movetext.{read_moves}
-use Rattle.study_import.proofs.NoneBehind.{end_is}
+use Rattle.study_import.specs.FewMen.{read_moves}
+use Rattle.study_reading.proofs.NoneBehind.{end_is}
 use Rattle.study_import.proofs.Made.{moves_lead}
 use Rattle.study_import.proofs.TextAgain.{read_again}
 use Rattle.study_import.proofs.laws.moves_are_accepted.Goals as goal

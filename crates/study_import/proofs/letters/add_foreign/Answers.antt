@@ -1,7 +1,7 @@
 use Rattle.std.proofs.Common.{length, true, Some}
 use Rattle.study_games.specs.Languages.{in_english}
-use Rattle.study_import.specs.Movetext.{read_moves}
-use Rattle.study_import.specs.Behind.{to_the_end}
+use Rattle.study_import.specs.FewMen.{read_moves}
+use Rattle.study_reading.specs.Behind.{to_the_end}
 use Rattle.study_import.specs.Blocks.{entry_seen, no_moves, game_read}
 use Rattle.study_import.proofs.StoppedBlock.{stopped_again}
 use Rattle.study_import.proofs.letters.add_foreign.Goals as goal

@@ -2,9 +2,9 @@ use Rattle.std.proofs.Common.{length, true, sym, subst, ◌∙◌}
 use Rattle.study_games.specs.Header.{tags_of}
 use Rattle.study_marks.specs.Study.{plain_study}
 use Rattle.study_marks.specs.BenchState.{marked_study}
-use Rattle.study_import.specs.Notes.{game_of}
-use Rattle.study_import.specs.Movetext.{Ended, read_moves}
-use Rattle.study_import.specs.Behind.{to_the_end}
+use Rattle.study_reading.specs.Notes.{game_of}
+use Rattle.study_import.specs.FewMen.{Ended, read_moves}
+use Rattle.study_reading.specs.Behind.{to_the_end}
 use Rattle.study_import.specs.Blocks.{Reported, entry_seen, no_moves, game_read, sourced_block, sources_of}
 use Rattle.study_import.specs.BlocksRead.{Adds}
 use Rattle.study_import.proofs.StoppedBlock.{reported_is}

@@ -1,0 +1,10 @@
+pub mod Lines
+pub mod Followed
+pub mod Reading
+pub mod Taken
+pub mod Aims
+pub mod Numbering
+pub mod Notes
+pub mod Movetext
+pub mod MovesRead
+pub mod Behind
