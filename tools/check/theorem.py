@@ -51,6 +51,7 @@ MORE = {
     "the board": "study_web answer_into",
 }
 WORD = re.compile(r"[A-Za-z_][\w'\-]*")
+QUALIFIED = re.compile(r"(?<![\w.])([A-Za-z_]\w*)\.([A-Za-z_][\w'\-]*)")
 IMPORT = re.compile(r"\s*(?:ghost )?(?:pub )?use Rattle\.(study\w*)\.specs\.([\w.+]+?)(?:\.\{([^}]*)\}| as (\w+));?\s*$")
 ITEM = re.compile(r"(\s*)(?:abbrev |unfoldable |pub |mutual |opaque )*(?:record )?([A-Za-z_][\w'\-]*)\s*(?:[:{(]|$)")
 HEAD = re.compile(r"\s{0,2}(abbrev|unfoldable|pub|record|opaque)\b")
@@ -157,7 +158,12 @@ def crate_sources(crate):
 
 def follow(lines, imports, here=None):
     """Visits each name of these lines."""
-    for word in WORD.findall("\n".join(re.sub(r"--.*", "", l) for l in lines)):
+    text = "\n".join(re.sub(r"--.*", "", l) for l in lines)
+    for alias, word in QUALIFIED.findall(text):
+        crate, module, name = imports.get(alias, ("", "", alias))
+        if name is None and not module.startswith(("declared.", "contracts.")):
+            visit((crate, module.replace(".", "/")), word)
+    for word in WORD.findall(text):
         if here and word in specs[here].items:
             visit(here, word)
         elif word in imports:

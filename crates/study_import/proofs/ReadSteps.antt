@@ -36,7 +36,7 @@ use Rattle.study_reading.specs.declared.numbering.Numbering.{Numbering}
 use Rattle.study_reading.specs.Numbering.{digits_numbered, said_numbered, token_numbered}
 use Rattle.study_reading.specs.Movetext.{goes_on, with_numbering}
 use Rattle.study_reading.specs.Reading.{after_move as after_move_by, symbol_played as symbol_played_by}
-use Rattle.study_import.specs.FewMen.{Reading, after_move, symbol_played, taken_symbol, GameRead, GameTaken, token_taken, game_taken, is_wrong_said}
+use Rattle.study_import.specs.FewMen.{Reading, symbol_played, taken_symbol, GameRead, GameTaken, token_taken, game_taken, is_wrong_said}
 use Rattle.study_import.specs.FewMen.{with_signs, signs_noted, Ended, game_numbered, on_numbered, on_token, read_moves}
 use Rattle.study_games.proofs.Within.{within_lexed}
 use Rattle.study_import.proofs.Whole.{same_token, moves_same}

@@ -38,7 +38,10 @@ use study_games::{
 };
 use study_marks::{Bench, Goal, Stipulation};
 use study_notation::{FenFault, Start, read_fen, write_fen};
-use study_reading::{Aim, Doubts, GameReading, Notes, Sources, aim_by_sources, aim_stated, is_unread_tag, outcome_of_tag, signed_by, unaimed_words};
+use study_reading::{
+    Aim, Doubts, GameReading, Notes, Sources, aim_by_sources, aim_stated, is_unread_tag,
+    outcome_of_tag, signed_by, unaimed_words,
+};
 use study_remark::{Doubt, Remark, Subject, add_remark};
 use study_reply::Refusal;
 use study_text::{Piece, Text, add_pieces};

@@ -16,4 +16,3 @@ pow_up (suc k) i l = elim (cases_lt i (suc k)) [
 
 pub eight_digits : (i : ℕ) → i ≤ 8 → 10 ^ i ≤ 100000000
 eight_digits i l = pow_up 8 i l
-

@@ -19,7 +19,7 @@ returns-in-Ok g c =
     let e = entry_seen c.args.setting.now.entry in
     let start = c.args.start.now in
     let x : Ended = record {
-      game = game_of (plain_study (marked_study s.reading.bench)) s.reading.lines.path.items s.reading.lines.begun s.reading.lines.waiting.items
+      game = game_of (plain_study (marked_study s.reading.study.bench)) s.reading.lines.path.items s.reading.lines.begun s.reading.lines.waiting.items
           s.reading.lines.cut s.reading.inserts s.notes;
       behind = c.in-Ok.behind.now;
     } in
