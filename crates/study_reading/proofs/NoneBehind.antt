@@ -77,7 +77,8 @@ none_behind (Err fault) x e = absurd cc
 none_behind (Ok y) x e = let is = unless_is y x (moves_in y.behind) e in sym (ap (λ (z : Ended _). moves_in z.behind) is.1) ∙ is.0
 
 -- a fault before the end
-pub still_reported : {S : Type 0} (why : Stop) (expected : Result (Ended S) MovesFault) (left : ℕ) → IsReported why expected left → IsReported why (to_the_end expected) left
+pub still_reported : {S : Type 0} (why : Stop) (expected : Result (Ended S) MovesFault) (left : ℕ) → IsReported why expected left
+    → IsReported why (to_the_end expected) left
 still_reported (stop.Taking (reason.Move move_fault.NoSuchNode)) expected left h = ap to_the_end h
 still_reported (stop.Taking reason.BehindWord) expected left h = ap to_the_end h
 still_reported (stop.Taking (reason.Move (move_fault.San fault))) expected left h = ap to_the_end h
@@ -102,6 +103,7 @@ module _ (Q : Stop → Type 0) (behind_result : Q stop.BehindResult) where
   stops_unless x (Some left) fault e = let is : record { why = stop.BehindResult; left = left } ≡ fault = cc in
       subst (λ (z : MovesFault). Q z.why) is behind_result
 
-  pub stops_at_end : {S : Type 0} (r : Result (Ended S) MovesFault) (fault : MovesFault) → ((f : MovesFault) → r ≡ Err f → Q f.why) → to_the_end r ≡ Err fault → Q fault.why
+  pub stops_at_end : {S : Type 0} (r : Result (Ended S) MovesFault) (fault : MovesFault) → ((f : MovesFault) → r ≡ Err f → Q f.why) → to_the_end r ≡ Err fault
+      → Q fault.why
   stops_at_end (Err f) fault h e = let is : f ≡ fault = cc in subst (λ (z : MovesFault). Q z.why) is (h f refl)
   stops_at_end (Ok x) fault h e = stops_unless x (moves_in x.behind) fault e

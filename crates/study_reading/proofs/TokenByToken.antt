@@ -23,21 +23,26 @@ lexed_or o = unwrap_or o (Err Byte)
 
 module _ {S : Type 0} (rules : Rules S) (n m : ℕ) (fresh : Bool) (r : GameRead S) (t : Token) (behind : List ℕ) where
   read_by : (b : ℕ) (bs : List ℕ) → n ≡ suc m → token_at fresh (b ∷ bs) ≡ Some (Ok (t, behind))
-      → read_moves rules n fresh (b ∷ bs) r ≡ on_numbered rules (read_moves rules m (b == 10) behind) (length (b ∷ bs)) r t behind (game_numbered rules r t behind)
+      → read_moves rules n fresh (b ∷ bs) r
+      ≡ on_numbered rules (read_moves rules m (b == 10) behind) (length (b ∷ bs)) r t behind (game_numbered rules r t behind)
   read_by b bs e k =
       let l : lexed_token fresh b bs ≡ Ok (t, behind) = ap lexed_or k in
       ap (λ (i : ℕ). read_moves rules i fresh (b ∷ bs) r) e ∙ ap (on_token rules (read_moves rules m (b == 10)) (length (b ∷ bs)) r) l
 
-  numbered_by : (b : ℕ) (bs : List ℕ) (s : Option Numbering) → n ≡ suc m → token_at fresh (b ∷ bs) ≡ Some (Ok (t, behind)) → game_numbered rules r t behind ≡ s
+  numbered_by : (b : ℕ) (bs : List ℕ) (s : Option Numbering) → n ≡ suc m → token_at fresh (b ∷ bs) ≡ Some (Ok (t, behind))
+      → game_numbered rules r t behind ≡ s
       → read_moves rules n fresh (b ∷ bs) r ≡ on_numbered rules (read_moves rules m (b == 10) behind) (length (b ∷ bs)) r t behind s
   numbered_by b bs s e k i = read_by b bs e k ∙ ap (on_numbered rules (read_moves rules m (b == 10) behind) (length (b ∷ bs)) r t behind) i
 
-  pub step_on : (rest : List ℕ) (s : Numbering) (next : GameRead S) → n ≡ suc m → token_at fresh rest ≡ Some (Ok (t, behind)) → game_numbered rules r t behind ≡ Some s
-      → game_taken rules (with_numbering r s) t ≡ Ok (record { game = next; ended = false }) → read_moves rules n fresh rest r ≡ read_moves rules m (begins_feed rest) behind next
+  pub step_on : (rest : List ℕ) (s : Numbering) (next : GameRead S) → n ≡ suc m → token_at fresh rest ≡ Some (Ok (t, behind))
+      → game_numbered rules r t behind ≡ Some s
+      → game_taken rules (with_numbering r s) t ≡ Ok (record { game = next; ended = false })
+      → read_moves rules n fresh rest r ≡ read_moves rules m (begins_feed rest) behind next
   step_on [] s next e k i h = absurd cc
   step_on (b ∷ bs) s next e k i h = numbered_by b bs (Some s) e k i ∙ ap (goes_on (read_moves rules m (b == 10) behind) (length (b ∷ bs)) behind) h
 
-  pub stop_on : (rest : List ℕ) (s : Numbering) (why : Reason) → n ≡ suc m → token_at fresh rest ≡ Some (Ok (t, behind)) → game_numbered rules r t behind ≡ Some s
+  pub stop_on : (rest : List ℕ) (s : Numbering) (why : Reason) → n ≡ suc m → token_at fresh rest ≡ Some (Ok (t, behind))
+      → game_numbered rules r t behind ≡ Some s
       → game_taken rules (with_numbering r s) t ≡ Err why → read_moves rules n fresh rest r ≡ Err (record { why = stop.Taking why; left = length rest })
   stop_on [] s why e k i h = absurd cc
   stop_on (b ∷ bs) s why e k i h = numbered_by b bs (Some s) e k i ∙ ap (goes_on (read_moves rules m (b == 10) behind) (length (b ∷ bs)) behind) h
@@ -49,7 +54,8 @@ module _ {S : Type 0} (rules : Rules S) (n m : ℕ) (fresh : Bool) (r : GameRead
   unfit_on (b ∷ bs) e k i = numbered_by b bs None e k i
 
 -- a reported reason, or want of memory
-pub reported_by : {S : Type 0} (why : Reason) (x : Result (GameTaken S) Reason) (new : GameRead S) (expected : Result (Ended S) MovesFault) (left : ℕ) → TakesIn (Err why) x new
+pub reported_by : {S : Type 0} (why : Reason) (x : Result (GameTaken S) Reason) (new : GameRead S) (expected : Result (Ended S) MovesFault) (left : ℕ)
+    → TakesIn (Err why) x new
     → (x ≡ Err why → expected ≡ Err (record { why = stop.Taking why; left = left })) → IsReported (stop.Taking why) expected left
 reported_by (reason.Move move_fault.NoSuchNode) x new expected left h f = f h
 reported_by (reason.Move (move_fault.San fault)) x new expected left h f = f h

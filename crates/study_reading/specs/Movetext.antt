@@ -36,7 +36,8 @@ module _ {S : Type 0} where
   abbrev pub with_numbering : GameRead S → Numbering → GameRead S
   with_numbering g s = record { reading = g.reading; notes = record g.notes { numbering = s } }
 
-  abbrev pub on_numbered : Rules S → (GameRead S → Result (Ended S) MovesFault) → ℕ → GameRead S → Token → List ℕ → Option Numbering → Result (Ended S) MovesFault
+  abbrev pub on_numbered : Rules S → (GameRead S → Result (Ended S) MovesFault) → ℕ → GameRead S → Token → List ℕ → Option Numbering
+      → Result (Ended S) MovesFault
   on_numbered rules next left g token behind None = fault_at stop.Numbering left
   on_numbered rules next left g token behind (Some s) = goes_on next left behind (game_taken rules (with_numbering g s) token)
 

@@ -13,8 +13,8 @@ returns-in_default-numbering_after g c =
     s.reading.lines.cut s.reading.inserts s.notes) in
     let t = token_seen c.in-Ok.cut.token in
     sym c.loop-fuel.invariant
-    ∙ unfit_on g.F.Followed.rules c.loop-fuel.fuel (c.loop-fuel.fuel - 1) c.loop-fuel.fresh r t c.in-Ok.cut.rest.now c.loop-fuel.rest.now (omega (arith, c.loop-fuel-test.true))
-    (sym c.read_token.ensures ∙ ap (option_map lexed_seen) (c.in-Some.is ∙ ap Some c.in-Ok.is)) (sym c.in_default-numbering_after.ensures)
+    ∙ unfit_on g.F.Followed.rules c.loop-fuel.fuel (c.loop-fuel.fuel - 1) c.loop-fuel.fresh r t c.in-Ok.cut.rest.now c.loop-fuel.rest.now
+    (omega (arith, c.loop-fuel-test.true)) (sym c.read_token.ensures ∙ ap (option_map lexed_seen) (c.in-Some.is ∙ ap Some c.in-Ok.is)) (sym c.in_default-numbering_after.ensures)
 
 pub returns-in-Err-take : goal.returns-in-Err-take
 returns-in-Err-take g c =
@@ -38,8 +38,8 @@ loop-fuel-preserved g c =
     let next = (game_of (g.F.Followed.study m.reading.study) m.reading.lines.path.items m.reading.lines.begun m.reading.lines.waiting.items
     m.reading.lines.cut m.reading.inserts m.notes) in
     let t = token_seen c.in-Ok.cut.token in
-    rw c.begins_feed-fresh.ensures (sym (step_on g.F.Followed.rules c.loop-fuel.fuel (c.loop-fuel.fuel - 1) c.loop-fuel.fresh r t c.in-Ok.cut.rest.now c.loop-fuel.rest.now
-    c.in-Some-numbering_after.numbering next
+    rw c.begins_feed-fresh.ensures (sym (step_on g.F.Followed.rules c.loop-fuel.fuel (c.loop-fuel.fuel - 1) c.loop-fuel.fresh r t c.in-Ok.cut.rest.now
+    c.loop-fuel.rest.now c.in-Some-numbering_after.numbering next
     (omega (arith, c.loop-fuel-test.true))
     (sym c.read_token.ensures ∙ ap (option_map lexed_seen) (c.in-Some.is ∙ ap Some c.in-Ok.is))
     (sym c.in-Some-numbering_after.ensures)
