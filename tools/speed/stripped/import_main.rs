@@ -11,6 +11,8 @@ mod study_marks;
 mod study_material;
 mod study_moves;
 mod study_notation;
+mod study_reading;
+mod study_remark;
 mod study_reply;
 mod study_text;
 mod study_tree;
@@ -24,7 +26,7 @@ use study_text::Text;
 fn main() -> io::Result<()> {
     let alloc = Global;
     let tails = std::env::args().any(|word| word == "--tails");
-    let choice = Choice { given: None, from: 1, to: u32::MAX, tails };
+    let choice = Choice { given: None, from: 1, to: u32::MAX, tails, up_to_faults: false };
     let mut importer = Importer::new(&alloc, choice);
     let mut out = BufWriter::new(io::stdout().lock());
     let mut games = std::vec::Vec::new();

@@ -83,6 +83,17 @@ impl<T, A> Vec<T, A> {
     }
 }
 
+impl<A> std::io::Write for Vec<u8, A> {
+    fn write(&mut self, bytes: &[u8]) -> std::io::Result<usize> {
+        self.0.extend_from_slice(bytes);
+        Ok(bytes.len())
+    }
+
+    fn flush(&mut self) -> std::io::Result<()> {
+        Ok(())
+    }
+}
+
 impl<T, A> Deref for Vec<T, A> {
     type Target = List<T>;
 
