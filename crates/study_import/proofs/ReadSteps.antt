@@ -36,10 +36,10 @@ use Rattle.study_reading.specs.declared.numbering.Numbering.{Numbering}
 use Rattle.study_reading.specs.Numbering.{digits_numbered, said_numbered, token_numbered}
 use Rattle.study_reading.specs.Movetext.{goes_on, with_numbering}
 use Rattle.study_reading.specs.Reading.{after_move as after_move_by, symbol_played as symbol_played_by}
-use Rattle.study_import.specs.FewMen.{Reading, symbol_played, taken_symbol, GameRead, GameTaken, token_taken, game_taken, is_wrong_said}
+use Rattle.study_import.specs.FewMen.{few_men, Reading, symbol_played, taken_symbol, GameRead, GameTaken, token_taken, game_taken, is_wrong_said}
 use Rattle.study_import.specs.FewMen.{with_signs, signs_noted, Ended, game_numbered, on_numbered, on_token, read_moves}
 use Rattle.study_games.proofs.Within.{within_lexed}
-use Rattle.study_import.proofs.Whole.{same_token, moves_same}
+use Rattle.study_reading.proofs.ReadWhole.{same_token, moves_same}
 use Rattle.study_import.proofs.Blanks.{IsGap}
 use Rattle.study_import.proofs.Numbers.{IsFirst}
 
@@ -54,9 +54,9 @@ reads fresh text g = read_moves (length text) fresh text g
 pub on_reads : (fresh : Bool) (b : ℕ) (bs : List ℕ) (g : GameRead)
     → reads fresh (b ∷ bs) g ≡ on_token (λ rest h. reads (b == 10) rest h) (length (b ∷ bs)) g (lexed_token fresh b bs)
 on_reads fresh b bs g =
-    same_token (read_moves (length bs) (b == 10)) (λ rest h. reads (b == 10) rest h) (length (b ∷ bs)) (length bs) g (lexed_token fresh b bs)
+    same_token few_men (read_moves (length bs) (b == 10)) (λ rest h. reads (b == 10) rest h) (length (b ∷ bs)) (length bs) g (lexed_token fresh b bs)
     (within_lexed fresh b bs)
-    (λ rest h le. moves_same (length bs) (length rest) (b == 10) rest h le (omega arith))
+    (λ rest h le. moves_same few_men (length bs) (length rest) (b == 10) rest h le (omega arith))
 
 pub on_number : (fresh : Bool) (b : ℕ) (bs : List ℕ) (g : GameRead) (t : Token) (rest : List ℕ) (s : Numbering) (h : GameRead)
     → lexed_token fresh b bs ≡ Ok (t, rest)

@@ -1,3 +1,4 @@
 pub mod Powers
 pub mod TokenByToken
 pub mod NoneBehind
+pub mod ReadWhole

@@ -8,3 +8,4 @@ pub mod Notes
 pub mod Movetext
 pub mod MovesRead
 pub mod Behind
+pub mod Laws

@@ -7,6 +7,7 @@
 mod aims;
 mod behind_result;
 mod followed;
+mod laws;
 mod lines;
 mod moves;
 mod movetext;
@@ -20,6 +21,7 @@ pub use aims::{
     unaimed_words,
 };
 pub use followed::Followed;
+pub use laws::moves_are_read_whole;
 pub use lines::{LineFault, Lines};
 pub use moves::{MoveFault, Step};
 pub use movetext::{GameReading, MovesFault, Stop};
