@@ -1,0 +1,10 @@
+pub mod Nodes
+pub mod MovesMade
+pub mod TailsListed
+pub mod TailsFound
+pub mod TailStudies
+pub mod LinesWritten
+pub mod BlocksWritten
+pub mod Built
+pub mod TailsBuilt
+pub mod Resumed

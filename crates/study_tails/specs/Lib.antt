@@ -1,0 +1,9 @@
+pub mod Study
+pub mod Codes
+pub mod Moves
+pub mod Followed
+pub mod Tails
+pub mod Lines
+pub mod Blocks
+pub mod Insertions
+pub mod Laws
