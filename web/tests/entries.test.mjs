@@ -123,8 +123,8 @@ test('the list as comma-separated values', () => {
     `10,"A, ""first""",Reti,${
       FEN},White to win,"sound, duals waste time",1,1,1,,1. Kg7,"same position as No. 11, a study without a number"`);
   assert.equal(second,
-    `11,B,Reti (set for an earlier study),${
-      FEN},White to win (set for an earlier study),"correct, no solution yet",,,,,,"same position as No. 10, a study without a number"`);
+    `11,B,Reti (set for an earlier study),${FEN},White to win (set for an earlier study),` +
+      '"correct, no solution yet",,,,,,"same position as No. 10, a study without a number"');
   assert.equal(text.split('\r\n').length, 7);
 });
 test('a name that was refused is not that of the study before, and facts of a part are not those of the entry', () => {

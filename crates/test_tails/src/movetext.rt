@@ -7,7 +7,7 @@ use std::process::Abort;
 use study_board::Side;
 use study_marks::{Goal, Stipulation};
 use study_notation::SanFault;
-use study_reading::{GameReading, MoveFault, Reason, Stop};
+use study_reading::{GameReading, MoveFault, Reading, Reason, Stop};
 use study_tails::{FollowedStudy, add_wide_text, begin_wide_game};
 use study_text::Text;
 use study_wide_text::read_wide_fen;
@@ -56,7 +56,9 @@ fn expect_read(rt: &impl Abort, alloc: Global, moves: &[u8], game: u32, script: 
     let mut read = begun(rt, &alloc, fen_of(script));
     assert!(rt; read.read_whole(moves).is_ok());
     assert!(rt; read.notes.wrong_signs == 0);
-    let mut study = read.reading.study.into_study();
+    let GameReading { reading, .. } = read;
+    let Reading { study, .. } = reading;
+    let mut study = study.into_study();
     for line in script.lines() {
         if let Some(line) = line.strip_prefix("#> ") {
             if split_word(line).0 != "insert" {

@@ -429,7 +429,8 @@ def test_several_studies(user):
     user.set_up(FEN, "white win")
     user.fill("tagWhite", "First")
     user.set_up("8/3k4/8/3KP3/8/8/8/8 b - - 0 1", "black draw", first=False)
-    assert user.text("stamp") == "correct, no solution yet" and "Untitled" in user.text("head") and "First" not in user.text("head")
+    assert user.text("stamp") == "correct, no solution yet"
+    assert "Untitled" in user.text("head") and "First" not in user.text("head")
     assert user.js("return document.getElementById('studies').options.length") == 2
     user.choose("studies", "0")
     assert "First" in user.text("head")
