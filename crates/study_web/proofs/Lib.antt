@@ -1,4 +1,5 @@
 pub mod Denials
+pub mod RowsFound
 pub mod Faults
 pub mod Laid
 pub mod Needed

@@ -5,6 +5,7 @@ use Rattle.study_moves.specs.declared.moves.Move.{Move}
 use Rattle.study_moves.specs.Rules.{after}
 use Rattle.study_notation.specs.SanSpelling.{move_text}
 use Rattle.study_search.specs.declared.only_moves.Outcome.{Outcome}
+use Rattle.study_search.specs.declared.rows.LongestRow.{LongestRow}
 use Rattle.study_search.specs.OnlyMoves.{IsMost}
 use Rattle.study_search.specs.Rows.{IsRow}
 use Rattle.study_web.specs.Reported.{line_of}
@@ -23,6 +24,11 @@ abbrev pub IsRowText : Outcome → Position → Option ℕ → List ℕ → Type
 IsRowText o p None text = text ≡ line_of (codes "none")
 IsRowText o p (Some n) text = (row : List Move) × IsRow o n p row × (text ≡ row_text p n row)
 
--- the greatest number of only moves in a row, counted up to twelve
+-- the greatest number of only moves in a row, counted up to twelve, and a row of so many; or the side to move has not the outcome
+abbrev pub IsFoundRow : Outcome → Position → Option LongestRow → Type 0
+IsFoundRow o p None = IsMost o p 12 None
+IsFoundRow o p (Some f) = IsMost o p 12 (Some f.count) × IsRow o f.count p f.row.items
+
+-- the greatest number of only moves in a row, counted up to twelve, and a row
 abbrev pub IsRowAnswer : Outcome → Position → List ℕ → Type 0
 IsRowAnswer o p text = (most : Option ℕ) × IsMost o p 12 most × IsRowText o p most text

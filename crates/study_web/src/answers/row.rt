@@ -1,14 +1,12 @@
 //! How many only moves in a row the defender can make the side to move find, and such a row.
-ghost use Rattle.std.specs.Prelude.{◌≡◌, ◌≤◌, ◌++◌, codes, decimal, IfSome, IfOk, IfErr, OnOk, MatchOption, Some, None};
+ghost use Rattle.std.specs.Prelude.{◌≡◌, ◌≤◌, ◌++◌, codes, decimal, IfSome, IfOk, IfErr, OnOk};
 ghost use Rattle.study_material.specs.declared.class.Class.{Class as AClass};
 ghost use Rattle.study_material.specs.Needs.{NeedsClass};
 ghost use Rattle.study_search.specs.Faults.{CanReport};
 ghost use Rattle.study_search.specs.Rows.{IsLine};
 ghost use Rattle.study_web.specs.Answers.{MayEnd, IsNoMemory};
 ghost use Rattle.study_web.specs.Opened.{IsOfValues};
-ghost use Rattle.study_search.specs.OnlyMoves.{IsMost};
-ghost use Rattle.study_search.specs.Rows.{IsRow};
-ghost use Rattle.study_web.specs.Row.{moves_text, row_text, IsRowAnswer};
+ghost use Rattle.study_web.specs.Row.{moves_text, row_text, IsFoundRow, IsRowAnswer};
 ghost use Rattle.study_web.specs.Reported.{line_of};
 
 use crate::answers::setup::add;
@@ -23,7 +21,7 @@ use study_moves::{Move, played};
 use study_notation::write_san;
 use study_reply::{Refusal, of_probe};
 use study_script::TableStore;
-use study_search::{LongestRow, longest_row};
+use study_search::{LongestRow, Outcome, longest_row};
 use study_values::{ProbeFault, Values};
 
 /// The largest number that is counted.
@@ -47,41 +45,78 @@ fn add_moves<A: Allocator>(
     add_moves(text, &played(p, *m), rest)
 }
 
-/// `2 Kf7 Kb6 Ke7`, or `none`.
+/// `none`.
+fn none_text<'a, A: Allocator>(alloc: &'a A) -> Result<Vec<u8, &'a A>, AllocError>
+    ensures { IfOk result (λ text. text.items ≡ line_of (codes "none")) }
+{
+    let mut text = Vec::new(alloc);
+    add(&mut text, b"none\n")?;
+    Ok(text)
+}
+
+/// `2 Kf7 Kb6 Ke7`.
 fn row_text<'a, A: Allocator>(
     alloc: &'a A,
     p: &Position,
-    found: &Option<LongestRow>,
+    found: &LongestRow,
 ) -> Result<Vec<u8, &'a A>, AllocError>
-    requires { IfSome found.now (λ f. IsLine p.now f.row.items) }
-    ensures { IfOk result (λ text. MatchOption found.now
-        (text.items ≡ line_of (codes "none"))
-        (λ f. text.items ≡ row_text p.now f.count f.row.items)) }
+    requires { IsLine p.now found.now.row.items }
+    ensures { IfOk result (λ text. text.items ≡ row_text p.now found.now.count found.now.row.items) }
 {
     let mut text = Vec::new(alloc);
-    match found {
-        None => add(&mut text, b"none")?,
-        Some(found) => {
-            let mut buffer = Buffer::new();
-            add(&mut text, buffer.format(found.count as u32).as_bytes())?;
-            add_moves(&mut text, p, found.row.as_slice())?;
-        }
-    }
+    let mut buffer = Buffer::new();
+    add(&mut text, buffer.format(found.count as u32).as_bytes())?;
+    add_moves(&mut text, p, found.row.as_slice())?;
     add(&mut text, b"\n")?;
     Ok(text)
 }
 
+/// The number and the row, or `none`.
+fn said_row<'a, A: Allocator>(
+    alloc: &'a A,
+    p: &Position,
+    outcome: Outcome,
+    found: &Option<LongestRow>,
+) -> Result<Vec<u8, &'a A>, AllocError>
+    requires { IfSome found.now (λ f. IsLine p.now f.row.items) }
+    ensures { IsFoundRow outcome p.now found.now
+        → IfOk result (λ text. IsRowAnswer outcome p.now text.items) }
+{
+    match found {
+        None => none_text(alloc),
+        Some(found) => row_text(alloc, p, found),
+    }
+}
+
 /// The longest row, or why a value cannot be read.
+#[tactic(auto, using(crate::proofs::RowsFound::found_if))]
 fn found_row<V: Values>(asked: &Rowed, values: &mut V) -> Result<Option<LongestRow>, ProbeFault>
-    ensures game { V.source.is_honest values.old → IfOk result (λ found. MatchOption found
-        (IsMost asked.now.outcome asked.now.start.position 12 None)
-        (λ f. IsMost asked.now.outcome asked.now.start.position 12 (Some f.count)
-        × IsRow asked.now.outcome f.count asked.now.start.position f.row.items)) }
+    ensures game { V.source.is_honest values.old
+        → IfOk result (IsFoundRow asked.now.outcome asked.now.start.position) }
     ensures legal { IfOk result (λ found. IfSome found
         (λ f. IsLine asked.now.start.position f.row.items)) }
     ensures faults { IfErr result (CanReport V.source (NeedsClass asked.now.start.position) values.old) }
 {
     longest_row(&asked.start.position, asked.outcome, LIMIT, values)
+}
+
+/// The same, or want of memory.
+fn reported_row<'a, A: Allocator>(
+    alloc: &'a A,
+    p: &Position,
+    outcome: Outcome,
+    found: &Option<LongestRow>,
+) -> Result<Vec<u8, &'a A>, AnswerFault>
+    requires { IfSome found.now (λ f. IsLine p.now f.row.items) }
+    ensures text { IsFoundRow outcome p.now found.now
+        → IfOk result (λ text. IsRowAnswer outcome p.now text.items) }
+    ensures none { IfErr result (λ why.
+        why ≡ AnswerFault.Denied (RequestFault.Refused Refusal.OutOfMemory)) }
+{
+    match said_row(alloc, p, outcome, found) {
+        Ok(text) => Ok(text),
+        Err(_) => Err(AnswerFault::Denied(RequestFault::Refused(Refusal::OutOfMemory))),
+    }
 }
 
 /// The number and the row, over all files of a store.
@@ -103,10 +138,7 @@ pub fn row_of<'a, S: TableStore, A: Allocator>(
         Err(denial) => Err(AnswerFault::Denied(denial)),
         Ok(mut tables) => match found_row(asked, &mut tables) {
             Err(fault) => Err(AnswerFault::Denied(RequestFault::Refused(of_probe(fault)))),
-            Ok(found) => match row_text(alloc, &asked.start.position, &found) {
-                Ok(text) => Ok(text),
-                Err(_) => Err(AnswerFault::Denied(RequestFault::Refused(Refusal::OutOfMemory))),
-            },
+            Ok(found) => reported_row(alloc, &asked.start.position, asked.outcome, &found),
         },
     }
 }
