@@ -110,8 +110,11 @@ sentence_lines =
     said_line (codes "unread-sentence") (sentence false (NotRead 1))
     ++ (said_line (codes "time-sentence") (sentence false (Duals 1 1 true)) ++ said_line (codes "times-sentence") (sentence false (Duals 2 2 true)))
 
+unfoldable pub fault_lines : List ℕ
+fault_lines = dual_lines ++ (variation_lines ++ (wrong_lines ++ fails_line))
+
 unfoldable pub verdict_lines : List ℕ
-verdict_lines = value_lines ++ (stamp_lines ++ (dual_lines ++ (variation_lines ++ (wrong_lines ++ (fails_line ++ sentence_lines)))))
+verdict_lines = value_lines ++ (stamp_lines ++ (fault_lines ++ sentence_lines))
 
 -- of the parts of a printed page
 unfoldable pub title_lines : List ℕ

@@ -10,7 +10,7 @@ ghost use Rattle.study_page.specs.Rows.{by_words, several_words};
 ghost use Rattle.study_web.specs.Answers.{MayEnd, IsOutOfMemory, IsNoMemory};
 ghost use Rattle.study_web.specs.CoreWords.{word_line, refusal_names, game_names, command_names, kind_name, group_name, group_words};
 ghost use Rattle.study_web.specs.CoreWords.{name_lines, said_line, value_lines, stamp_lines, dual_lines, variation_lines, wrong_lines, fails_line};
-ghost use Rattle.study_web.specs.CoreWords.{sentence_lines, verdict_lines, title_lines, last_title_lines};
+ghost use Rattle.study_web.specs.CoreWords.{fault_lines, sentence_lines, verdict_lines, title_lines, last_title_lines};
 ghost use Rattle.study_web.specs.CoreWords.{head_lines, page_lines, said_lines, keep_line, later_lines, move_lines, zugzwang_lines};
 ghost use Rattle.study_web.specs.CoreWords.{explained_lines, core_words};
 
@@ -254,16 +254,23 @@ fn add_sentences<A: Allocator>(text: &mut Text<'_, A>) -> Result<(), AllocError>
     add_sentence_line(text, b"times-sentence", &Stamp::Duals(2, 2, true))
 }
 
+#[tactic(auto, unfolding(crate::specs::CoreWords::fault_lines))]
+fn add_faults<A: Allocator>(text: &mut Text<'_, A>) -> Result<(), AllocError>
+    ensures { OnOk result (text.new ≡ text.old ++ fault_lines) }
+{
+    add_duals(text)?;
+    add_variations(text)?;
+    add_wrong(text)?;
+    text.add(fails_line())
+}
+
 #[tactic(auto, unfolding(crate::specs::CoreWords::verdict_lines))]
 fn add_verdicts<A: Allocator>(text: &mut Text<'_, A>) -> Result<(), AllocError>
     ensures { OnOk result (text.new ≡ text.old ++ verdict_lines) }
 {
     add_values(text)?;
     add_stamps(text)?;
-    add_duals(text)?;
-    add_variations(text)?;
-    add_wrong(text)?;
-    text.add(fails_line())?;
+    add_faults(text)?;
     add_sentences(text)
 }
 

@@ -6,7 +6,7 @@ use Rattle.study_reply.specs.declared.refusal.Refusal.TheVariants.{OutOfMemory}
 use Rattle.study_web.specs.declared.request_fault.RequestFault.TheVariants as denial
 use Rattle.study_web.specs.Answers.{IsNoMemory}
 use Rattle.study_web.specs.Opened.{AreAllRight, IsOfFileValues}
-use Rattle.study_web.specs.Row.{IsRow}
+use Rattle.study_web.specs.Row.{IsRowAnswer}
 use Rattle.study_web.specs.Spans.{spans_for}
 use Rattle.study_web.proofs.Denials.{whole_reported, whole_denied, if_right, search_denial}
 use Rattle.study_web.proofs.Shelves.{right_made, values_made}
@@ -20,7 +20,7 @@ returns-in-Err g c =
     let those = spans_for classes c.args.files.now.spans.now in (
       classes,
       subst (λ (q : Position). AreClassesNeeded (q ∷ []) classes) c.copied.ensures c.classes_needed-classes.ensures,
-      whole_denied (λ text. AreAllRight those bytes → IsRow row.outcome row.start.position text) (IsOfFileValues those bytes row.start.position) IsNoMemory
+      whole_denied (λ text. AreAllRight those bytes → IsRowAnswer row.outcome row.start.position text) (IsOfFileValues those bytes row.start.position) IsNoMemory
           (denial.Refused OutOfMemory) c.fault_answer.result.text.items c.fault_answer.result.ended c.fault_answer.ensures (inl refl) refl,
     )
 
@@ -35,10 +35,10 @@ returns-in-Ok g c =
     ∙ ap (λ (cs : List Class). spans_for cs c.args.files.now.spans.now) c.as_slice.ensures.value in (
       classes,
       subst (λ (q : Position). AreClassesNeeded (q ∷ []) classes) c.copied.ensures c.classes_needed-classes.ensures,
-      whole_reported c.row_of.result (λ v. v.items) (λ text. AreAllRight those bytes → IsRow row.outcome row.start.position text)
+      whole_reported c.row_of.result (λ v. v.items) (λ text. AreAllRight those bytes → IsRowAnswer row.outcome row.start.position text)
           (IsOfFileValues those bytes row.start.position) IsNoMemory
           c.answer_of.result.text.items c.answer_of.result.ended c.answer_of.ensures.text c.answer_of.ensures.none
-          (if_right c.row_of.result (λ v. v.items) (AreAllRight those bytes) (IsRow row.outcome row.start.position)
+          (if_right c.row_of.result (λ v. v.items) (AreAllRight those bytes) (IsRowAnswer row.outcome row.start.position)
           (λ right. c.row_of.ensures.text (right_made spans made.bytes right)))
           (search_denial c.row_of.result _ (IsOfFileValues those bytes row.start.position)
           (values_made spans made.bytes made.written row.start.position) c.row_of.ensures.none) refl,
