@@ -134,7 +134,7 @@ def test_trees_on_other_squares(user):
     user.click("start")
     user.settle()
     assert script(user).startswith(f"position {moved('h3')}") and len(re.findall("insert", script(user))) == 9
-    assert user.text("stamp").startswith("1 dual")
+    user.until("document.getElementById('stamp').textContent.startsWith('1 dual')", 30)
 
 
 def test_trees_are_given_up_with_the_survey(user):
@@ -176,7 +176,7 @@ def test_all_defences_with_one_answer(user):
     count = int(re.fullmatch(r"Add all (\d+) with one answer", said).group(1))
     added = re.findall(r"insert \S+ (\S+)", script(user))[before:]
     assert count == 4 and added == "Kf6 Kf4 Ke6 Ke4 Kd5 Kd3 Kd6 Kd4".split(), (said, added)
-    assert user.text("stamp").startswith("1 dual")
+    user.until("document.getElementById('stamp').textContent.startsWith('1 dual')", 30)
 
 
 def test_a_fen_and_pictures(user):

@@ -80,6 +80,7 @@ def test_ten_entries_are_ten_rows(user):
         )
     )
     opened(user, "entries.pgn", pgn)
+    user.until("document.getElementById('rows').textContent.includes('fails at')", 30)
     list_ = rows(user)
     assert len(list_) == 10, list_
     assert [
@@ -219,7 +220,8 @@ def test_a_game_with_a_bad_move_is_opened_up_to_there(user):
     user.click("readAgain")
     user.until("!document.getElementById('cut')", 60)
     user.settle()
-    assert re.match(r"\d+ dual|fails at ", user.text("stamp")) and "#! up to" not in script(user), user.text("stamp")
+    user.until("/^\\d+ dual|^fails at /.test(document.getElementById('stamp').textContent)", 30)
+    assert "#! up to" not in script(user), user.text("stamp")
     assert "#! game 2, line 9: stipulated by its tag Result" in script(user) and "insert 0.0.0.0 Ke3" in script(user)
     assert [row[0] for row in rows(user)] == ["1", "2", "3"] and "The key" in script(user)
 
@@ -552,7 +554,7 @@ def test_find_all_zugzwangs_of_king_and_pawn(user):
     user.d.find_element(By.CSS_SELECTOR, "#foundList [data-found]").click()
     user.settle()
     user.until("document.getElementById('stamp')", 60)
-    assert user.text("stamp") == "sound" and len(re.findall("insert", script(user))) == 1
+    assert user.text("stamp") == "sound" and len(re.findall("insert", script(user))) == 11, script(user)
 
 
 def test_zugzwangs_of_a_study(user):

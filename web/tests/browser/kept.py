@@ -298,6 +298,7 @@ def test_a_refused_position_of_the_same_men(user):
 def tick(user, title):
     """Chooses a document of the open list by its name."""
     row = f"//*[@id='documents']//tr[.//button[@data-kept][.='{title}']]//input[@data-tick]"
+    user.until(f"[...document.querySelectorAll('#documents [data-kept]')].some(e => e.textContent === '{title}')", 10)
     user.d.find_element(By.XPATH, row).click()
     user.settle()
 

@@ -118,7 +118,7 @@ def test_composed_by_keys_alone(user):
     user.keys(Keys.ARROW_RIGHT)
     user.settle()
     heard = "white king g3, the only move that works, White mates in 27"
-    user.until(f"document.getElementById('spoken').textContent.startsWith('{heard}')", 10)
+    user.until(f"document.getElementById('spoken').textContent.includes('{heard}')", 10)
     user.keys(Keys.DELETE)
     user.settle()
     assert not user.d.find_elements(By.CSS_SELECTOR, ".tree [data-path]")
@@ -155,7 +155,8 @@ def test_faults_and_their_repairs(user):
     user.set_up("8/k1P5/2K5/8/8/8/8/8 w - - 0 1", "white mate 2")
     user.play("c8=Q")
     user.until("document.querySelector('.faults')", 30, "the facts")
-    assert user.text("stamp") == "fails at 1. c8=Q" and "throws it away" in user.by("mend").text
+    user.until("document.getElementById('stamp').textContent === 'fails at 1. c8=Q'", 30)
+    assert "throws it away" in user.by("mend").text
     user.picture("fault")
     user.go("root")
     user.play("c8=R")
@@ -447,7 +448,8 @@ def test_a_study_given_twice(user):
     user.promise("studyboard.open(a[0])", script)
     user.settle()
     assert len(games) == 2 and user.promise("studyboard.pgn()") == "".join(games)
-    assert user.text("stamp") == "5 duals" and "White to win: does not win" in user.text("verdictsBefore")
+    user.until("document.getElementById('stamp').textContent === '5 duals'", 30)
+    assert "White to win: does not win" in user.text("verdictsBefore")
 
 
 def test_from_study_to_study(user):

@@ -291,10 +291,8 @@ def test_a_draft_does_not_wait_for_a_build(user):
     assert len(left) > 3 and left[0] >= 17, left  # KRKP alone takes no less, and it begins when KQKR is there
     print(f"the time left: {left[0]} s at first, {len(texts) / 2:.0f} s in all", flush=True)
     user.click("undo")
-    user.settle()
-    user.click("undo")
-    user.settle()
-    assert user.text("stamp").startswith("3 duals")
+    user.until("document.getElementById('stamp').textContent.startsWith('correct')", 30)
+    assert not user.by("undo").is_enabled()
 
 
 run(globals(), sys.argv[2:])
