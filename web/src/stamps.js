@@ -1,6 +1,6 @@
 // @ts-check
 // The stamp of a study, in the words of the printed page: what is wrong with its stipulation; else the author's first
-// mistake; else its duals, of which some may be accepted; but none where a line of it was not read.
+// mistake; else its duals, with how many a judge accepts. A study with a line that was not read has no verdict.
 import {acceptedAmong, acceptedStamp, hasAccepted} from './accepted.js';
 import {faultKind, isMain, numbered} from './fault_kinds.js';
 import {other, sideOf} from './fen.js';
@@ -51,8 +51,8 @@ function refusedText({text}) {
 /** @param {import('./types.js').Refused} r */
 const unreadAt = ({line}) => wordOf('unread').replace('1', `${line + 1}`);
 /**
- * What a game says if its study was not read to the end: up to which move of the file it was read, or the first line
- * that was refused. Then its verdict is not the entry's.
+ * Where the reading of a study ended, as its game says: the first move of the file that was not read, or the first
+ * refused line. The verdict on such a study is not the entry's.
  * @param {{refused: import('./types.js').Refused[]}} doc
  * @param {Study} s
  */
