@@ -1,5 +1,5 @@
 //! The text of a study with its tails.
-ghost use Rattle.std.specs.Prelude.{◌≡◌, ◌++◌, ◌<◌, ◌≤◌, ◌^◌, [], IfOk, IfSome, OnOk, codes, length, take, drop, true};
+ghost use Rattle.std.specs.Prelude.{◌≡◌, ◌++◌, ◌<◌, ◌≤◌, ◌^◌, [], IfOk, IfSome, OnOk, length, true};
 ghost use Rattle.study_wide.specs.Rules.{is_wide_legal};
 ghost use Rattle.study_tails.specs.Study.{IsWidePlayable, node_at};
 ghost use Rattle.study_tails.specs.Tails.{is_beside, tails, tail};

@@ -1,9 +1,7 @@
 //! The effect of a move in a game's text.
-ghost use Rattle.std.specs.Prelude.{◌≡◌, ◌≤◌, IfOk, IfSome, OnErr, OnOk, MatchOption, None, Some, true};
+ghost use Rattle.std.specs.Prelude.{◌≡◌, ◌≤◌, IfOk, IfSome, OnErr, OnOk, None, Some};
 ghost use Rattle.study_tree.specs.Edits.{width};
 ghost use Rattle.study_marks.specs.Study.{place_from, place_at};
-ghost use Rattle.study_wide.specs.Rules.{is_wide_legal};
-ghost use Rattle.study_wide_text.specs.Matching.{wide_move_of};
 ghost use Rattle.study_tails.specs.Study.{node_at};
 ghost use Rattle.study_tails.specs.Moves.{WideComes, IsLegalAt, IsMeantAt, move_fault_of, with_wide_insertion, wide_moved_by, wide_after_move_text};
 

@@ -1,5 +1,5 @@
 //! The tails of a study.
-ghost use Rattle.std.specs.Prelude.{◌≡◌, ◌++◌, ◌∷◌, ◌≤◌, [], map, length, IfOk, IfErr, OnOk, MatchOption, Ok, Err, Some, None, true};
+ghost use Rattle.std.specs.Prelude.{◌≡◌, ◌++◌, ◌∷◌, ◌≤◌, [], map, length, IfOk, IfErr, OnOk, Ok, Err, Some, None, true};
 ghost use Rattle.study_wide.specs.Rules.{is_small};
 ghost use Rattle.study_tails.specs.Study.{IsWidePlayable};
 ghost use Rattle.study_tails.specs.Tails.{tails, tails_from, moves_by, has_try, is_beside, goal_after, has_four_digits, tail};
