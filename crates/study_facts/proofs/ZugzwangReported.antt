@@ -8,7 +8,7 @@ use Rattle.study_board.specs.Men.{same_side, other_side}
 use Rattle.study_board.specs.Position.{Position, IsValid}
 use Rattle.study_moves.specs.EnPassant.{has_legal_en_passant}
 use Rattle.study_moves.specs.Laws.{EachHasAtMostOneValue}
-use Rattle.study_zugzwang.specs.Zugzwang.{IsZugzwang, Scores, handed_on}
+use Rattle.study_zugzwang.specs.Zugzwang.{IsZugzwang, EitherCanMove, Scores, handed_on}
 use Rattle.study_zugzwang.proofs.Zugzwangs.{one-score}
 use Rattle.study_facts.specs.declared.zugzwang.Zugzwang.{Zugzwang}
 use Rattle.study_facts.specs.declared.zugzwang.Zugzwang.TheVariants.{Full, Half}
@@ -39,10 +39,10 @@ other-twice : (s : Side) → other_side (other_side s) ≡ s
 other-twice White = refl
 other-twice Black = refl
 
-module _ (law : EachHasAtMostOneValue) (p : Position) (passed : has_legal_en_passant p ≡ false) (valid : IsValid (handed_on p))
+module _ (law : EachHasAtMostOneValue) (p : Position) (passed : has_legal_en_passant p ≡ false) (either : EitherCanMove p)
     (i j : ℕ) (here : Scores p i) (there : Scores (handed_on p) j) where
   is-zugzwang : i + j < 2 → IsZugzwang p
-  is-zugzwang few = record { none_passed = passed; other = valid; less = (i, j, here, there, few) }
+  is-zugzwang few = record { none_passed = passed; either = either; less = (i, j, here, there, few) }
 
   no-zugzwang : (i + j < 2 → ⊥) → ¬ (IsZugzwang p)
   no-zugzwang many z =
@@ -95,17 +95,17 @@ module _ (law : EachHasAtMostOneValue) (p : Position) (passed : has_legal_en_pas
   pub kind-evaluated : IsZugzwangOf p (kind_of p.to_move i j)
   kind-evaluated = kind-from (i + j == 0) refl
 
-pub kind-by : EachHasAtMostOneValue → (p q : Position) (side : Side) (i j : ℕ) → has_legal_en_passant p ≡ false → q ≡ handed_on p → IsValid q
+pub kind-by : EachHasAtMostOneValue → (p q : Position) (side : Side) (i j : ℕ) → has_legal_en_passant p ≡ false → q ≡ handed_on p → EitherCanMove p
     → side ≡ p.to_move → Scores p i → Scores q j → IsZugzwangOf p (kind_of side i j)
-kind-by law p q side i j passed e valid s here there =
+kind-by law p q side i j passed e either s here there =
     subst (λ x. IsZugzwangOf p (kind_of x i j)) (sym s)
-    (kind-evaluated law p passed (subst (λ (r : Position). IsValid r) e valid) i j here (subst (λ (r : Position). Scores r j) e there))
+    (kind-evaluated law p passed either i j here (subst (λ (r : Position). Scores r j) e there))
 
 pub none-passing : (p : Position) → has_legal_en_passant p ≡ true → IsZugzwangOf p None
 none-passing p e z = false≢true (sym z.none_passed ∙ e)
 
-pub none-other : (p : Position) → ¬ (IsValid (handed_on p)) → IsZugzwangOf p None
-none-other p n z = n z.other
+pub none-other : (p : Position) → ¬ (EitherCanMove p) → IsZugzwangOf p None
+none-other p n z = n z.either
 
 -- ---- a position has exactly one kind
 

@@ -4,7 +4,7 @@ ghost use Rattle.study_material.specs.declared.class.Class.{Class as AClass};
 ghost use Rattle.study_moves.specs.EnPassant.{has_legal_en_passant};
 ghost use Rattle.study_values.specs.Values.{IsNotDamage};
 ghost use Rattle.study_marks.specs.Evaluated.{failures_of};
-ghost use Rattle.study_zugzwang.specs.Zugzwang.{Scores, handed_on};
+ghost use Rattle.study_zugzwang.specs.Zugzwang.{Scores, EitherCanMove, handed_on};
 ghost use Rattle.study_facts.specs.Asked.{HasProbed, within};
 ghost use Rattle.study_facts.specs.Zugzwang.{IsZugzwangOf, kind_of, zugzwang_words, zugzwang_line};
 
@@ -14,7 +14,7 @@ use study_board::{Position, Side};
 use study_moves::{has_legal_en_passant, values_are_unique};
 use study_text::Text;
 use study_values::{ProbeFault, Values};
-use study_zugzwang::{half_points, handed_on};
+use study_zugzwang::{half_points, with_other_to_move};
 
 /// A mutual zugzwang: for a full point, if each side loses when it is to move; or for half a point of a side, which draws when it is
 /// to move, and wins when the other side is.
@@ -70,6 +70,7 @@ fn kind_beside<V: Values>(
     // Many clauses: callers use each fact of the probes by itself.
     requires passed { has_legal_en_passant p.now ≡ false }
     requires other { q.now ≡ handed_on p.now }
+    requires either { EitherCanMove p.now }
     requires few { here < 3 }
     ensures game { Scores p.now here → V.source.is_honest values.old
         → IfOk result (IsZugzwangOf p.now) }
@@ -99,6 +100,7 @@ fn zugzwang_of<V: Values>(
 ) -> Result<Option<Zugzwang>, ProbeFault>
     requires passed { has_legal_en_passant p.now ≡ false }
     requires other { q.now ≡ handed_on p.now }
+    requires either { EitherCanMove p.now }
     ensures game { V.source.is_honest values.old → IfOk result (IsZugzwangOf p.now) }
     ensures no_value { (c : AClass) → IsErrOf result (ProbeFault.NoTable c)
         → V.source.held values.old c ≡ false }
@@ -131,7 +133,7 @@ pub fn zugzwang_at<V: Values>(p: &Position, values: &mut V) -> Result<Option<Zug
     if passing {
         return Ok(None);
     }
-    match handed_on(p) {
+    match with_other_to_move(p) {
         None => Ok(None),
         Some(q) => zugzwang_of(p, &q, values),
     }

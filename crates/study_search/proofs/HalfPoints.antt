@@ -1,10 +1,10 @@
 -- A mutual zugzwang by the value of the position first, and then by that of the same men with the other side to move.
 use Rattle.std.proofs.Common.{arith, ◌≡◌, ℕ, ◌+◌, ◌-◌, ◌<◌, Bool, true, false, Result, Ok, Err, IfOk, ◌↔◌, sym, ◌∙◌, subst}
 use Rattle.std.proofs.lemmas.Bool.{false≢true}
-use Rattle.study_board.specs.Position.{Position, IsValid}
+use Rattle.study_board.specs.Position.{Position}
 use Rattle.study_moves.specs.EnPassant.{has_legal_en_passant}
 use Rattle.study_moves.specs.Laws.{EachHasAtMostOneValue}
-use Rattle.study_zugzwang.specs.Zugzwang.{IsZugzwang, Scores, ScoresLessThan, handed_on}
+use Rattle.study_zugzwang.specs.Zugzwang.{IsZugzwang, EitherCanMove, Scores, ScoresLessThan, handed_on}
 use Rattle.study_zugzwang.proofs.Zugzwangs.{one-score, won-enough}
 use Rattle.study_search.specs.Listed.{OtherScoresLess}
 
@@ -20,25 +20,25 @@ zugzwang-left law p k (Ok b) x few h = (
       let o = h.0 e in
       let low = o.2.2 in
       let less : k + o.2.0 < 2 = omega (arith, few, low) in
-      record { none_passed = o.0; other = o.1; less = (k, o.2.0, x, o.2.1, less) }),
+      record { none_passed = o.0; either = o.1; less = (k, o.2.0, x, o.2.1, less) }),
   (λ z.
       let same : z.less.0 ≡ k = one-score law p z.less.0 k z.less.2 x in
       let less = z.less.4 in
       let low : z.less.1 < 2 - k = omega (arith, same, less) in
-      h.1 (z.none_passed, z.other, (z.less.1, z.less.3, low))),
+      h.1 (z.none_passed, z.either, (z.less.1, z.less.3, low))),
 )
 zugzwang-left law p k (Err e) x few h = tt
 
 pub none-passing : (p : Position) (n : ℕ) → has_legal_en_passant p ≡ true → (false ≡ true) ↔ OtherScoresLess p n
 none-passing p n e = ((λ f. absurd (false≢true f)), (λ o. absurd (false≢true (sym o.0 ∙ e))))
 
-pub none-other : (p : Position) (n : ℕ) → ¬ (IsValid (handed_on p)) → (false ≡ true) ↔ OtherScoresLess p n
+pub none-other : (p : Position) (n : ℕ) → ¬ (EitherCanMove p) → (false ≡ true) ↔ OtherScoresLess p n
 none-other p n h = ((λ f. absurd (false≢true f)), (λ o. absurd (h o.1)))
 
-pub other-by : {E : Type 0} (p q : Position) (n : ℕ) (r : Result Bool E) → has_legal_en_passant p ≡ false → q ≡ handed_on p → IsValid q
+pub other-by : {E : Type 0} (p q : Position) (n : ℕ) (r : Result Bool E) → has_legal_en_passant p ≡ false → q ≡ handed_on p → EitherCanMove p
     → IfOk r (λ b. (b ≡ true) ↔ ScoresLessThan q n) → IfOk r (λ b. (b ≡ true) ↔ OtherScoresLess p n)
-other-by p q n (Ok b) none is valid h = (
-  (λ e. (none, subst (λ (x : Position). IsValid x) is valid, subst (λ (x : Position). ScoresLessThan x n) is (h.0 e))),
+other-by p q n (Ok b) none is either h = (
+  (λ e. (none, either, subst (λ (x : Position). ScoresLessThan x n) is (h.0 e))),
   (λ o. h.1 (subst (λ (x : Position). ScoresLessThan x n) (sym is) o.2)),
 )
-other-by p q n (Err e) none is valid h = tt
+other-by p q n (Err e) none is either h = tt

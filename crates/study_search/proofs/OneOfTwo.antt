@@ -62,7 +62,7 @@ module _ (law : AllAgreeWithBare) (unique : EachHasAtMostOneValue) (p : Position
   twice = ap (λ (s : Side). (let q : Position = record { men = p.men; to_move = s; passed = None } in q)) (other-twice p.to_move)
 
   turnable : IsTurnable colours_swapped (handed_on p)
-  turnable = IsTurnable-from_valid colours_swapped (handed_on p) z.other (colours-admitted (handed_on p))
+  turnable = IsTurnable-from_valid colours_swapped (handed_on p) z.either.other (colours-admitted (handed_on p))
 
   turnable-twice : IsTurnable colours_swapped (handed_on (handed_on p))
   turnable-twice = record { seats = turnable.seats; ordered = turnable.ordered; passed = tt }

@@ -15,7 +15,7 @@ use Rattle.study_moves.specs.declared.moves.Move.{Move}
 use Rattle.study_moves.specs.EnPassant.{has_legal_en_passant, without_idle_passed_square, without_passed}
 use Rattle.study_moves.specs.Rules.{is_legal, after}
 use Rattle.study_moves.specs.Symmetry.{image_move}
-use Rattle.study_moves.specs.Game.{IsLegal, IsWon, IsLost, IsDrawn}
+use Rattle.study_moves.specs.Game.{IsLegal, HasNoMove, IsWon, IsLost, IsDrawn}
 use Rattle.study_moves.specs.Laws.{AllAgreeWithBare, HasSameValue}
 use Rattle.study_moves.proofs.RulesOfImages.{after-turned, IsTurnable-after, image_legal}
 use Rattle.study_moves.proofs.BareImages.{bare_image}
@@ -91,13 +91,20 @@ admits-from_seats s (x ∷ xs) h = go (is_pawn x) (λ e. keeps (h.0.pawn e)) (ad
     go true k e = k refl
     go false k e = e
 
+moves-image : (s : Symmetry) (p : Position) → IsTurnable s p → ¬ (HasNoMove p) → ¬ (HasNoMove (image s p))
+moves-image s p t moves none = moves (λ m l. none (image_move s m) (image_legal s p t m l))
+
 zugzwang-image : (s : Symmetry) (p : Position) → IsTurnable s p → IsZugzwang p → IsZugzwang (image s p)
 zugzwang-image s p t z =
     let ends = sym (handed-image s p) in
     let u : IsTurnable s (handed_on p) = record { seats = t.seats; ordered = t.ordered; passed = tt } in
     record {
       none_passed = live_along s p (image s p) (bare_image s p t) ∙ z.none_passed;
-      other = subst (λ (q : Position). IsValid q) ends (valid_image s (handed_on p) z.other (admits-from_seats s p.men t.seats));
+      either = record {
+        other = subst (λ (q : Position). IsValid q) ends (valid_image s (handed_on p) z.either.other (admits-from_seats s p.men t.seats));
+        own_moves = moves-image s p t z.either.own_moves;
+        other_moves = subst (λ (q : Position). ¬ (HasNoMove q)) ends (moves-image s (handed_on p) u z.either.other_moves);
+      };
       less = (
         z.less.0,
         z.less.1,
@@ -235,7 +242,11 @@ module _ (law : AllAgreeWithBare) (p : Position) (valid : IsValid p) where
       let same = sym (handed-bare p) in
       record {
         none_passed = live_bare p ∙ z.none_passed;
-        other = subst (λ (q : Position). IsValid q) same z.other;
+        either = record {
+          other = subst (λ (q : Position). IsValid q) same z.either.other;
+          own_moves = λ none. z.either.own_moves (λ m l. none m (legal-bare m l));
+          other_moves = subst (λ (q : Position). ¬ (HasNoMove q)) same z.either.other_moves;
+        };
         less = (
           z.less.0,
           z.less.1,

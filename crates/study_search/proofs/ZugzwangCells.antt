@@ -20,7 +20,7 @@ use Rattle.study_index.proofs.ComputedIndex.{decoded_of_numbered, numbered_of_de
 use Rattle.study_index.proofs.NumbersReadOff.{IsOfMen-decoded}
 use Rattle.study_index.proofs.WithBit.{HasParts-from}
 use Rattle.study_prober.specs.CellPages.{AreValuesOf}
-use Rattle.study_zugzwang.specs.Zugzwang.{half_points, handed_on, Scores}
+use Rattle.study_zugzwang.specs.Zugzwang.{half_points, handed_on, EitherCanMove, Scores}
 use Rattle.study_zugzwang.proofs.Zugzwangs.{one-score}
 use Rattle.study_search.specs.declared.finding.Search.{Search}
 use Rattle.study_search.specs.declared.themes.Theme.{Theme}
@@ -36,10 +36,10 @@ use Rattle.study_search.proofs.OtherSide.{step-small, white-decoded, black-decod
 pub not-handed : (c : Class) (n : ℕ) → ((q : Position) → IsDecoded c n q → ⊥) → (false ≡ true) ↔ IsHandedOn c n
 not-handed c n none = ((λ f. absurd (false≢true f)), (λ h. absurd (none h.0 (decoded_of_numbered c n h.0 h.1))))
 
-pub handed-by : (c : Class) (n : ℕ) (p : Position) (b : Bool) → IsDecoded c n p → ((b ≡ true) ↔ IsValid (handed_on p)) → (b ≡ true) ↔ IsHandedOn c n
+pub handed-by : (c : Class) (n : ℕ) (p : Position) (b : Bool) → IsDecoded c n p → ((b ≡ true) ↔ EitherCanMove p) → (b ≡ true) ↔ IsHandedOn c n
 handed-by c n p b d h = (
   (λ e. (p, numbered_of_decoded c n p d, h.0 e)),
-  (λ x. h.1 (subst (λ (q : Position). IsValid (handed_on q)) (same x.0 p (sym x.1 ∙ numbered_of_decoded c n p d)) x.2)),
+  (λ x. h.1 (subst (λ (q : Position). EitherCanMove q) (same x.0 p (sym x.1 ∙ numbered_of_decoded c n p d)) x.2)),
 )
   where
     same : (q r : Position) → Some q ≡ Some r → q ≡ r
@@ -101,8 +101,8 @@ module _ (law : EachHasAtMostOneValue) (c : Class) (page opposite : ℕ) (own ot
           h.1.1,
           record {
             none_passed = quiet c n p (decoded_of_numbered c n p h.1.1) small;
-            other = h.1.2;
-            less = (i, j, own-score p h.1.1, other-score p h.1.1 h.1.2, ltb-true (i + j) 2 h.0);
+            either = h.1.2;
+            less = (i, j, own-score p h.1.1, other-score p h.1.1 h.1.2.other, ltb-true (i + j) 2 h.0);
           },
         )
 
@@ -113,9 +113,9 @@ module _ (law : EachHasAtMostOneValue) (c : Class) (page opposite : ℕ) (own ot
         let i = half_points (value_of (slice_index own (n % 4096))) in
         let j = half_points (value_of (slice_index other (n % 4096))) in
         let e : z.less.0 ≡ i = one-score law p z.less.0 i z.less.2 (own-score p h.1) in
-        let f : z.less.1 ≡ j = one-score law (handed_on p) z.less.1 j z.less.3 (other-score p h.1 z.other) in
+        let f : z.less.1 ≡ j = one-score law (handed_on p) z.less.1 j z.less.3 (other-score p h.1 z.either.other) in
         let less = z.less.4 in
-        (lt-ltb (i + j) 2 (omega (arith, e, f, less)), (p, h.1, z.other))
+        (lt-ltb (i + j) 2 (omega (arith, e, f, less)), (p, h.1, z.either))
 
   -- the next one on a page by the cells is the next one
   pub next-at : (from to : ℕ) (next : Option ℕ) → 4096 * page ≤ from → to ≤ 4096 * page + 4096 → 4096 * page < 2 * side_step c

@@ -1,12 +1,12 @@
 -- Not part of any public contract: mutual zugzwangs by the cells of the same men with either side to move.
 use Rattle.std.specs.Prelude.{◌≡◌, ℕ, ◌+◌, ◌-◌, ◌*◌, ◌/◌, ◌%◌, ◌^◌, ◌<◌, ◌≤◌, nat_lt, Bool, true, List, length, slice_index, Some}
-use Rattle.study_board.specs.Position.{Position, IsValid}
+use Rattle.study_board.specs.Position.{Position}
 use Rattle.study_material.specs.declared.class.Class.{Class}
 use Rattle.study_values.specs.Cells.{value_of}
 use Rattle.study_values.specs.Number.{king_places}
 use Rattle.study_index.specs.Computed.{position_numbered}
 use Rattle.study_index.specs.Decoded.{slots_of, slots_have_pawn}
-use Rattle.study_zugzwang.specs.Zugzwang.{half_points, handed_on, IsZugzwang}
+use Rattle.study_zugzwang.specs.Zugzwang.{half_points, EitherCanMove, IsZugzwang}
 use Rattle.study_search.specs.declared.finding.Search.{Search}
 use Rattle.study_search.specs.Finding.{IsFound}
 
@@ -18,9 +18,9 @@ side_step c = king_places (slots_have_pawn (slots_of c)) * 64 ^ (length (slots_o
 abbrev pub IsZugzwangAt : Class → ℕ → Type 0
 IsZugzwangAt c n = (p : Position) × (position_numbered c n ≡ Some p) × IsZugzwang p
 
--- the number reads as a position that is valid with the other side to move, too
+-- the number reads as a position that is valid with the other side to move, too, and either side has a legal move
 abbrev pub IsHandedOn : Class → ℕ → Type 0
-IsHandedOn c n = (p : Position) × (position_numbered c n ≡ Some p) × IsValid (handed_on p)
+IsHandedOn c n = (p : Position) × (position_numbered c n ≡ Some p) × EitherCanMove p
 
 -- sides to move with these two cells score less than a point between them
 abbrev pub is_less : ℕ → ℕ → Bool

@@ -1,10 +1,10 @@
 -- Not part of any public contract: what some of the moves in a list lead to, which of them alone holds, the other half of a zugzwang, and a row that is added.
 use Rattle.std.specs.Prelude.{◌≡◌, ℕ, Bool, true, false, ◌⊎◌, List, [], ◌∷◌, ◌++◌}
-use Rattle.study_board.specs.Position.{Position, IsValid}
+use Rattle.study_board.specs.Position.{Position}
 use Rattle.study_moves.specs.declared.moves.Move.{Move}
 use Rattle.study_moves.specs.Rules.{after}
 use Rattle.study_moves.specs.EnPassant.{has_legal_en_passant}
-use Rattle.study_zugzwang.specs.Zugzwang.{handed_on, ScoresLessThan}
+use Rattle.study_zugzwang.specs.Zugzwang.{handed_on, EitherCanMove, ScoresLessThan}
 use Rattle.study_search.specs.declared.only_moves.Outcome.{Outcome}
 use Rattle.study_search.specs.OnlyMoves.{Holds, HasOnlyMoves}
 use Rattle.study_search.specs.Rows.{IsRow}
@@ -20,9 +20,9 @@ IsOnlyAmong o p m [] = ⊥
 IsOnlyAmong o p m (k ∷ ks) =
     ((k ≡ m) × Holds o (after p k) × ¬ (SomeLeads (Holds o) p ks)) ⊎ (¬ (Holds o (after p k)) × IsOnlyAmong o p m ks)
 
--- no capture in passing is legal, and with the other side to move the men are a position in which that side scores less than so many half points
+-- no capture in passing is legal, either side has a legal move, and with the other side to move that side scores less than so many half points
 abbrev pub OtherScoresLess : Position → ℕ → Type 0
-OtherScoresLess p limit = (has_legal_en_passant p ≡ false) × IsValid (handed_on p) × ScoresLessThan (handed_on p) limit
+OtherScoresLess p limit = (has_legal_en_passant p ≡ false) × EitherCanMove p × ScoresLessThan (handed_on p) limit
 
 -- a row is added, or there is none
 abbrev pub AddsRow : Outcome → ℕ → Position → List Move → List Move → Bool → Type 0

@@ -4,8 +4,7 @@
 ghost use Rattle.std.specs.Prelude.{◌≡◌, ◌+◌, ◌*◌, ◌/◌, ◌%◌, ◌<◌, ◌≤◌, ◌↔◌, true, ℕ, IsTrue, IfOk, IfErr, IfSome, OnOk};
 ghost use Rattle.study_board.specs.declared.men.Side.TheVariants.{White, Black};
 ghost use Rattle.study_values.specs.Cells.{value_of};
-ghost use Rattle.study_board.specs.Position.{IsValid};
-ghost use Rattle.study_zugzwang.specs.Zugzwang.{half_points, handed_on};
+ghost use Rattle.study_zugzwang.specs.Zugzwang.{half_points, EitherCanMove};
 ghost use Rattle.study_search.specs.declared.themes.Theme.TheVariants as theme;
 ghost use Rattle.study_material.specs.Needs.{IsNeeded};
 ghost use Rattle.study_search.specs.Faults.{CanReport, HasSameTables};
@@ -21,7 +20,7 @@ use study_material::Class;
 use study_moves::values_are_unique;
 use study_prober::CellPages;
 use study_values::{PAGE_CELLS, ProbeFault};
-use study_zugzwang::handed_on;
+use study_zugzwang::with_other_to_move;
 
 /// Cells of a page.
 const PAGE: u32 = 4096;
@@ -76,23 +75,23 @@ fn is_less(own: u8, other: u8) -> bool
     score_of_cell(own) + score_of_cell(other) < 2
 }
 
-/// Whether the men are a valid position with the other side to move, too.
-fn can_be_handed_on(p: &Position) -> bool
-    ensures { (result ≡ true) ↔ IsValid (handed_on p.now) }
+/// Whether the men are a valid position with the other side to move, too, and either side has a legal move.
+fn can_either_move(p: &Position) -> bool
+    ensures { (result ≡ true) ↔ EitherCanMove p.now }
 {
-    match handed_on(p) {
+    match with_other_to_move(p) {
         None => false,
         Some(_) => true,
     }
 }
 
-/// Whether the number reads as a position that is valid with the other side to move, too.
+/// Whether the number reads as a position that is valid with the other side to move, too, and either side has a legal move.
 fn is_handed_on(class: Class, number: u32) -> bool
     ensures { (result ≡ true) ↔ IsHandedOn class number }
 {
     match decode(class, number) {
         None => false,
-        Some(p) => can_be_handed_on(&p),
+        Some(p) => can_either_move(&p),
     }
 }
 

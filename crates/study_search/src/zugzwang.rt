@@ -1,4 +1,4 @@
-//! Mutual zugzwangs: the men are a valid position with either side to move, and the two sides to move score less than one point between them.
+//! Mutual zugzwangs: either side can be to move and has a legal move, and the two sides to move score less than one point between them.
 #![tactic(auto, using(crate::proofs::Faults::can_report, crate::proofs::Faults::if_reported))]
 
 ghost use Rattle.std.specs.Prelude.{◌≡◌, ◌<◌, ◌↔◌, true, IfOk, IfErr};
@@ -11,7 +11,7 @@ use crate::value::value_of;
 use study_board::Position;
 use study_moves::{has_legal_en_passant, values_are_unique};
 use study_values::{ProbeFault, Values};
-use study_zugzwang::{half_points, handed_on};
+use study_zugzwang::{half_points, with_other_to_move};
 
 /// The number of half points that the side to move scores.
 fn score<V: Values>(p: &Position, values: &mut V) -> Result<u8, ProbeFault>
@@ -41,7 +41,7 @@ fn scores_less_than<V: Values>(p: &Position, limit: u8, values: &mut V) -> Resul
     }
 }
 
-/// Whether no capture in passing is legal, and the same men are a valid position with the other side to move, in which that side scores less.
+/// Whether no capture in passing is legal, either side has a legal move, and with the other side to move that side scores less.
 fn other_scores_less<V: Values>(p: &Position, limit: u8, values: &mut V) -> Result<bool, ProbeFault>
     ensures game { V.source.is_honest values.old
         → IfOk result (λ b. (b ≡ true) ↔ OtherScoresLess p.now limit) }
@@ -53,7 +53,7 @@ fn other_scores_less<V: Values>(p: &Position, limit: u8, values: &mut V) -> Resu
     if passing {
         return Ok(false);
     }
-    match handed_on(p) {
+    match with_other_to_move(p) {
         None => Ok(false),
         Some(q) => scores_less_than(&q, limit, values),
     }

@@ -7,14 +7,15 @@ use Rattle.study_board.specs.declared.men.Man.{Man}
 use Rattle.study_board.specs.declared.men.Side.{Side}
 use Rattle.study_board.specs.declared.men.Side.TheVariants.{White, Black}
 use Rattle.study_board.specs.Men.{other_side}
-use Rattle.study_board.specs.Position.{Position, IsValid}
+use Rattle.study_board.specs.Position.{Position, IsValid, in_check}
 use Rattle.study_moves.specs.EnPassant.{has_legal_en_passant, without_idle_passed_square, without_passed}
+use Rattle.study_moves.specs.Game.{HasNoMove, IsMate, IsStalemate}
 use Rattle.study_moves.specs.Laws.{AllAgreeWithBare, EachHasAtMostOneValue, HasSameValue}
 use Rattle.study_index.proofs.MenInOrder.{ascending_same}
 use Rattle.study_values.specs.declared.value.Value.{Value}
 use Rattle.study_values.specs.declared.value.Value.TheVariants.{Win, Loss, Draw}
 use Rattle.study_values.specs.Game.{IsValueOf}
-use Rattle.study_zugzwang.specs.Zugzwang.{ZugzwangsAreMutual, IsZugzwang, Scores, ScoresLessThan, ScoreLessThanAPoint, half_points, handed_on}
+use Rattle.study_zugzwang.specs.Zugzwang.{ZugzwangsAreMutual, IsZugzwang, EitherCanMove, Scores, ScoresLessThan, ScoreLessThanAPoint, half_points, handed_on}
 
 abbrev of : List Man → Side → Option ℕ → Position
 of xs s x = record { men = xs; to_move = s; passed = x }
@@ -83,20 +84,20 @@ rest-by law p q k (Err e) x few h = tt
 pub no-zugzwang : (p : Position) → has_legal_en_passant p ≡ true → (false ≡ true) ↔ IsZugzwang p
 no-zugzwang p e = ((λ f. absurd (false≢true f)), (λ z. absurd (false≢true (sym z.none_passed ∙ e))))
 
-pub no-other : (p : Position) → ¬ (IsValid (handed_on p)) → (false ≡ true) ↔ IsZugzwang p
-no-other p n = ((λ f. absurd (false≢true f)), (λ z. absurd (n z.other)))
+pub no-other : (p : Position) → ¬ (EitherCanMove p) → (false ≡ true) ↔ IsZugzwang p
+no-other p n = ((λ f. absurd (false≢true f)), (λ z. absurd (n z.either)))
 
-pub zugzwang-by : {E : Type 0} (p q : Position) (r : Result Bool E) → has_legal_en_passant p ≡ false → q ≡ handed_on p → IsValid q
+pub zugzwang-by : {E : Type 0} (p q : Position) (r : Result Bool E) → has_legal_en_passant p ≡ false → q ≡ handed_on p → EitherCanMove p
     → IfOk r (λ b. (b ≡ true) ↔ ScoreLessThanAPoint p q) → IfOk r (λ b. (b ≡ true) ↔ IsZugzwang p)
-zugzwang-by p q (Ok b) none is valid h = (
+zugzwang-by p q (Ok b) none is either h = (
   (λ e. record {
     none_passed = none;
-    other = subst (λ (x : Position). IsValid x) is valid;
+    either = either;
     less = subst (λ (x : Position). ScoreLessThanAPoint p x) is (h.0 e);
   }),
   (λ z. h.1 (subst (λ (x : Position). ScoreLessThanAPoint p x) (sym is) z.less)),
 )
-zugzwang-by p q (Err e) none is valid h = tt
+zugzwang-by p q (Err e) none is either h = tt
 
 -- the other side's other side is the side itself
 other-twice : (s : Side) → other_side (other_side s) ≡ s
@@ -117,7 +118,11 @@ value-along p q h Draw i = h.drawn.0 i
 pub both-ways : AllAgreeWithBare → ZugzwangsAreMutual
 both-ways law p valid z = record {
   none_passed = refl;
-  other = subst (λ (q : Position). IsValid q) back (law p valid).valid;
+  either = record {
+    other = subst (λ (q : Position). IsValid q) back (law p valid).valid;
+    own_moves = z.either.other_moves;
+    other_moves = subst (λ (q : Position). ¬ (HasNoMove q)) back (λ none. z.either.own_moves (λ m l. none m ((law p valid).legal m ∙ l)));
+  };
   less = (
     z.less.1,
     z.less.0,
@@ -134,3 +139,26 @@ both-ways law p valid z = record {
   where
     back : without_idle_passed_square p ≡ handed_on (handed_on p)
     back = bare-quiet p z.none_passed ∙ ap (λ s. of p.men s None) (sym (other-twice p.to_move))
+
+-- ---- a side that has no legal move
+
+pub mated-first : (p : Position) (b : Bool) → ((b ≡ true) ↔ IsMate p) → b ≡ true → (true ≡ true) ↔ HasNoMove p
+mated-first p b h e = ((λ t. (h.0 e).1), (λ none. refl))
+
+pub stalemated-else : (p : Position) (b r : Bool) → ((b ≡ true) ↔ IsMate p) → b ≡ false → ((r ≡ true) ↔ IsStalemate p) → (r ≡ true) ↔ HasNoMove p
+stalemated-else p b r h e k = ((λ t. (k.0 t).1), (λ none. go (in_check p.men p.to_move) refl none))
+  where
+    go : (t : Bool) → in_check p.men p.to_move ≡ t → HasNoMove p → r ≡ true
+    go true c none = absurd (false≢true (sym e ∙ h.1 (c, none)))
+    go false c none = k.1 (c, none)
+
+pub either-by : (p q : Position) → q ≡ handed_on p → IsValid q → (a b : Bool) → ((a ≡ true) ↔ HasNoMove p) → ((b ≡ true) ↔ HasNoMove q) → a ≡ false → b ≡ false
+    → EitherCanMove p
+either-by p q is valid a b h k e f = record {
+  other = subst (λ (x : Position). IsValid x) is valid;
+  own_moves = λ none. false≢true (sym e ∙ h.1 none);
+  other_moves = subst (λ (x : Position). ¬ (HasNoMove x)) is (λ none. false≢true (sym f ∙ k.1 none));
+}
+
+pub other-blocked : (p q : Position) → q ≡ handed_on p → HasNoMove q → ¬ (EitherCanMove p)
+other-blocked p q is none x = x.other_moves (subst (λ (r : Position). HasNoMove r) is none)

@@ -7,4 +7,4 @@ mod laws;
 mod zugzwang;
 
 pub use laws::zugzwangs_are_mutual;
-pub use zugzwang::{half_points, handed_on};
+pub use zugzwang::{half_points, handed_on, with_other_to_move};

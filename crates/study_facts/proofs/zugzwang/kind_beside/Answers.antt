@@ -8,9 +8,8 @@ use Rattle.study_facts.proofs.zugzwang.kind_beside.Goals as goal
 
 pub returns-in-Ok-clause-game : goal.returns-in-Ok-clause-game
 returns-in-Ok-clause-game g c scores h =
-    let valid : IsValid c.args.q.now = search rules in
     subst (λ (z : Option Zugzwang). IsZugzwangOf c.args.p.now z) (sym c.kind_of.ensures)
-    (kind-by c.values_are_unique.ensures c.args.p.now c.args.q.now c.to_move.result c.args.here c.in-Ok.there c.requires.passed c.requires.other valid
+    (kind-by c.values_are_unique.ensures c.args.p.now c.args.q.now c.to_move.result c.args.here c.in-Ok.there c.requires.passed c.requires.other c.requires.either
     c.to_move.ensures scores (c.in-Ok.ensures.game h))
 
 pub returns-in-Err-clause-evaluated : goal.returns-in-Err-clause-evaluated

@@ -5,4 +5,4 @@ pub returns-in-None : goal.returns-in-None
 returns-in-None c = not-handed c.args.class c.args.number c.in-None.ensures.none
 
 pub returns-in-Some : goal.returns-in-Some
-returns-in-Some c = handed-by c.args.class c.args.number c.in-Some.p c.can_be_handed_on.result c.in-Some.ensures.some c.can_be_handed_on.ensures
+returns-in-Some c = handed-by c.args.class c.args.number c.in-Some.p c.can_either_move.result c.in-Some.ensures.some c.can_either_move.ensures

@@ -14,7 +14,7 @@ returns-in-None-clause-game g c h = none-other c.args.p.now c.args.limit c.in-No
 pub returns-in-Some-clause-game : goal.returns-in-Some-clause-game
 returns-in-Some-clause-game g c h =
     other-by c.args.p.now c.in-Some.q c.args.limit c.scores_less_than.result (sym c.has_legal_en_passant-passing.ensures ∙ c.if-passing.false)
-    c.in-Some.ensures.some.0 c.in-Some.ensures.some.1 (c.scores_less_than.ensures.game h)
+    c.in-Some.ensures.some.0 c.in-Some.ensures.some.2 (c.scores_less_than.ensures.game h)
 
 pub returns-in-Some-clause-faults : goal.returns-in-Some-clause-faults
 returns-in-Some-clause-faults g c =
