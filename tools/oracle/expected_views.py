@@ -8,7 +8,6 @@ script first asks for the PGN, so the scripts are those of the gallery up to the
     tools/oracle/expected_views.py FOLDER
     tools/oracle/expected_views.py lines    adds these lines alone to the views that are expected, and those two to the views in web/tests/data
 """
-import re
 import sys
 from pathlib import Path
 
@@ -55,58 +54,32 @@ def with_zugzwangs(view):
     return "".join(line + "\n" for line in lines)
 
 
-def first_mistake(hero, start, rest):
-    """The first move of the solution, with its number, by which the hero throws it away: the hero's moves are first children."""
-    fens = {"root": start}
-    for words in [line.split(" ") for line in rest if line.startswith("node ") and not line.startswith("node root ")]:
-        path, san = words[1:3]
-        before, _, place = path.rpartition(".")
-        fields = fens[before or "root"]
-        fens[path] = words[-6:] if fields else None
-        if fields and fields[1] == ("w" if hero == "White" else "b"):
-            if place != "0":
-                fens[path] = None  # no part of the solution, nor what follows it
-            elif words[-9] == "mistake":
-                return f"{fields[5]}{'.' if hero == 'White' else '...'} {san}"
-    return None
-
-
-def has_main_fault(hero, start, rest):
-    """Whether the hero has a dual or a mistake among the first moves of the nodes."""
-    white = start[1] == "w"
-    for words in [line.split(" ") for line in rest if re.match(r"node 0(\.0)* ", line)]:
-        if white == (hero == "White") and ("dual" in words or words[-9] == "mistake"):
-            return True
-        white = not white
-    return False
-
-
-def with_head(view):
-    """A view with the counts of men behind its first line, and the verdict as a judge reads it behind its second."""
-    start, stipulation, *rest = [line for line in view.splitlines() if not line.startswith(("counts ", "stamp ", "sentence "))]
-    asked, verdict, value = re.fullmatch(r"stipulation ((?:White|Black) to [^:]*): ([^,]*), (.*)", stipulation).groups()
-    hero, fields = asked.split()[0], start.split(" ")[1:]
-    to_move = {line.split(" ")[-5] for line in rest if line.startswith("node ") and not line.startswith("node root ")}
-    empty = ("b" if hero == "White" else "w") not in to_move
-    found = report_facts.Judged(asked, value, fields[1] == "w", verdict, empty, first_mistake(hero, fields, rest), 0,
-                                  has_main_fault(hero, fields, rest))
-    counts = report_facts.counts(report_facts.Position.of(start.removeprefix("study ")))
-    lines = [start, f"counts {counts}", stipulation, f"stamp {found.stamp}", f"sentence {found.words} At the start: {value}.", *rest]
+def with_head(view, name):
+    """A view with the counts of men behind its first line, and the verdict as a judge reads it behind its second: that of the first study of this script
+    of the gallery."""
+    heads = ("counts ", "stamp ", "worst ", "sentence ")
+    start, stipulation, *rest = [line for line in view.splitlines() if not line.startswith(heads)]
+    study = report_facts.studies_in(name)[0]
+    found = report_facts.judged(study)
+    assert start == f"study {study.fen}" and stipulation.startswith(f"stipulation {study.asked}: "), (name, start, stipulation)
+    counts = report_facts.counts(study.position[()])
+    worst = [f"worst {found.worst}"] if found.worst else []
+    lines = [start, f"counts {counts}", stipulation, f"stamp {found.stamp}", *worst, f"sentence {found.words} At the start: {study.start_value}.", *rest]
     return "".join(line + "\n" for line in lines)
 
 
-def with_lines(view):
-    return with_head(with_zugzwangs(view))
+def with_lines(view, name):
+    return with_head(with_zugzwangs(view), name)
 
 
 def stored():
     """The views and surveys that are expected, with these lines."""
     for file in sorted(PAGE_TESTS.glob("*.views")):
         views = parts(file.read_text(), "# ")
-        file.write_text("".join(f"# {heading}\n{with_head(view)}" for heading, view in views))
+        file.write_text("".join(f"# {heading}\n{with_head(view, file.stem)}" for heading, view in views))
     front, rest = (CRATE / "stdout").read_text("latin-1").split("== views and surveys\n")
     views = parts(rest[:rest.index("== pages\n")], "# ")
-    text = "".join(f"# {heading}\n" + (with_lines(view) if view.startswith("study ") else view) for heading, view in views)
+    text = "".join(f"# {heading}\n" + (with_lines(view, heading.split()[0]) if view.startswith("study ") else view) for heading, view in views)
     (CRATE / "stdout").write_text(front + "== views and surveys\n" + text + rest[rest.index("== pages\n"):], "latin-1")
 
 
@@ -115,7 +88,7 @@ def main(folder):
     for file in sorted(folder.glob("*.views")):
         for heading, view in parts(file.read_text(), "# "):
             if material(view.splitlines()[0].removeprefix("study ")) in MADE:
-                asked.append((file.stem, heading, with_lines(view)))
+                asked.append((file.stem, heading, with_lines(view, file.stem)))
     for heading, survey in parts((folder / "surveys.txt").read_text(), "# "):
         fen, square, stipulation = heading.split(" | ")
         if material(fen) in MADE:

@@ -402,7 +402,8 @@ def also_value(fact):
 
 def named(study, path, fact):
     """Another move that holds beside the one that leads to the node, with what it costs in brackets."""
-    cost = longer(study, path, also_value(fact)) + (", wastes time" if lost_time(fact) is not None else "")
+    later = longer(study, path, also_value(fact))
+    cost = later + (", wastes time" if lost_time(fact) is not None and not later.endswith("quicker") else "")
     return fact[1] + (f" ({cost[2:]})" if cost else "")
 
 
@@ -434,57 +435,117 @@ def wrong_claim(asked, start, white_first):
     return f"does not {goal}"
 
 
+# how bad a dual is, the worst first
+KINDS_OF_DUALS = ("cook", "main", "variations", "last", "time")
+
+
+class Facts:
+    """What a judge asks of a solution beside its marks: its duals by their kinds and the worst in words, a refutation of its first mistake, and the
+    first main defence that is not given. `of(kind)` has the facts of the lines, `label` names the node at a path, `front` is the number before a move
+    from it, and `children` has the numbers of children of its children."""
+
+    def __init__(self, faults, also, refuted, missing, value, label, front, children):
+        self.counts, self.worst, self.reply, self.missing, self.mistake = dict.fromkeys(KINDS_OF_DUALS, 0), None, "", "", None
+        found = {}
+        for fact in faults:
+            path = tuple(map(int, fact[0].split(".")))
+            if fact[-1] == "mistake":
+                if self.mistake is None:
+                    self.mistake = label(path)
+                    replies = [r[1] for r in refuted if r[0] == fact[0] and r[1] != "stalemate"]
+                    self.reply = f": {front(path)}{replies[0]}" if replies else ""
+                continue
+            kind = "time" if fact[-3] == fact[-1] else "cook" if len(path) < 3 else "last" if not any(children(path)) else \
+                "main" if not any(path) else "variations"
+            self.counts[kind] += 1
+            found.setdefault(kind, (path, fact[0]))
+        for kind in reversed(KINDS_OF_DUALS):
+            if kind in found:
+                path, words = found[kind]
+                others = [a[1] for a in also if a[0] == words]
+                self.cook = f"cook: {front(path[:-1])}{others[0]}" if kind == "cook" else None
+                more = f" and {len(others) - 1} more" if len(others) > 1 else ""
+                turn = max((n for n in range(1, len(path) + 1) if path[n - 1]), default=0)
+                after = f" (after {label(path[:turn])})" if turn else ""
+                self.worst = f"{label(path)}: also {others[0]}{more}{', wastes time' if kind == 'time' else ''}{after}"
+        for fact in missing:
+            path = () if fact[0] == "root" else tuple(map(int, fact[0].split(".")))
+            given = value(path + (0,))
+            if any(path) or given is None or fact[2] != "win" or fact[4] != "1" or "mates" not in given:
+                continue
+            if moves_of(f"win {fact[3]}") >= moves_of(given):
+                self.missing = f"{front(path)}{fact[1]}"
+                break
+
+
+def facts_of(study):
+    """The facts of a study by its lines."""
+    def value(path):
+        return study.node[path].value if path in study.node else None
+
+    return Facts(study.of("fault"), study.of("also"), study.of("refuted"), study.of("missing"), value, study.label, study.front,
+                 lambda path: [len(child.children) for child in study.node[path].children])
+
+
+def several(number, one, many):
+    return "" if not number else f", {number} {one if number == 1 else many}"
+
+
 class Judged:
     """The verdict on a study as a judge reads it: by what is asked for, the start's value and who moves there, the verdict of the lines, whether no move
-    of the hero is given, the move of the first mistake with its number, how many duals only waste time, and whether the main line has a dual."""
+    of the hero is given, and the facts of the solution."""
 
-    def __init__(self, asked, start, white_first, verdict, empty, mistake, time, main):
+    def __init__(self, asked, start, white_first, verdict, empty, facts):
         wrong = wrong_claim(asked, start, white_first)
         duals = int(verdict.split()[1]) if verdict.startswith("unsound") else 0
-        self.frame = "sound" if duals == time else "unsound"
+        counts, self.worst = facts.counts, ""
+        self.frame, self.shows = "sound", not wrong
+        missing = f"; main defence {facts.missing} not given" if facts.missing else ""
+        says = f" The main defence {facts.missing} is not given." if facts.missing else ""
         if wrong:
             self.stamp, self.frame = wrong, "wrong"
             self.words = "The stipulation is wrong: " + (wrong[7:] if wrong.startswith("wrong: ") else f"{asked.split()[0]} {wrong}") + "."
-        elif mistake:
-            self.stamp, self.frame = f"fails at {mistake}", "wrong"
-            self.words = f"The stipulation is correct, but the solution fails at {mistake}."
+        elif facts.mistake:
+            self.stamp, self.frame = f"fails at {facts.mistake}{facts.reply}", "wrong"
+            self.words = f"The stipulation is correct, but the solution {self.stamp}."
         elif not duals:
-            self.stamp = "correct, no solution yet" if empty else "sound"
+            self.stamp = "correct, no solution yet" if empty else "sound" + missing
             self.words = "The stipulation is correct." if empty else \
-                "The stipulation is correct, and every move of the solution is the only one that works."
+                "The stipulation is correct, and every move of the solution is the only one that works." + says
+        elif counts["time"] == duals:
+            self.stamp, self.worst = "sound, duals waste time" + missing, facts.worst
+            self.words = "The stipulation is correct, and the duals of the solution only waste time." + says
+        elif facts.cook:
+            self.stamp, self.frame, self.worst = facts.cook, "wrong", facts.worst
+            self.words = f"The stipulation is correct, but another first move works: {facts.cook[6:]}."
         else:
-            waste = "" if not time else f", {time} waste{'s' if time == 1 else ''} time"
-            place = "" if main else " in a variation" if duals == 1 else " in variations"
-            none = "" if main else ", none in the main line"
-            self.stamp = "sound, duals waste time" if time == duals else f"{duals} dual{'' if duals == 1 else 's'}{place}{waste}{none}"
-            which = "" if not time else (", which" if time == duals else f"; {time} of them") + f" only waste{'s' if time == 1 else ''} time"
-            self.words = f"The stipulation is correct; the solution has {'one dual' if duals == 1 else f'{duals} duals'}{place}{which}{none}."
+            self.frame, self.worst = "unsound", facts.worst
+            if counts["variations"] == duals:
+                apart = " in a variation, none in the main line" if duals == 1 else " in variations, none in the main line"
+            elif counts["last"] == duals:
+                apart = " in the last move" if duals == 1 else " in last moves"
+            else:
+                apart = several(counts["variations"], "in a variation", "in variations") + several(counts["last"], "in a last move", "in last moves") \
+                    + several(counts["time"], "wastes time", "waste time")
+            self.stamp = f"{duals} dual{'' if duals == 1 else 's'}{apart}"
+            self.words = f"The stipulation is correct; the solution has {self.stamp}."
         if empty:
             self.words += " No move of the solution is given yet."
 
 
 def judged(study):
     """The verdict on a study."""
-    slips = [fact[0] for fact in study.of("fault") if fact[-1] == "mistake"]
-    mistake = study.label(tuple(map(int, slips[0].split(".")))) if slips else None
-    time = time_faults([" ".join(fact) for fact in study.facts])
-    main = any(re.fullmatch(r"0(\.0)*", fact[0]) for fact in study.of("fault"))
-    found = Judged(study.asked, study.start_value, study.white_first, study.verdict, ["empty"] in study.facts, mistake, time, main)
+    found = Judged(study.asked, study.start_value, study.white_first, study.verdict, ["empty"] in study.facts, facts_of(study))
     if study.unread:
-        found.stamp, found.frame = f"not read: line {study.unread}", "unsound"
+        found.stamp, found.frame, found.worst, found.shows = f"not read: line {study.unread}", "unsound", "", True
         found.words = "A line of this study could not be read, so there is no verdict."
     return found
-
-
-def stamp_of(study):
-    """The words of the stamp."""
-    return judged(study).stamp
 
 
 def verdict(study):
     found = judged(study)
     return inside("section", inside("h2", inside("span", say(found.stamp), f'class="stamp {found.frame}"')) + inside("p", say(found.words))
-                  + inside("p", say(f"At the start: {study.start_value}.")) + faults(study), 'class="verdict"')
+                  + inside("p", say(f"At the start: {study.start_value}.")) + (faults(study) if found.shows else ""), 'class="verdict"')
 
 
 def move_in_tree(study, path, numbered):
@@ -520,13 +581,15 @@ def facts_about(study, kind):
 
 def cards(study):
     out = ""
+    if not judged(study).shows:
+        return out
     for path, also in facts_about(study, "also"):
         before = study.position[path[:-1]]
         items = ""
         for fact in also:
-            time = lost_time(fact)
-            words = f": {value_words(not before.white, also_value(fact))}{longer(study, path, also_value(fact))}"
-            if time is not None:
+            time, later = lost_time(fact), longer(study, path, also_value(fact))
+            words = f": {value_words(not before.white, also_value(fact))}{later}"
+            if time is not None and not later.endswith("quicker"):
                 words += ", wastes time" + (f" ({time + 1} moves)" if time else "")
             items += inside("li", inside("b", say(fact[1])) + say(words))
         title = inside("h3", say(study.label(path) + " ") + inside("span", f"dual {len(also)}", 'class="tag"'))
@@ -641,6 +704,11 @@ def left_out_row(line, number):
                   + inside("td", say(why[1:] + meaning(line))))
 
 
+def verdict_cell(found):
+    """A verdict, and the worst dual below it."""
+    return inside("td", say(found.stamp) + ("<br>" + inside("small", say(found.worst)) if found.worst else ""))
+
+
 def summary(entries):
     """The list of entries: studies, and comments on games without a block."""
     rows = ""
@@ -651,7 +719,7 @@ def summary(entries):
         event = study.tags["Event"] if study.tags["Event"] != "?" else "Untitled"
         white = study.tags["White"] if study.tags["White"] != "?" else ""
         rows += inside("tr", inside("td", str(number)) + inside("td", inside("a", say(event), f'href="#e{number}"')) + inside("td", say(white))
-                       + inside("td", say(study.asked)) + inside("td", say(stamp_of(study))))
+                       + inside("td", say(study.asked)) + verdict_cell(judged(study)))
     heads = "".join(inside("th", h) for h in ("No.", "Title", "Author", "Stipulation", "Verdict"))
     return inside("article", inside("header", inside("h1", "Entries and verdicts"))
                   + inside("table", inside("thead", inside("tr", heads)) + inside("tbody", rows)), 'class="sum"')

@@ -1,9 +1,8 @@
 // @ts-check
 // A man on another square: how many only moves in a row the side to move would have to find, and what a study's tree
 // would be. Both are for the program to say.
-import {faultyStamp, wrongText} from './stamps.js';
 import {menOf, placement} from './fen.js';
-import {readReview, readView, refusalIn} from './parse_answers.js';
+import {readView, refusalIn} from './parse_answers.js';
 import {toText} from './script.js';
 import {PAGES} from './state.js';
 import {insertions, legalPart, turnedTree} from './turning.js';
@@ -74,20 +73,7 @@ export async function treeAt(core, fen, aim, tree) {
     if (!view || (line && Number(line) <= head.length)) throw new Error(reason(refusalIn(answer)));
     return line ? Number(line) - 1 - head.length : -1;
   }, MOST_FALLEN);
-  return {kept: lines.length, of, ...await stampThere(core, view, [...head, ...lines, 'pgn'])};
-}
-/**
- * The faults of a tree and its stamp, as that of a study.
- * @param {Engine} core
- * @param {View | null} view
- * @param {string[]} lines
- */
-async function stampThere(core, view, lines) {
-  if (!view || !view.aim) return {faults: 0, stamp: ''};
-  const {fen, aim, root, verdict, start} = view;
-  if (!root.faults || wrongText(aim, verdict, start, fen)) return {faults: root.faults, stamp: view.stamp};
-  const review = readReview((await core.answer('review', toText(lines), PAGES)).text);
-  return {faults: root.faults, stamp: review && review.faults.length ? faultyStamp(fen, review).text : view.stamp};
+  return {kept: lines.length, of, faults: view && view.aim ? view.root.faults : 0, stamp: view ? view.stamp : ''};
 }
 /**
  * The squares whose tree keeps a move, those first that lose the fewest and then have the fewest faults.

@@ -199,7 +199,9 @@ function faultsOf(doc, s, review) {
   const accepted = new Set(acceptedOf(doc, s, review.faults)), begins = sideOf(s.fen) === s.aim.hero,
         left = byWeight(review.faults.filter(({path}) => !accepted.has(path)), begins);
   return {
-    fault: left.length ? faultText(left[0], review, s.fen, bareTree(doc.lines.slice(s.from, s.end))) : '',
+    fault: accepted.size && left.length ? faultText(left[0], review, s.fen, bareTree(doc.lines.slice(s.from, s.end)))
+      : left.length                     ? review.worst
+                                        : '',
     faults: [...new Set(left.map(fault => faultKind(fault, begins)))]
   };
 }

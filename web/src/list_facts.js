@@ -3,7 +3,7 @@
 import {track} from './actions.js';
 import {app, doc, services, PAGES} from './state.js';
 import {entriesOf} from './entries.js';
-import {readReview, readView} from './parse_answers.js';
+import {judgedBy, readReview, readView} from './parse_answers.js';
 import {editsTo, fensOf, toText} from './script.js';
 import {moveName} from './words.js';
 /** @typedef {import('./types.js').Doc} Doc @typedef {import('./types.js').Review} Review */
@@ -75,7 +75,7 @@ async function find(text) {
   const {text: facts} = await services.facts.answer('review', text + 'pgn\n', PAGES),
                view = readView((await services.facts.answer('view root', text, PAGES)).text);
   if (found.size >= MOST) found.clear();
-  found.set(text, {review: readReview(facts), mainLine: view && mainLineOf(view.root)});
+  found.set(text, {review: judgedBy(readReview(facts), view), mainLine: view && mainLineOf(view.root)});
 }
 /**
  * Finds what is not known yet. Unless the user wants it, it ends where the document changes, and leaves long lists

@@ -68,6 +68,7 @@ export function readView(text) {
       verdict: '',
       start: '',
       stamp: '',
+      worst: '',
       sentence: '',
       aim: null,
       path: 'root',
@@ -83,6 +84,7 @@ export function readView(text) {
     const row = line.split(' ');
     if (row[0] === 'study') view.fen = row.slice(1).join(' ');
     else if (row[0] === 'stamp') view.stamp = line.slice('stamp '.length);
+    else if (row[0] === 'worst') view.worst = line.slice('worst '.length);
     else if (row[0] === 'sentence') view.sentence = line.slice('sentence '.length);
     else if (row[0] === 'stipulation') Object.assign(view, readStipulation(row.slice(1).join(' ')));
     else if (row[0] === 'at')
@@ -179,7 +181,8 @@ export const readReviews = text => text.split(/^(?=study )/m).map(readReview).fi
  */
 export function readReview(text) {
   const review =
-    /** @type {Review} */ ({empty: false, waste: '', faults: [], also: [], refuted: [], missing: [], ends: []});
+    /** @type {Review} */ (
+      {empty: false, waste: '', stamp: '', worst: '', faults: [], also: [], refuted: [], missing: [], ends: []});
   let found = false;
   for (const row of rowsOf(text)) {
     if (row[0] === 'study') found = true;
@@ -195,6 +198,12 @@ export function readReview(text) {
   }
   return found ? review : null;
 }
+/**
+ * A review with what a view of the same study says of it as a judge reads it.
+ * @param {Review | null} review
+ * @param {View | null} view
+ */
+export const judgedBy = (review, view) => review && view && {...review, stamp: view.stamp, worst: view.worst};
 /**
  * @param {Review} review
  * @param {string[]} row

@@ -1,8 +1,8 @@
 // @ts-check
-// The stamp of a study, in the words of the printed page: what is wrong with its stipulation; else the author's first
-// mistake; else its duals, with how many a judge accepts. A study with a line that was not read has no verdict.
+// The stamp of a study: that of its view, as the printed page has it, with how many duals a judge accepts. A study with
+// a line that was not read has no verdict; as long as its facts are not known, what its game says is shown.
 import {acceptedAmong, acceptedStamp, hasAccepted} from './accepted.js';
-import {faultKind, isMain, numbered} from './fault_kinds.js';
+import {faultKind} from './fault_kinds.js';
 import {other, sideOf} from './fen.js';
 import {isEdit, openingsBefore, wordsOf} from './script.js';
 import {bareTree} from './unmarked.js';
@@ -77,35 +77,17 @@ export function wrongText(aim, verdict, start, fen) {
   return wordOf('misses').replace('win', aim.goal === 'mate' ? `mate in ${aim.k}` : aim.goal);
 }
 /**
- * `3 duals, 2 waste time`
- * @param {number} duals
- * @param {number} time      how many of them only waste time
- * @param {boolean} main     whether some dual is in the main line
- */
-export function dualsText(duals, time, main) {
-  if (time === duals) return wordOf('time');
-  const waste = time ? wordOf(time === 1 ? 'wastes' : 'waste') : '', one = duals === 1,
-        [count, none] = wordOf(main ? (one ? 'dual' : 'duals')
-            : one                   ? 'in-variation'
-                                    : 'in-variations')
-                          .split(/(?=, )/);
-  return (one ? count : count.replace('2', `${duals}`)) + waste.replace(/^[^,]*/, '').replace(/\d+/, `${time}`) +
-    (none || '');
-}
-/**
- * What a solution with faults is called: by its first mistake, or by its duals.
- * @param {string} fen
+ * What a solution with faults is called.
  * @param {Review} review
  * @returns {{kind: string, text: string}}
  */
-export function faultyStamp(fen, {faults}) {
-  const mistake = faults.find(({kind}) => kind === 'mistake'),
-        time = faults.filter(fault => faultKind(fault, true) === 'waste').length;
-  if (mistake)
-    return {kind: 'mistake', text: wordOf('fails').replace('1. Kb2', numbered(fen, mistake.path, mistake.san))};
+export function faultyStamp({faults, stamp}) {
+  const kinds = faults.map(fault => faultKind(fault, true));
   return {
-    kind: time === faults.length ? 'time' : 'duals',
-    text: dualsText(faults.length, time, faults.some(({path}) => isMain(path)))
+    kind: kinds.includes('fails')             ? 'mistake'
+      : kinds.every(kind => kind === 'waste') ? 'time'
+                                              : 'duals',
+    text: stamp
   };
 }
 /** @param {string} n */
@@ -133,9 +115,10 @@ export function stampOf(doc, s, review) {
   if (!kind) return {kind: 'not judged', text: 'not judged'};
   if (wrong || kind === 'wrong') return {kind: 'wrong', text: wrong || kind};
   if (kind === 'sound')
-    return hasSolution(doc.lines, s, review) ? {kind, text: kind} : {kind: 'correct', text: wordOf('correct')};
-  if (!review) return {kind: 'duals', text: faultsText(n)};
-  const stamp = faultyStamp(s.fen, review);
+    return hasSolution(doc.lines, s, review) ? {kind, text: (review && review.stamp) || kind}
+                                             : {kind: 'correct', text: wordOf('correct')};
+  if (!review || !review.stamp) return {kind: 'duals', text: faultsText(n)};
+  const stamp = faultyStamp(review);
   return stamp.kind === 'duals'
     ? acceptedStamp(stamp.text, acceptedOf(doc, s, review.faults).length, review.faults.length) || stamp
     : stamp;

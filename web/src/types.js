@@ -31,7 +31,8 @@
  * @property {string} counts       `2 + 2, 0300.10 b6a1`: the men of each side, and the GBR code
  * @property {string} verdict      `sound`, `unsound 3`, `wrong`; empty without a stipulation
  * @property {string} start        the value at the root in words
- * @property {string} stamp        the verdict as a judge reads it, without waste of time
+ * @property {string} stamp        the verdict as a judge reads it
+ * @property {string} worst        the worst dual behind it in words, if the stamp does not name it
  * @property {string} sentence     the same, and the value at the root, in sentences
  * @property {Aim | null} aim
  * @property {TreeNode} root
@@ -44,9 +45,9 @@
  * @typedef {{path: string, san: string, value: Value | null}} Refutation       no value: the move stalemates
  * @typedef {{path: string, san: string, value: Value, count: number, answer: string}} Missing
  * @typedef {{path: string, value: Value | null, keeping: number, of: number, sans: string[]}} Ending   no value: drawn
- * @typedef {{empty: boolean, waste: string, faults: Fault[], also: Also[], refuted: Refutation[], missing: Missing[],
- *   ends: Ending[]}} Review
- *   `empty`: the tree has no move of the hero
+ * @typedef {{empty: boolean, waste: string, stamp: string, worst: string, faults: Fault[], also: Also[],
+ *   refuted: Refutation[], missing: Missing[], ends: Ending[]}} Review
+ *   `empty`: the tree has no move of the hero; `stamp` and `worst` are those of a view of the study
  *   `waste`: the stamp by which loss of time is no dual, as `sound but for loss of time`; empty where none loses time
  *
  * @typedef {{square: number, kind: 'none' | 'fails' | 'holds' | 'only', value: Value | null, count: number,

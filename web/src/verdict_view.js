@@ -8,7 +8,7 @@ import {app, doc} from './state.js';
 import {insert} from './board_input.js';
 import {stipulate} from './edits.js';
 import {acceptedOf, stampOf, verdictsBefore} from './stamps.js';
-import {nodeAt, allNodes} from './parse_answers.js';
+import {nodeAt, allNodes, judgedBy} from './parse_answers.js';
 import {promote, remove} from './node_view.js';
 import {
   aimText,
@@ -34,7 +34,7 @@ export function verdictView(s) {
   const view = app.view;
   if (!view) return notJudged();
   if (!s.aim || !view.verdict) return h('p', {class: 'say'}, 'No stipulation yet: choose who is to win or to draw.');
-  const {kind, text} = stampOf(doc(), {...s, verdict: view.verdict, start: view.start}, app.review);
+  const {kind, text} = stampOf(doc(), {...s, verdict: view.verdict, start: view.start}, judgedBy(app.review, view));
   return [
     h('p', {class: 'verdict'}, h('span', {class: 'stamp ' + kind.replace(' ', '-'), id: 'stamp'}, text),
       h('span', {id: 'sentence'}, s.origin.cut ? `${CUT_SHORT}${atStart(view.start)}.` : verdictSentence(view, kind))),

@@ -89,19 +89,12 @@ export function numberedLine(fen, sans) {
 }
 
 /**
- * The verdict and the value of the start: the sentences of the core. If all faults only lose time, as the review says,
- * it is the sentence of the printed page.
+ * The verdict and the value of the start: the sentences of the core.
  * @param {import('./types.js').View} view
  * @param {string} kind      of the stamp
  */
 export function verdictSentence(view, kind) {
-  const [, faults] = view.verdict.split(' '), start = `${atStart(view.start)}.`;
-  if (kind === 'not read') return `${wordOf('unread-sentence')} ${start}`;
-  if (kind !== 'time') return view.sentence;
-  const [waste] = /, which [^.]*/.exec(wordOf(faults === '1' ? 'time-sentence' : 'times-sentence')) || [''],
-        none = view.sentence.indexOf(wordOf('in-variation').replace(/^[^,]*/, '')),
-        at = none < 0 ? view.sentence.indexOf('.') : none;
-  return view.sentence.slice(0, at) + waste + view.sentence.slice(at);
+  return kind === 'not read' ? `${wordOf('unread-sentence')} ${atStart(view.start)}.` : view.sentence;
 }
 /** @param {{mark: string}} move */
 export const markSign = ({mark}) => (mark === 'only' ? '!' : mark === 'mistake' ? '?' : '');

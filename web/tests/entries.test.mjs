@@ -6,7 +6,7 @@ import {setTag} from '../src/edits.js';
 import {byCause, entriesOf, nameOf, newlyRefused, numbersOf, studyName} from '../src/entries.js';
 import {hasSolution, stampOf} from '../src/stamps.js';
 import {countsOf, csvOf, isOfKind, menuText} from '../src/entry_list.js';
-import {readReview, readReviews} from '../src/parse_answers.js';
+import {judgedBy, readReview} from '../src/parse_answers.js';
 import {assumeAccepted, readScript} from '../src/script.js';
 import {copyStudy, dropStudy, moveStudy} from '../src/study_edits.js';
 import {insertions, isTurn, legalPart, turnedAim, turnedFen, turnedSan, turnedTree} from '../src/turning.js';
@@ -30,8 +30,10 @@ function doc(verdicts) {
 }
 const REVIEW = 'study 1 x\nstipulation White to win: unsound 1, draw\nfault 0 Kg7 win 3 dual 2 time 2\n' +
   'waste sound but for loss of time\nmissing 0 Kb6 win 3 0\n';
+const reviewed = () =>
+  judgedBy(readReview(REVIEW), {stamp: 'sound, duals waste time', worst: '1. Kg7: also Kh7, wastes time'});
 test('each entry has a row and a stamp', () => {
-  const d = doc(['unsound 1', 'sound', 'sound']), review = readReview(REVIEW);
+  const d = doc(['unsound 1', 'sound', 'sound']), review = reviewed();
   const rows = entriesOf(d, [review]);
   assert.deepEqual(rows.map(r => [r.kind, r.title, r.author, r.stamp]), [
     ['time', 'A, "first"', 'Reti', 'sound, duals waste time'],
@@ -117,11 +119,11 @@ test('an entry stays an entry: its number is its place in the file, and its stip
   assert.deepEqual(numbersOf(moved), ['6', '2', '13', '11']);
 });
 test('the list as comma-separated values', () => {
-  const text = csvOf(entriesOf(doc(['unsound 1', 'sound', 'sound']), readReviews(REVIEW)));
+  const text = csvOf(entriesOf(doc(['unsound 1', 'sound', 'sound']), [reviewed()]));
   const [, first, second] = text.split('\r\n');
   assert.equal(first,
-    `10,"A, ""first""",Reti,${
-      FEN},White to win,"sound, duals waste time",1,1,1,,1. Kg7,"same position as No. 11, a study without a number"`);
+    `10,"A, ""first""",Reti,${FEN},White to win,"sound, duals waste time",1,1,1,,"1. Kg7: also Kh7, wastes time",` +
+      '"same position as No. 11, a study without a number"');
   assert.equal(second,
     `11,B,Reti (set for an earlier study),${FEN},White to win (set for an earlier study),` +
       '"correct, no solution yet",,,,,,"same position as No. 10, a study without a number"');

@@ -7,10 +7,10 @@ import {differences} from '../src/comparing.js';
 import {entriesOf} from '../src/entries.js';
 import {countsOf, findEntries, isOfKind, sortEntries} from '../src/entry_list.js';
 import {faultKind} from '../src/fault_kinds.js';
-import {readReview, readView} from '../src/parse_answers.js';
+import {judgedBy, readReview, readView} from '../src/parse_answers.js';
 import {positionsReached, reachedText, samePositions, sameText} from '../src/same_positions.js';
 import {assumeAccepted} from '../src/script.js';
-import {dualsText, faultyStamp, wrongText} from '../src/stamps.js';
+import {faultyStamp, wrongText} from '../src/stamps.js';
 import {bareTree} from '../src/unmarked.js';
 
 const FEN = '7K/8/k1P5/7p/8/8/8/8 w - - 0 1', MIRRORED = 'K7/8/5P1k/p7/8/8/8/8 w - - 0 1',
@@ -22,8 +22,14 @@ const LINES = [
   `position ${MIRRORED}`, 'stipulate white draw', 'tag Event Opposition', 'tag White Čech', 'insert root Kb7', 'pgn',
   '', `position ${COLOURS}`, 'stipulate black draw', 'tag Event Third', 'tag White A', 'insert root Kg2', 'pgn'
 ];
-const REVIEW = readReview('study 1 x\nfault 0.0.0 Kf6 win 3 dual 1 time 0\nfault 0.1.0.0.0 Ke7 draw dual 2 time 2\n' +
-  'also 0.0.0 Kf7 win 3 -\nalso 0.1.0.0.0 Ke6 draw time 1\nalso 0.1.0.0.0 Kd6 draw time 1\n');
+const VERDICT = {
+  stamp: '2 duals, 1 wastes time',
+  worst: '2. Kf6: also Kf7'
+};
+const REVIEW =
+  judgedBy(readReview('study 1 x\nfault 0.0.0 Kf6 win 3 dual 1 time 0\nfault 0.1.0.0.0 Ke7 draw dual 2 time 2\n' +
+             'also 0.0.0 Kf7 win 3 -\nalso 0.1.0.0.0 Ke6 draw time 1\nalso 0.1.0.0.0 Kd6 draw time 1\n'),
+    VERDICT);
 const judged = lines => {
   const d = {...assumeAccepted(lines), at: 0, path: 'root', name: '', id: 'x', note: '', judged: true};
   for (const s of d.studies) s.verdict = 'sound';
@@ -60,7 +66,7 @@ test('a dual that is accepted is kept as a remark, and said', () => {
   const away = lines.map(line => (line === 'insert 0.1.0 h4' ? 'insert 0.1.0 Kc7' : line));
   assert.equal(entriesOf(judged(away), [REVIEW])[0].stamp, '2 duals, 1 wastes time');
 });
-test('what is wrong with a stipulation, the first mistake, and duals', () => {
+test('what is wrong with a stipulation, and the kinds of stamps', () => {
   const aim = (hero, goal, k = 0) => ({hero, goal, k}), fen = '7k/8/8/8/8/8/1q6/K5R1 w - - 0 1';
   const cases = [
     [aim('White', 'draw'), 'sound', 'White mates in 10', 'wrong: White wins'],
@@ -74,16 +80,12 @@ test('what is wrong with a stipulation, the first mistake, and duals', () => {
     [aim('White', 'draw'), 'wrong', 'mate', 'does not draw']
   ];
   for (const [asked, verdict, start, text] of cases) assert.equal(wrongText(asked, verdict, start, fen), text);
-  assert.deepEqual([[1, 0], [3, 0], [3, 1], [5, 4], [2, 2]].map(([n, time]) => dualsText(n, time, true)),
-    ['1 dual', '3 duals', '3 duals, 1 wastes time', '5 duals, 4 waste time', 'sound, duals waste time']);
-  assert.deepEqual([[1, 0], [3, 0], [5, 4], [2, 2]].map(([n, time]) => dualsText(n, time, false)), [
-    '1 dual in a variation, none in the main line', '3 duals in variations, none in the main line',
-    '5 duals in variations, 4 waste time, none in the main line', 'sound, duals waste time'
-  ]);
-  const fault = (path, san, kind) => ({path, san, kind, duals: 1, time: 0});
-  assert.deepEqual(faultyStamp(fen, {faults: [fault('0', 'Rg8+', 'dual'), fault('0.1.0', 'Ka2', 'mistake')]}),
-    {kind: 'mistake', text: 'fails at 2. Ka2'});
-  assert.deepEqual(faultyStamp(fen, {faults: [fault('0', 'Rg8+', 'dual')]}), {kind: 'duals', text: '1 dual'});
+  const fault = (path, kind, time) => ({path, san: 'Rg8+', kind, duals: 1, time});
+  const kindOf = (...faults) => faultyStamp({faults, stamp: ''}).kind;
+  assert.equal(kindOf(fault('0', 'dual', 0), fault('0.1.0', 'mistake', 0)), 'mistake');
+  assert.equal(kindOf(fault('0', 'dual', 0), fault('0.0.0', 'dual', 1)), 'duals');
+  assert.equal(kindOf(fault('0', 'dual', 1)), 'time');
+  assert.equal(faultyStamp({faults: [fault('0', 'dual', 0)], stamp: 'cook: 1. Kb3'}).text, 'cook: 1. Kb3');
 });
 test('the same position as it is, mirrored, with colours exchanged', () => {
   const same = samePositions([FEN, MIRRORED, COLOURS, FEN, '7K/8/k1P5/7p/8/8/8/8 b - - 0 1']);

@@ -130,7 +130,8 @@ test('what a list says of a document', () => {
   });
   const said = (studies, shown = lines, reviews = []) => summary({studies, lines: shown, refused: []}, reviews);
   assert.deepEqual(said([study('unsound 3', 'A')]), {title: 'A, Réti', verdict: '3 faults'});
-  assert.deepEqual(said([study('unsound 1', 'A')], lines, [{faults: [{path: '0', kind: 'dual', duals: 2, time: 2}]}]),
+  assert.deepEqual(said([study('unsound 1', 'A')], lines,
+                     [{faults: [{path: '0', kind: 'dual', duals: 2, time: 2}], stamp: 'sound, duals waste time'}]),
     {title: 'A, Réti', verdict: 'sound, duals waste time'});
   assert.deepEqual(said([study('unsound 3', '?'), study('sound', 'B'), study('sound', 'B')]),
     {title: 'Réti and 2 more studies', verdict: '2 sound, 1 with duals'});

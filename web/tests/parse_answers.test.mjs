@@ -22,7 +22,7 @@ const squares = m => (m.from < 0 ? '-' : squareName(m.from) + squareName(m.to) +
 function viewText(view) {
   const rows = [
     `study ${view.fen}`, `counts ${view.counts}`, `stipulation ${aimText(view.aim)}: ${view.verdict}, ${view.start}`,
-    `stamp ${view.stamp}`, `sentence ${view.sentence}`
+    `stamp ${view.stamp}`, ...(view.worst ? [`worst ${view.worst}`] : []), `sentence ${view.sentence}`
   ];
   for (const n of allNodes(view.root))
     rows.push(
@@ -50,9 +50,7 @@ test('values in words', () => {
   assert.equal(valueText('White', view.root.value), 'White mates in 26');
   assert.equal(valueText('White', view.root.value), view.start);
   assert.equal(verdictSentence(view, 'duals'),
-    'The stipulation is correct; the solution has 3 duals. At the start: White mates in 26.');
-  assert.equal(verdictSentence(view, 'time'),
-    'The stipulation is correct; the solution has 3 duals, which only waste time. At the start: White mates in 26.');
+    'The stipulation is correct; the solution has 3 duals, 2 waste time. At the start: White mates in 26.');
   assert.equal(view.counts, '2 + 2, 0300.10 b6a1');
   assert.equal(valueSign('White', 'Black', {kind: 'loss', n: 0}), '#');
   assert.equal(valueSign('White', 'White', {kind: 'loss', n: 6}), '−3');

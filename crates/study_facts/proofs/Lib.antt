@@ -19,3 +19,4 @@ pub mod TextGrows
 pub mod OneFacts
 pub mod Trails
 pub mod EachAdded
+pub mod AtPath

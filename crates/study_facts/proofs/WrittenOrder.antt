@@ -1,5 +1,5 @@
 -- Lines of nodes in written order.
-use Rattle.std.proofs.Common.{◌≡◌, ℕ, ◌+◌, ◌==◌, ◌&&◌, ◌≤◌, ◌<◌, suc, zero, Bool, List, [], ◌∷◌}
+use Rattle.std.proofs.Common.{◌≡◌, ℕ, ◌+◌, ◌==◌, ◌&&◌, ◌≤◌, ◌<◌, suc, zero, Bool, true, List, [], ◌∷◌}
 use Rattle.std.proofs.Common.{◌++◌, Some, refl, sym, ap, subst, ◌∙◌, append_assoc, add-one, arith}
 use Rattle.std.specs.Prelude.{IsTrue}
 use Rattle.std.proofs.lemmas.List.{append-nil}
@@ -25,12 +25,17 @@ module _ {L : Type 0} where
   node-here (more m l b r) (suc k) h = node-here r k (let z : k < width r = omega (arith, h) in z)
 
   -- no node from a place on has children, if the node at this place has none, nor those after it
-  pub none-here : (f : Forest L) (k next n : ℕ) (b : Bool) → k < width f → n ≡ width (below_at f (k ∷ [])) → next ≡ k + 1
-      → b ≡ has_no_grandchild (siblings_from next f) → ((n == 0) && b) ≡ has_no_grandchild (siblings_from k f)
-  none-here f k next n b lt e j h =
-      let x = node-here f k lt in
-      ap (λ c. c && b) (none-counted x.0.below n (sym (e ∙ ap width (below_entered f [] k x.0 x.1))))
-      ∙ ap (λ c. is_leaf x.0.below && c) (h ∙ ap (λ i. has_no_grandchild (siblings_from i f)) (j ∙ add-one k)) ∙ sym (ap has_no_grandchild x.2)
+  pub none-here : (f : Forest L) (steps : List ℕ) (k next n : ℕ) (b : Bool) → k < width (below_at f steps)
+      → n ≡ width (below_at f (steps ++ k ∷ [])) → next ≡ k + 1
+      → b ≡ has_no_grandchild (siblings_from next (below_at f steps)) → ((n == 0) && b) ≡ has_no_grandchild (siblings_from k (below_at f steps))
+  none-here f steps k next n b lt e j h =
+      let x = node-here (below_at f steps) k lt in
+      ap (λ c. c && b) (none-counted x.0.below n (sym (e ∙ ap width (below_entered f steps k x.0 x.1))))
+      ∙ ap (λ c. is_leaf x.0.below && c) (h ∙ ap (λ i. has_no_grandchild (siblings_from i (below_at f steps))) (j ∙ add-one k)) ∙ sym (ap has_no_grandchild x.2)
+
+  pub none-below : (f : Forest L) → width f ≡ 0 → true ≡ has_no_grandchild f
+  none-below none h = refl
+  none-below (more m l b r) h = absurd (omega (arith, h))
 
   pub there-child : (t : Plain L) (steps path : List ℕ) (k : ℕ) → path ≡ steps ++ k ∷ [] → k < width (below_at t.below steps) → IsTrue (has_spot t path)
   there-child t steps path k e h =

@@ -1,5 +1,5 @@
 -- Not part of any public contract: a node and a move of a study, as a walk reaches them.
-use Rattle.std.specs.Prelude.{◌≡◌, ◌+◌, ◌<◌, ◌^◌, true, IsTrue}
+use Rattle.std.specs.Prelude.{◌≡◌, ◌+◌, ◌<◌, ◌≤◌, ◌^◌, length, true, IsTrue}
 use Rattle.study_moves.specs.Rules.{is_legal}
 use Rattle.study_tree.specs.Edits.{width}
 use Rattle.study_tree.specs.Tree.{has_spot}
@@ -27,6 +27,7 @@ pub record IsStudyMove (s : Study Mark) (x : StudyMove) : Type 0 where
   pub step : IsStep s x.steps.now x.before.aim.now x.before.depth x.line.now x.before.position.now x.played
   pub legal : is_legal x.before.position.now x.played ≡ true
   pub depth : x.before.depth + 1 < 2 ^ 64
+  pub shallow : length x.steps.now ≤ 256
   pub value : x.mark.value ≡ value_at s x.steps.now
   pub mark : x.mark.on_move ≡ mark_at s x.steps.now
   pub solution : x.solution ≡ is_solution_move s x.steps.now

@@ -22,17 +22,34 @@ pub fn move_to<'b, B: Allocator>(bench: &Bench<'b, B>, steps: &[u16]) -> Option<
     }
 }
 
-/// The move of the node's child at this place, if there is one.
-fn child_move<'b, B: Allocator>(bench: &Bench<'b, B>, steps: &[u16], place: u16) -> Option<Move>
+/// The path of the node's child at this place.
+fn child_path(steps: &[u16], place: u16) -> ArrayVec<u16, 257>
     requires { length steps.now ≤ 256 }
-    ensures { result ≡ played_by (spot_at (marked_study bench.now).tree (steps.now ++ place ∷ [])) }
+    ensures { result.items ≡ steps.now ++ place ∷ [] }
 {
     let mut child = ArrayVec::<u16, 257>::new();
     for step in steps {
         child.push(*step);
     }
     child.push(place);
-    move_to(bench, child.as_slice())
+    child
+}
+
+/// The move of the node's child at this place, if there is one.
+fn child_move<'b, B: Allocator>(bench: &Bench<'b, B>, steps: &[u16], place: u16) -> Option<Move>
+    requires { length steps.now ≤ 256 }
+    ensures { result ≡ played_by (spot_at (marked_study bench.now).tree (steps.now ++ place ∷ [])) }
+{
+    move_to(bench, child_path(steps, place).as_slice())
+}
+
+/// The number of children of the node's child at this place.
+pub fn grandchild_count<'b, B: Allocator>(bench: &Bench<'b, B>, steps: &[u16], place: u16) -> u16
+    requires { length steps.now ≤ 256 }
+    ensures { result ≡ width
+        (below_at (marked_study bench.now).tree.below (steps.now ++ place ∷ [])) }
+{
+    child_count(bench, child_path(steps, place).as_slice())
 }
 
 /// Appends a move to the list.

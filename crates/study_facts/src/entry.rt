@@ -1,9 +1,19 @@
 //! An entry of a report.
 
-/// What a report knows of an entry beside its study: its number among the studies, from 1, and, if a line of the entry was refused, the number
-/// of the first such line in the script. The study then lacks what that line was to give.
+/// How an entry stands in what it was taken from.
+#[derive(Clone, Copy, Debug, PartialEq, Eq)]
+pub enum Standing {
+    /// A study that was read to its end.
+    Whole,
+    /// A study of which a line was refused, the first in this line of the script: it lacks what that line was to give.
+    NotRead(u32),
+    /// The end of a line of a study with more men, beside that study's solution.
+    BesideSolution,
+}
+
+/// What a report knows of an entry beside its study: its number among the studies, from 1, and how it stands in what it was taken from.
 #[derive(Clone, Copy, Debug)]
 pub struct EntryInfo {
     pub number: u32,
-    pub unread: Option<u32>,
+    pub standing: Standing,
 }

@@ -1,3 +1,4 @@
 mod FirstMistake
 mod VerdictLaws
-mod MainLineFaults
+pub mod OneFacts
+mod FactsMade

@@ -19,15 +19,16 @@ use Rattle.study_facts.proofs.FaultsListed.{faults-of-solution}
 use Rattle.study_head.specs.declared.mistake.NamedMove.{NamedMove}
 use Rattle.study_head.specs.declared.verdict.Stamp.{Stamp}
 use Rattle.study_head.specs.declared.verdict.Stamp.TheVariants.{Sound, Duals}
-use Rattle.study_head.specs.MainLine.{has_main_fault}
+use Rattle.study_head.specs.declared.solution.DualCounts.{DualCounts}
+use Rattle.study_head.specs.declared.solution.SolutionFacts.{SolutionFacts}
 use Rattle.study_head.specs.Mistake.{mistake_among, named_fault, first_mistake}
-use Rattle.study_head.specs.Verdict.{asks_too_little, excess_stamp, wrong_stamp, solution_stamp, mistake_stamp, first_stamp, stamp_of}
+use Rattle.study_head.specs.Verdict.{asks_too_little, excess_stamp, wrong_stamp, cook_of, cook_stamp, solution_stamp, mistake_stamp, first_stamp, stamp_of}
 use Rattle.study_head.specs.Laws.{AreDuals, DualsAreCounted, SoundHasNoFault}
 
 -- the stamps of a study whose stipulation is correct, and which has no mistake
 abbrev IsRight : Stamp → Bool
-IsRight Sound = true
-IsRight (Duals d t main) = true
+IsRight (Sound wastes missing) = true
+IsRight (Duals d counts) = true
 IsRight _ = false
 
 not-excess : (g : Goal) (hero first : Side) (v : Value) → IsRight (excess_stamp g hero first v) ≡ true → ⊥
@@ -48,9 +49,10 @@ right-claim x first v other h =
     go false e true f = rw e (rw f (λ h. (refl, refl)))
     go false e false f = rw e (rw f (λ h. let no : ⊥ = cc in absurd no))
 
-no-mistake : (o : Option NamedMove) (other : Stamp) → IsRight (mistake_stamp o other) ≡ true → (o ≡ None) × (mistake_stamp o other ≡ other)
-no-mistake None other h = (refl, refl)
-no-mistake (Some m) other h = let no : ⊥ = cc in absurd no
+no-mistake : (o reply : Option NamedMove) (other : Stamp) → IsRight (mistake_stamp o reply other) ≡ true
+    → (o ≡ None) × (mistake_stamp o reply other ≡ other)
+no-mistake None reply other h = (refl, refl)
+no-mistake (Some m) reply other h = let no : ⊥ = cc in absurd no
 
 none-named : (s : Study Mark) (o : Option Fault) → named_fault s o ≡ None → o ≡ None
 none-named s None h = refl
@@ -64,15 +66,15 @@ all-duals (x ∷ xs) h = go (is_mistake (Some x.mark)) refl (all-duals xs) h
     go true e ih = rw e (λ h. let no : ⊥ = cc in absurd no)
     go false e ih = rw e (λ h. (refl, ih h))
 
-module _ (s : Study Mark) (time : ℕ) where
+module _ (s : Study Mark) (f : SolutionFacts) where
   abbrev of_solution : Stamp
-  of_solution = solution_stamp s.tree.label.faults (is_empty (aim_of s).hero_first s.tree.below) time (has_main_fault s)
+  of_solution = solution_stamp s.tree.label.faults (is_empty (aim_of s).hero_first s.tree.below) f
 
-  right : IsRight (stamp_of s time) ≡ true
-      → (meets_stipulation (aim_of s) s.tree.label.value ≡ true) × (first_mistake s ≡ None) × (stamp_of s time ≡ of_solution)
+  right : IsRight (stamp_of s f) ≡ true
+      → (meets_stipulation (aim_of s) s.tree.label.value ≡ true) × (first_mistake s ≡ None) × (stamp_of s f ≡ of_solution)
   right h =
-      let claim = right-claim s.stipulation s.start.position.to_move s.tree.label.value (mistake_stamp (first_mistake s) of_solution) h in
-      let solved = no-mistake (first_mistake s) of_solution (ap IsRight (sym claim.1) ∙ h) in
+      let claim = right-claim s.stipulation s.start.position.to_move s.tree.label.value (mistake_stamp (first_mistake s) f.refutation of_solution) h in
+      let solved = no-mistake (first_mistake s) f.refutation of_solution (ap IsRight (sym claim.1) ∙ h) in
       (claim.0, solved.0, claim.1 ∙ solved.1)
 
 verdict-by : (s : Study Mark) (b : Bool) → meets_stipulation (aim_of s) s.tree.label.value ≡ true → (s.tree.label.faults == 0) ≡ b
@@ -80,35 +82,46 @@ verdict-by : (s : Study Mark) (b : Bool) → meets_stipulation (aim_of s) s.tree
 verdict-by s b meets e = rw meets (rw e refl)
 
 -- by the number of duals
-by-duals : (n : ℕ) (e : Bool) (time : ℕ) (line : Bool) (duals t : ℕ) (main : Bool) → solution_stamp n e time line ≡ Duals duals t main
-    → (n ≡ duals) × ((n == 0) ≡ false)
-by-duals n e time line duals t main h = go (n == 0) refl e h
-  where
-    go : (b : Bool) → (n == 0) ≡ b → (e : Bool) → solution_stamp n e time line ≡ Duals duals t main → (n ≡ duals) × ((n == 0) ≡ false)
-    go true z true = rw z (λ h. let no : ⊥ = cc in absurd no)
-    go true z false = rw z (λ h. let no : ⊥ = cc in absurd no)
-    go false z e = rw z (λ h. (let same : n ≡ duals = cc in same, refl))
+counted-in : (o : Option NamedMove) (n : ℕ) (c : DualCounts) (duals : ℕ) (counts : DualCounts) → cook_stamp o (Duals n c) ≡ Duals duals counts → n ≡ duals
+counted-in None n c duals counts h = let same : n ≡ duals = cc in same
+counted-in (Some m) n c duals counts h = let no : ⊥ = cc in absurd no
 
-by-sound : (n : ℕ) (e : Bool) (time : ℕ) (line : Bool) → solution_stamp n e time line ≡ Sound → (n == 0) ≡ true
-by-sound n e time line h = go (n == 0) refl h
+not-sound : (o : Option NamedMove) (n : ℕ) (c : DualCounts) (missing : Option NamedMove) → cook_stamp o (Duals n c) ≡ Sound false missing → ⊥
+not-sound None n c missing h = let no : ⊥ = cc in no
+not-sound (Some m) n c missing h = let no : ⊥ = cc in no
+
+by-duals : (n : ℕ) (e : Bool) (f : SolutionFacts) (duals : ℕ) (counts : DualCounts) → solution_stamp n e f ≡ Duals duals counts
+    → (n ≡ duals) × ((n == 0) ≡ false)
+by-duals n e f duals counts h = go (n == 0) refl (f.counts.time == n) refl e h
   where
-    go : (b : Bool) → (n == 0) ≡ b → solution_stamp n e time line ≡ Sound → (n == 0) ≡ true
-    go true z = rw z (λ h. refl)
-    go false z = rw z (λ h. let no : ⊥ = cc in absurd no)
+    go : (b : Bool) → (n == 0) ≡ b → (t : Bool) → (f.counts.time == n) ≡ t → (e : Bool) → solution_stamp n e f ≡ Duals duals counts
+        → (n ≡ duals) × ((n == 0) ≡ false)
+    go true z t y true = rw z (λ h. let no : ⊥ = cc in absurd no)
+    go true z t y false = rw z (λ h. let no : ⊥ = cc in absurd no)
+    go false z true y e = rw z (rw y (λ h. let no : ⊥ = cc in absurd no))
+    go false z false y e = rw z (rw y (λ h. (counted-in (cook_of f.worst) n f.counts duals counts h, refl)))
+
+by-sound : (n : ℕ) (e : Bool) (f : SolutionFacts) (missing : Option NamedMove) → solution_stamp n e f ≡ Sound false missing → (n == 0) ≡ true
+by-sound n e f missing h = go (n == 0) refl (f.counts.time == n) refl h
+  where
+    go : (b : Bool) → (n == 0) ≡ b → (t : Bool) → (f.counts.time == n) ≡ t → solution_stamp n e f ≡ Sound false missing → (n == 0) ≡ true
+    go true z t y = rw z (λ h. refl)
+    go false z true y = rw z (rw y (λ h. let no : ⊥ = cc in absurd no))
+    go false z false y = rw z (rw y (λ h. absurd (not-sound (cook_of f.worst) n f.counts missing h)))
 
 pub duals-counted : DualsAreCounted
-duals-counted s time duals t main h e =
-    let r = right s time (ap IsRight e) in
-    let n = by-duals s.tree.label.faults (is_empty (aim_of s).hero_first s.tree.below) time (has_main_fault s) duals t main (sym r.2 ∙ e) in (
+duals-counted s f duals counts h e =
+    let r = right s f (ap IsRight e) in
+    let n = by-duals s.tree.label.faults (is_empty (aim_of s).hero_first s.tree.below) f duals counts (sym r.2 ∙ e) in (
       verdict-by s false r.0 n.1 ∙ ap unsound n.0,
       (faults-of-solution s h).0 ∙ n.0,
       all-duals (solution_faults s) (none-named s (mistake_among (solution_faults s)) r.1),
     )
 
 pub sound-faultless : SoundHasNoFault
-sound-faultless s time h e =
-    let r = right s time (ap IsRight e) in
-    let n = by-sound s.tree.label.faults (is_empty (aim_of s).hero_first s.tree.below) time (has_main_fault s) (sym r.2 ∙ e) in (
+sound-faultless s f missing h e =
+    let r = right s f (ap IsRight e) in
+    let n = by-sound s.tree.label.faults (is_empty (aim_of s).hero_first s.tree.below) f missing (sym r.2 ∙ e) in (
       verdict-by s true r.0 n,
       (faults-of-solution s h).0 ∙ eqb-true s.tree.label.faults 0 n,
     )

@@ -1,5 +1,5 @@
 -- Laws of the verdict on a study.
-use Rattle.std.specs.Prelude.{◌≡◌, ℕ, Bool, false, List, [], ◌∷◌, length, Some}
+use Rattle.std.specs.Prelude.{◌≡◌, ℕ, false, List, [], ◌∷◌, length, Option, Some}
 use Rattle.study_marks.specs.declared.mark.Mark.{Mark}
 use Rattle.study_marks.specs.Annotated.{IsAnnotated}
 use Rattle.study_marks.specs.Study.{Study}
@@ -7,6 +7,9 @@ use Rattle.study_marks.specs.Verdict.{verdict, sound, unsound}
 use Rattle.study_facts.specs.Faults.{Fault, solution_faults}
 use Rattle.study_facts.specs.Nodes.{is_mistake}
 use Rattle.study_head.specs.declared.verdict.Stamp.TheVariants.{Sound, Duals}
+use Rattle.study_head.specs.declared.mistake.NamedMove.{NamedMove}
+use Rattle.study_head.specs.declared.solution.DualCounts.{DualCounts}
+use Rattle.study_head.specs.declared.solution.SolutionFacts.{SolutionFacts}
 use Rattle.study_head.specs.Verdict.{stamp_of}
 
 -- none of these faults is a mistake: all are duals
@@ -17,10 +20,11 @@ AreDuals (x ∷ xs) = (is_mistake (Some x.mark) ≡ false) × AreDuals xs
 -- a study with a stamp of duals has a correct stipulation, and so many faults, each of them a dual
 abbrev pub DualsAreCounted : Type 0
 DualsAreCounted =
-    (s : Study Mark) (time duals t : ℕ) (main : Bool) → IsAnnotated s → stamp_of s time ≡ Duals duals t main
+    (s : Study Mark) (f : SolutionFacts) (duals : ℕ) (counts : DualCounts) → IsAnnotated s → stamp_of s f ≡ Duals duals counts
     → (verdict s ≡ unsound duals) × (length (solution_faults s) ≡ duals) × AreDuals (solution_faults s)
 
--- a study with the stamp `sound` has a correct stipulation and no fault
+-- a study that is called sound, without a word on its duals, has a correct stipulation and no fault
 abbrev pub SoundHasNoFault : Type 0
 SoundHasNoFault =
-    (s : Study Mark) (time : ℕ) → IsAnnotated s → stamp_of s time ≡ Sound → (verdict s ≡ sound) × (length (solution_faults s) ≡ 0)
+    (s : Study Mark) (f : SolutionFacts) (missing : Option NamedMove) → IsAnnotated s → stamp_of s f ≡ Sound false missing
+    → (verdict s ≡ sound) × (length (solution_faults s) ≡ 0)

@@ -5,5 +5,6 @@ pub mod Counts
 pub mod Head
 pub mod Mistake
 pub mod MainLine
+pub mod Solution
 pub mod Verdict
 pub mod Laws

@@ -1,7 +1,11 @@
 -- The words of a verdict.
-use Rattle.std.specs.Prelude.{ℕ, ◌==◌, nat_lt, Bool, false, List, [], ◌++◌, Option, Some, None, is_some, if◌then◌else◌, codes, decimal}
+use Rattle.std.specs.Prelude.{ℕ, ◌-◌, ◌==◌, ◌&&◌, nat_lt, Bool, true, false, List, [], ◌++◌, Option, Some, None, is_some, if◌then◌else◌, codes, decimal}
 use Rattle.study_board.specs.declared.men.Side.{Side}
 use Rattle.study_board.specs.Men.{same_side}
+use Rattle.study_board.specs.Position.{Position}
+use Rattle.study_moves.specs.declared.moves.Move.{Move}
+use Rattle.study_moves.specs.Rules.{is_legal}
+use Rattle.study_notation.specs.SanSpelling.{move_text}
 use Rattle.study_values.specs.declared.value.Value.{Value}
 use Rattle.study_marks.specs.declared.mark.Mark.{Mark}
 use Rattle.study_marks.specs.declared.stipulation.Goal.{Goal}
@@ -11,12 +15,18 @@ use Rattle.study_marks.specs.Study.{Study}
 use Rattle.study_marks.specs.Goals.{aim_of, hero_mates, plies_of, meets_stipulation}
 use Rattle.study_pgn.specs.Values.{side_name, value_text}
 use Rattle.study_facts.specs.Order.{is_empty}
+use Rattle.study_facts.specs.declared.entry.Standing.{Standing}
+use Rattle.study_facts.specs.declared.entry.Standing.TheVariants as standing
 use Rattle.study_head.specs.declared.mistake.NamedMove.{NamedMove}
 use Rattle.study_head.specs.declared.verdict.Stamp.{Stamp}
-use Rattle.study_head.specs.declared.verdict.Stamp.TheVariants.{Wins, Mates, Misses, Fails, Sound, Correct, Duals, NotRead}
+use Rattle.study_head.specs.declared.verdict.Stamp.TheVariants.{Wins, Mates, Misses, Fails, Cooked, Sound, Correct, Duals, NotRead, Refuted, SecondSolution}
 use Rattle.study_head.specs.declared.verdict.Judgement.{Judgement}
-use Rattle.study_head.specs.MainLine.{has_main_fault}
 use Rattle.study_head.specs.Mistake.{IsLegalMove, move_name, first_mistake}
+use Rattle.study_head.specs.declared.solution.DualKind.{DualKind}
+use Rattle.study_head.specs.declared.solution.DualKind.TheVariants.{Cook, WastesTime}
+use Rattle.study_head.specs.declared.solution.DualCounts.{DualCounts}
+use Rattle.study_head.specs.declared.solution.NamedDual.{NamedDual}
+use Rattle.study_head.specs.declared.solution.SolutionFacts.{SolutionFacts}
 
 abbrev pub is_sooner : ℕ → Option ℕ → Bool
 is_sooner limit None = false
@@ -39,29 +49,51 @@ wrong_stamp x first v =
     if asks_too_little x.goal (same_side x.hero first) v then Some (excess_stamp x.goal x.hero first v)
     else (if meets_stipulation (record { goal = x.goal; hero_first = same_side x.hero first }) v then None else Some (Misses x))
 
--- of a solution without a mistake, by the number of its duals, whether it has no move of the hero, how many of the duals only waste time, and whether
--- some dual is in the main line
-abbrev pub solution_stamp : ℕ → Bool → ℕ → Bool → Stamp
-solution_stamp duals e time main = if duals == 0 then (if e then Correct else Sound) else Duals duals time main
+-- the other first move of a cook
+abbrev pub other_named : NamedMove → Option Move → Option NamedMove
+other_named author None = None
+other_named author (Some m) = Some (record { number = author.number; position = author.position; played = m })
 
-abbrev pub mistake_stamp : Option NamedMove → Stamp → Stamp
-mistake_stamp None other = other
-mistake_stamp (Some m) other = Fails m
+abbrev pub is_cook : DualKind → Bool
+is_cook Cook = true
+is_cook _ = false
+
+abbrev pub cook_of : Option NamedDual → Option NamedMove
+cook_of None = None
+cook_of (Some x) = if is_cook x.kind then other_named x.author x.other else None
+
+abbrev pub cook_stamp : Option NamedMove → Stamp → Stamp
+cook_stamp None other = other
+cook_stamp (Some m) other = Cooked m
+
+-- of so many duals, some of which do more than waste time
+abbrev pub dual_stamp : ℕ → SolutionFacts → Stamp
+dual_stamp duals f = cook_stamp (cook_of f.worst) (Duals duals f.counts)
+
+-- of a solution without a mistake, by the number of its duals, whether it has no move of the hero, and its facts
+abbrev pub solution_stamp : ℕ → Bool → SolutionFacts → Stamp
+solution_stamp duals e f =
+    if duals == 0 then (if e then Correct else Sound false f.missing)
+    else (if f.counts.time == duals then Sound true f.missing else dual_stamp duals f)
+
+abbrev pub mistake_stamp : Option NamedMove → Option NamedMove → Stamp → Stamp
+mistake_stamp None reply other = other
+mistake_stamp (Some m) reply other = Fails m reply
 
 abbrev pub first_stamp : Option Stamp → Stamp → Stamp
 first_stamp None other = other
 first_stamp (Some x) other = x
 
--- The verdict on a study, as a judge looks for it: that the stipulation is wrong; else the author's first mistake; else the duals, with those that
--- only waste time; else that it is sound, or that no move of the hero is given.
-abbrev pub stamp_of : Study Mark → ℕ → Stamp
-stamp_of s time =
+-- The verdict on a study, as a judge looks for it: that the stipulation is wrong; else the author's first mistake; else another first move; else the
+-- duals, by their kinds; else that it is sound, or that no move of the hero is given.
+abbrev pub stamp_of : Study Mark → SolutionFacts → Stamp
+stamp_of s f =
     first_stamp (wrong_stamp s.stipulation s.start.position.to_move s.tree.label.value)
-    (mistake_stamp (first_mistake s) (solution_stamp s.tree.label.faults (is_empty (aim_of s).hero_first s.tree.below) time (has_main_fault s)))
+    (mistake_stamp (first_mistake s) f.refutation (solution_stamp s.tree.label.faults (is_empty (aim_of s).hero_first s.tree.below) f))
 
 -- the move that a stamp names is legal
 abbrev pub IsLegalStamp : Stamp → Type 0
-IsLegalStamp (Fails m) = IsLegalMove m
+IsLegalStamp (Fails m reply) = IsLegalMove m
 IsLegalStamp _ = Unit {0}
 
 unfoldable pub not_read : List ℕ
@@ -90,41 +122,76 @@ wrong = codes "wrong: "
 unfoldable pub fails_at : List ℕ
 fails_at = codes "fails at "
 
+-- the name of a move that is legal
+abbrev pub legal_name : NamedMove → List ℕ
+legal_name m = if is_legal m.position m.played then move_name m else []
+
+-- `: 1... f1=Q`
+abbrev pub reply_words : Option NamedMove → List ℕ
+reply_words None = []
+reply_words (Some m) = codes ": " ++ legal_name m
+
+-- `fails at 1. Ka2: 1... f1=Q`
+abbrev pub fails_words : NamedMove → Option NamedMove → List ℕ
+fails_words m reply = fails_at ++ (move_name m ++ reply_words reply)
+
+-- `cook: 1. Kc3`
+abbrev pub cook_words : NamedMove → List ℕ
+cook_words m = codes "cook: " ++ legal_name m
+
 -- `1 dual`, `3 duals`
 abbrev pub duals_words : ℕ → List ℕ
 duals_words n = decimal n ++ (if n == 1 then codes " dual" else codes " duals")
 
-abbrev pub waste_verb : ℕ → List ℕ
-waste_verb n = if n == 1 then codes " wastes time" else codes " waste time"
+-- a number of duals with what is said of one and of more
+unfoldable pub part_words : ℕ → List ℕ → List ℕ → List ℕ
+part_words n one many = if n == 0 then [] else (codes ", " ++ (decimal n ++ (if n == 1 then one else many)))
 
--- `, 2 waste time`
-abbrev pub waste_words : ℕ → List ℕ
-waste_words n = if n == 0 then [] else (codes ", " ++ (decimal n ++ waste_verb n))
+-- `, 1 in a variation, 2 in last moves, 3 waste time`
+abbrev pub kinds_words : DualCounts → List ℕ
+kinds_words c =
+    part_words c.variations (codes " in a variation") (codes " in variations")
+    ++ (part_words c.last (codes " in a last move") (codes " in last moves") ++ part_words c.time (codes " wastes time") (codes " waste time"))
 
--- ` in variations`, if the main line has none
-abbrev pub place_words : ℕ → Bool → List ℕ
-place_words n main = if main then [] else (if n == 1 then codes " in a variation" else codes " in variations")
+-- where duals are that are all in variations, or all in last moves
+abbrev pub variations_words : ℕ → List ℕ
+variations_words n = if n == 1 then codes " in a variation, none in the main line" else codes " in variations, none in the main line"
 
-abbrev pub none_words : Bool → List ℕ
-none_words main = if main then [] else codes ", none in the main line"
+abbrev pub last_words : ℕ → List ℕ
+last_words n = if n == 1 then codes " in the last move" else codes " in last moves"
 
--- if all duals only waste time, the study is sound but for that
-abbrev pub duals_stamp : ℕ → ℕ → Bool → List ℕ
-duals_stamp duals time main =
-    if time == duals then codes "sound, duals waste time"
-    else duals_words duals ++ (place_words duals main ++ (waste_words time ++ none_words main))
+-- `3 duals, 2 waste time`, `2 duals in variations, none in the main line`
+abbrev pub duals_stamp : ℕ → DualCounts → List ℕ
+duals_stamp n c =
+    duals_words n
+    ++ (if c.variations == n then variations_words n else (if c.last == n then last_words n else kinds_words c))
 
--- `wrong: White wins`, `wrong: White mates in 2`, `does not win`, `fails at 1. Ka2`, `sound`, `correct, no solution yet`, `3 duals, 2 waste time`,
--- `2 duals in variations, none in the main line`, `sound, duals waste time`, `not read: line 17`
+abbrev pub framed_name : Option NamedMove → List ℕ → List ℕ → List ℕ
+framed_name None front back = []
+framed_name (Some m) front back = front ++ (legal_name m ++ back)
+
+-- `; main defence 1... Ke7 not given`
+abbrev pub missing_words : Option NamedMove → List ℕ
+missing_words m = framed_name m (codes "; main defence ") (codes " not given")
+
+abbrev pub sound_words : Bool → List ℕ
+sound_words wastes = if wastes then codes "sound, duals waste time" else codes "sound"
+
+-- `wrong: White wins`, `wrong: White mates in 2`, `does not win`, `fails at 1. Ka2: 1... f1=Q`, `cook: 1. Kc3`, `sound; main defence 1... Ke7 not given`,
+-- `sound, duals waste time`, `correct, no solution yet`, `3 duals, 2 waste time`, `2 duals in variations, none in the main line`, `not read: line 17`,
+-- `refuted`, `a second solution`
 abbrev pub stamp_words : Stamp → List ℕ
 stamp_words (Wins side) = wrong ++ wins_words side
 stamp_words (Mates side v) = wrong ++ value_text side v
 stamp_words (Misses x) = misses_words x.goal
-stamp_words (Fails m) = fails_at ++ move_name m
-stamp_words Sound = codes "sound"
+stamp_words (Fails m reply) = fails_words m reply
+stamp_words (Cooked m) = cook_words m
+stamp_words (Sound wastes missing) = sound_words wastes ++ missing_words missing
 stamp_words Correct = codes "correct, no solution yet"
-stamp_words (Duals duals time main) = duals_stamp duals time main
+stamp_words (Duals duals counts) = duals_stamp duals counts
 stamp_words (NotRead line) = unread_words line
+stamp_words Refuted = codes "refuted"
+stamp_words SecondSolution = codes "a second solution"
 
 unfoldable pub wrong_sentence : List ℕ
 wrong_sentence = codes "The stipulation is wrong: "
@@ -132,26 +199,11 @@ wrong_sentence = codes "The stipulation is wrong: "
 unfoldable pub full_stop : List ℕ
 full_stop = codes "."
 
--- `one dual`, `3 duals`
-abbrev pub number_words : ℕ → List ℕ
-number_words n = if n == 1 then codes "one dual" else (decimal n ++ codes " duals")
-
--- `, which only waste time`, `; 4 of them only waste time`
-abbrev pub which_words : ℕ → ℕ → List ℕ
-which_words duals time = if time == duals then codes ", which" else (codes "; " ++ (decimal time ++ codes " of them"))
-
-abbrev pub only_waste_words : ℕ → List ℕ
-only_waste_words n = if n == 1 then codes " only wastes time" else codes " only waste time"
-
-abbrev pub wasted_words : ℕ → ℕ → List ℕ
-wasted_words duals time = if time == 0 then [] else (which_words duals time ++ only_waste_words time)
-
 unfoldable pub has_duals : List ℕ
 has_duals = codes "The stipulation is correct; the solution has "
 
-abbrev pub duals_sentence : ℕ → ℕ → Bool → List ℕ
-duals_sentence duals time main =
-    has_duals ++ (number_words duals ++ (place_words duals main ++ (wasted_words duals time ++ (none_words main ++ full_stop))))
+abbrev pub duals_sentence : ℕ → DualCounts → List ℕ
+duals_sentence duals counts = has_duals ++ (duals_stamp duals counts ++ full_stop)
 
 abbrev pub misses_sentence : Stipulation → List ℕ
 misses_sentence x = wrong_sentence ++ (side_name x.hero ++ (codes " " ++ (misses_words x.goal ++ full_stop)))
@@ -159,19 +211,37 @@ misses_sentence x = wrong_sentence ++ (side_name x.hero ++ (codes " " ++ (misses
 unfoldable pub has_mistake : List ℕ
 has_mistake = codes "The stipulation is correct, but the solution "
 
-abbrev pub fails_sentence : NamedMove → List ℕ
-fails_sentence m = has_mistake ++ (fails_at ++ (move_name m ++ full_stop))
+abbrev pub fails_sentence : NamedMove → Option NamedMove → List ℕ
+fails_sentence m reply = has_mistake ++ (fails_words m reply ++ full_stop)
+
+unfoldable pub has_cook : List ℕ
+has_cook = codes "The stipulation is correct, but another first move works: "
+
+abbrev pub cook_sentence : NamedMove → List ℕ
+cook_sentence m = has_cook ++ (legal_name m ++ full_stop)
+
+abbrev pub only_moves_sentence : Bool → List ℕ
+only_moves_sentence wastes =
+    if wastes then codes "The stipulation is correct, and the duals of the solution only waste time."
+    else codes "The stipulation is correct, and every move of the solution is the only one that works."
+
+-- ` The main defence 1... Ke7 is not given.`
+abbrev pub missing_sentence : Option NamedMove → List ℕ
+missing_sentence m = framed_name m (codes " The main defence ") (codes " is not given.")
 
 -- what a stamp says, in a sentence
 abbrev pub stamp_sentence : Stamp → List ℕ
 stamp_sentence (Wins side) = wrong_sentence ++ (wins_words side ++ full_stop)
 stamp_sentence (Mates side v) = wrong_sentence ++ (value_text side v ++ full_stop)
 stamp_sentence (Misses x) = misses_sentence x
-stamp_sentence (Fails m) = fails_sentence m
-stamp_sentence Sound = codes "The stipulation is correct, and every move of the solution is the only one that works."
+stamp_sentence (Fails m reply) = fails_sentence m reply
+stamp_sentence (Cooked m) = cook_sentence m
+stamp_sentence (Sound wastes missing) = only_moves_sentence wastes ++ missing_sentence missing
 stamp_sentence Correct = codes "The stipulation is correct."
-stamp_sentence (Duals duals time main) = duals_sentence duals time main
+stamp_sentence (Duals duals counts) = duals_sentence duals counts
 stamp_sentence (NotRead line) = codes "A line of this study could not be read, so there is no verdict."
+stamp_sentence Refuted = codes "This line is a try, and it is refuted."
+stamp_sentence SecondSolution = codes "This line is a try, and it works: it is a second solution."
 
 -- where the solution has no move of the hero
 abbrev pub no_solution_words : Bool → List ℕ
@@ -190,20 +260,64 @@ start_words side v = at_start ++ (value_text side v ++ codes ".")
 unfoldable pub verdict_words : Judgement → List ℕ
 verdict_words j = sentence j.empty j.stamp ++ (codes " " ++ start_words j.first j.value)
 
--- what a judge reads of a study with so many duals that only waste time
-abbrev pub judgement_of : Study Mark → ℕ → Judgement
-judgement_of s time = record {
-  stamp = stamp_of s time;
+-- what a judge reads of a study with these facts
+abbrev pub judgement_of : Study Mark → SolutionFacts → Judgement
+judgement_of s f = record {
+  stamp = stamp_of s f;
   empty = is_empty (aim_of s).hero_first s.tree.below;
   first = s.start.position.to_move;
   value = s.tree.label.value;
 }
 
--- no verdict is given on a study of which a line was refused, and it is not said of it that it has no solution
-abbrev pub with_unread_line : Judgement → Option ℕ → Judgement
-with_unread_line j None = j
-with_unread_line j (Some line) = record { stamp = NotRead line; empty = false; first = j.first; value = j.value }
+-- no verdict is given on a study of which a line was refused, and of a try it is only said whether it is refuted
+abbrev pub standing_stamp : Standing → Stamp → Stamp
+standing_stamp standing.Whole x = x
+standing_stamp (standing.NotRead line) x = NotRead line
+standing_stamp standing.BesideSolution (Misses x) = Refuted
+standing_stamp standing.BesideSolution x = SecondSolution
 
--- the same of an entry, of which this line was refused, if one was
-abbrev pub entry_judgement : Study Mark → ℕ → Option ℕ → Judgement
-entry_judgement s time unread = with_unread_line (judgement_of s time) unread
+abbrev pub is_whole : Standing → Bool
+is_whole standing.Whole = true
+is_whole _ = false
+
+-- it is said of a whole study alone that it has no solution
+abbrev pub standing_judgement : Judgement → Standing → Judgement
+standing_judgement j x = record { stamp = standing_stamp x j.stamp; empty = is_whole x && j.empty; first = j.first; value = j.value }
+
+-- what a judge reads of an entry
+abbrev pub entry_judgement : Study Mark → SolutionFacts → Standing → Judgement
+entry_judgement s f standing = standing_judgement (judgement_of s f) standing
+
+-- ---- the worst dual
+
+-- `: also Kb6 and 2 more`
+abbrev pub more_words : ℕ → List ℕ
+more_words n = if nat_lt 1 n then (codes " and " ++ (decimal (n - 1) ++ codes " more")) else []
+
+abbrev pub san_of : Position → Move → List ℕ
+san_of p m = if is_legal p m then move_text p m else []
+
+abbrev pub others_words : Position → Option Move → ℕ → List ℕ
+others_words p None n = []
+others_words p (Some m) n = codes ": also " ++ (san_of p m ++ more_words n)
+
+abbrev pub waste_words : DualKind → List ℕ
+waste_words WastesTime = codes ", wastes time"
+waste_words _ = []
+
+-- ` (after 2... h3)`
+abbrev pub turn_words : Option NamedMove → List ℕ
+turn_words m = framed_name m (codes " (after ") (codes ")")
+
+-- `3. Kb4: also Kb6 and 2 more (after 2... h3)`
+abbrev pub dual_words : Option NamedDual → List ℕ
+dual_words None = []
+dual_words (Some x) =
+    legal_name x.author ++ (others_words x.author.position x.other x.others ++ (waste_words x.kind ++ turn_words x.turn))
+
+-- the worst dual behind a stamp that does not name it
+abbrev pub first_fault : Stamp → SolutionFacts → List ℕ
+first_fault (Duals duals counts) f = dual_words f.worst
+first_fault (Cooked m) f = dual_words f.worst
+first_fault (Sound wastes missing) f = dual_words f.worst
+first_fault _ f = []

@@ -25,6 +25,29 @@ pub struct NamedMove {
     pub played: Move,
 }
 
+impl NamedMove {
+    /// The same move again.
+    fn copied(&self) -> NamedMove
+        ensures { result ≡ self.now }
+    {
+        NamedMove {
+            number: self.number,
+            position: self.position.copied(),
+            played: self.played,
+        }
+    }
+}
+
+/// The same move again, if there is one.
+pub fn copy_of(named: &Option<NamedMove>) -> Option<NamedMove>
+    ensures { result ≡ named.now }
+{
+    match named {
+        None => None,
+        Some(named) => Some(named.copied()),
+    }
+}
+
 /// Adds `3... Kb4`.
 #[tactic(auto, unfolding(crate::specs::Mistake::move_name))]
 pub fn add_move_name<A: Allocator>(

@@ -1,24 +1,17 @@
 //! The verdict on a study, and its words.
-ghost use Rattle.std.specs.Prelude.{◌≡◌, ◌++◌, Option, OnOk, IfSome};
-ghost use Rattle.study_board.specs.Men.{same_side};
+ghost use Rattle.std.specs.Prelude.{◌≡◌, IfSome};
 ghost use Rattle.study_marks.specs.BenchState.{marked_study};
-ghost use Rattle.study_head.specs.Verdict.{asks_too_little, excess_stamp, wrong_stamp, solution_stamp, stamp_of, IsLegalStamp, not_read, unread_words};
-ghost use Rattle.study_head.specs.Verdict.{goal_words, misses_words, wins_words, wrong, fails_at, duals_words, waste_verb, waste_words};
-ghost use Rattle.study_head.specs.Verdict.{place_words, none_words, duals_stamp, stamp_words, wrong_sentence, full_stop, number_words, which_words};
-ghost use Rattle.study_head.specs.Verdict.{only_waste_words, wasted_words, has_duals, duals_sentence};
-ghost use Rattle.study_head.specs.Verdict.{misses_sentence, has_mistake, fails_sentence, stamp_sentence, no_solution_words, sentence, at_start, start_words};
-ghost use Rattle.study_head.specs.Verdict.{verdict_words, judgement_of, entry_judgement};
-ghost use Rattle.study_head.specs.Mistake.{IsLegalMove, move_name};
-ghost use Rattle.study_pgn.specs.Values.{value_text};
+ghost use Rattle.study_head.specs.Verdict.{asks_too_little, excess_stamp, wrong_stamp, other_named, is_cook, cook_of, dual_stamp, solution_stamp};
+ghost use Rattle.study_head.specs.Verdict.{stamp_of, IsLegalStamp, judgement_of, standing_stamp, is_whole, entry_judgement};
 
-use crate::main_line::has_main_fault;
-use crate::mistake::{NamedMove, add_move_name, first_mistake};
-use std::alloc::{AllocError, Allocator};
+use crate::mistake::{NamedMove, copy_of, first_mistake};
+use crate::solution::{DualCounts, DualKind, NamedDual, SolutionFacts};
+use std::alloc::Allocator;
 use study_board::Side;
-use study_facts::is_empty;
+use study_facts::{Standing, is_empty};
 use study_marks::{Bench, Goal, Stipulation, hero_mates};
-use study_pgn::{add_value, meets_stipulation, root_mark, side_name};
-use study_text::Text;
+use study_moves::Move;
+use study_pgn::{meets_stipulation, root_mark};
 use study_values::Value;
 
 /// The verdict on a study.
@@ -30,16 +23,22 @@ pub enum Stamp {
     Mates(Side, Value),
     /// The stipulation is wrong: the hero does not reach his goal.
     Misses(Stipulation),
-    /// The author's first mistake.
-    Fails(NamedMove),
-    /// Each move of the solution is the only one.
-    Sound,
+    /// The author's first mistake, and a refutation of it, if there is one.
+    Fails(NamedMove, Option<NamedMove>),
+    /// Another first move that works.
+    Cooked(NamedMove),
+    /// Each move of the solution is the only one, or the duals only waste time. A main defence may not be given.
+    Sound(bool, Option<NamedMove>),
     /// The stipulation is correct, and no move of the hero is given.
     Correct,
-    /// The number of duals, how many of them only waste time, and whether some dual is in the main line.
-    Duals(u32, u32, bool),
+    /// The number of duals, and how many there are of each kind.
+    Duals(u32, DualCounts),
     /// No verdict is given, since this line of the script could not be read.
     NotRead(u32),
+    /// A try that does not reach the goal.
+    Refuted,
+    /// A try that reaches the goal.
+    SecondSolution,
 }
 
 /// Whether the hero, who is to move or not, reaches more than he is asked for.
@@ -85,23 +84,63 @@ fn wrong_stamp(stipulation: Stipulation, first: Side, value: Value) -> Option<St
     Some(Stamp::Misses(stipulation))
 }
 
-/// Of a solution without a mistake.
-fn solution_stamp(duals: u32, empty: bool, time: u32, main: bool) -> Stamp
-    ensures stamp { result ≡ solution_stamp duals empty time main }
-    ensures legal { IsLegalStamp result }
+/// The other first move of a cook.
+fn other_named(dual: &NamedDual) -> Option<NamedMove>
+    ensures { result ≡ other_named dual.now.author dual.now.other }
 {
-    if duals != 0 {
-        Stamp::Duals(duals, time, main)
-    } else if empty {
-        Stamp::Correct
-    } else {
-        Stamp::Sound
+    match dual.other {
+        None => None,
+        Some(played) => Some(NamedMove {
+            number: dual.author.number,
+            position: dual.author.position.copied(),
+            played,
+        }),
     }
 }
 
-/// The verdict on a study, with so many duals that only waste time.
-fn stamp_of<'b, B: Allocator>(bench: &Bench<'b, B>, time: u32) -> Stamp
-    ensures stamp { result ≡ stamp_of (marked_study bench.now) time }
+fn cook_of(worst: &Option<NamedDual>) -> Option<NamedMove>
+    ensures { result ≡ cook_of worst.now }
+{
+    match worst {
+        None => None,
+        Some(dual) => match dual.kind {
+            DualKind::Cook => other_named(dual),
+            _ => None,
+        },
+    }
+}
+
+/// Of so many duals, some of which do more than waste time.
+fn dual_stamp(duals: u32, facts: &SolutionFacts) -> Stamp
+    ensures stamp { result ≡ dual_stamp duals facts.now }
+    ensures legal { IsLegalStamp result }
+{
+    match cook_of(&facts.worst) {
+        Some(other) => Stamp::Cooked(other),
+        None => Stamp::Duals(duals, facts.counts),
+    }
+}
+
+/// Of a solution without a mistake.
+fn solution_stamp(duals: u32, empty: bool, facts: &SolutionFacts) -> Stamp
+    ensures stamp { result ≡ solution_stamp duals empty facts.now }
+    ensures legal { IsLegalStamp result }
+{
+    if duals != 0 {
+        if facts.counts.time == duals {
+            return Stamp::Sound(true, copy_of(&facts.missing));
+        }
+        return dual_stamp(duals, facts);
+    }
+    if empty {
+        return Stamp::Correct;
+    }
+    Stamp::Sound(false, copy_of(&facts.missing))
+}
+
+/// The verdict on a study with these facts.
+fn stamp_of<'b, B: Allocator>(bench: &Bench<'b, B>, facts: &SolutionFacts) -> Stamp
+    ensures stamp { result ≡ stamp_of (marked_study bench.now) facts.now }
     ensures legal { IsLegalStamp result }
 {
     let first = bench.start().position.to_move();
@@ -109,392 +148,10 @@ fn stamp_of<'b, B: Allocator>(bench: &Bench<'b, B>, time: u32) -> Stamp
     match wrong_stamp(bench.stipulation(), first, root.value) {
         Some(wrong) => wrong,
         None => match first_mistake(bench) {
-            Some(mistake) => Stamp::Fails(mistake),
-            None => solution_stamp(root.faults, is_empty(bench), time, has_main_fault(bench)),
+            Some(mistake) => Stamp::Fails(mistake, copy_of(&facts.refutation)),
+            None => solution_stamp(root.faults, is_empty(bench), facts),
         },
     }
-}
-
-#[tactic(auto, unfolding(crate::specs::Verdict::not_read))]
-fn not_read() -> &'static [u8]
-    ensures { result.now ≡ not_read }
-{
-    b"not read: line "
-}
-
-/// Adds `not read: line 17`.
-fn add_unread<A: Allocator>(text: &mut Text<'_, A>, line: u32) -> Result<(), AllocError>
-    ensures { OnOk result (text.new ≡ text.old ++ unread_words line) }
-{
-    text.add(not_read())?;
-    text.add_number(line)
-}
-
-/// Adds `win`, `draw` or `mate in 3`.
-fn add_goal<A: Allocator>(text: &mut Text<'_, A>, goal: Goal) -> Result<(), AllocError>
-    ensures { OnOk result (text.new ≡ text.old ++ goal_words goal) }
-{
-    match goal {
-        Goal::Win => text.add(b"win"),
-        Goal::Draw => text.add(b"draw"),
-        Goal::MateIn(moves) => {
-            text.add(b"mate in ")?;
-            text.add_number(moves.count() as u32)
-        }
-    }
-}
-
-/// Adds `does not win`.
-fn add_misses<A: Allocator>(text: &mut Text<'_, A>, goal: Goal) -> Result<(), AllocError>
-    ensures { OnOk result (text.new ≡ text.old ++ misses_words goal) }
-{
-    text.add(b"does not ")?;
-    add_goal(text, goal)
-}
-
-/// Adds `White wins`.
-fn add_wins<A: Allocator>(text: &mut Text<'_, A>, side: Side) -> Result<(), AllocError>
-    ensures { OnOk result (text.new ≡ text.old ++ wins_words side) }
-{
-    text.add(side_name(side))?;
-    text.add(b" wins")
-}
-
-#[tactic(auto, unfolding(crate::specs::Verdict::wrong))]
-fn wrong() -> &'static [u8]
-    ensures { result.now ≡ wrong }
-{
-    b"wrong: "
-}
-
-#[tactic(auto, unfolding(crate::specs::Verdict::fails_at))]
-fn fails_at() -> &'static [u8]
-    ensures { result.now ≡ fails_at }
-{
-    b"fails at "
-}
-
-/// Adds `wrong: White wins`.
-fn add_wrong_win<A: Allocator>(text: &mut Text<'_, A>, side: Side) -> Result<(), AllocError>
-    ensures { OnOk result (text.new ≡ text.old ++ (wrong ++ wins_words side)) }
-{
-    text.add(wrong())?;
-    add_wins(text, side)
-}
-
-/// Adds `wrong: White mates in 2`.
-fn add_wrong_mate<A: Allocator>(
-    text: &mut Text<'_, A>,
-    side: Side,
-    value: Value,
-) -> Result<(), AllocError>
-    ensures { OnOk result (text.new ≡ text.old ++ (wrong ++ value_text side value)) }
-{
-    text.add(wrong())?;
-    add_value(text, side, value)
-}
-
-/// Adds `fails at 1. Ka2`.
-fn add_failure<A: Allocator>(text: &mut Text<'_, A>, mistake: &NamedMove) -> Result<(), AllocError>
-    requires { IsLegalMove mistake.now }
-    ensures { OnOk result (text.new ≡ text.old ++ (fails_at ++ move_name mistake.now)) }
-{
-    text.add(fails_at())?;
-    add_move_name(text, mistake)
-}
-
-/// Adds `3 duals`.
-fn add_dual_count<A: Allocator>(text: &mut Text<'_, A>, duals: u32) -> Result<(), AllocError>
-    ensures { OnOk result (text.new ≡ text.old ++ duals_words duals) }
-{
-    text.add_number(duals)?;
-    if duals == 1 {
-        return text.add(b" dual");
-    }
-    text.add(b" duals")
-}
-
-fn waste_verb(time: u32) -> &'static [u8]
-    ensures { result.now ≡ waste_verb time }
-{
-    if time == 1 {
-        b" wastes time"
-    } else {
-        b" waste time"
-    }
-}
-
-/// Adds `, 2 waste time`.
-fn add_waste<A: Allocator>(text: &mut Text<'_, A>, time: u32) -> Result<(), AllocError>
-    ensures { OnOk result (text.new ≡ text.old ++ waste_words time) }
-{
-    if time == 0 {
-        return Ok(());
-    }
-    text.add(b", ")?;
-    text.add_number(time)?;
-    text.add(waste_verb(time))
-}
-
-/// Where duals are that are not in the main line.
-fn place_words(duals: u32, main: bool) -> &'static [u8]
-    ensures { result.now ≡ place_words duals main }
-{
-    if main {
-        b""
-    } else if duals == 1 {
-        b" in a variation"
-    } else {
-        b" in variations"
-    }
-}
-
-fn none_words(main: bool) -> &'static [u8]
-    ensures { result.now ≡ none_words main }
-{
-    if main {
-        b""
-    } else {
-        b", none in the main line"
-    }
-}
-
-/// Adds `3 duals, 2 waste time`, `2 duals in variations, none in the main line`, or that all only waste time.
-fn add_duals<A: Allocator>(
-    text: &mut Text<'_, A>,
-    duals: u32,
-    time: u32,
-    main: bool,
-) -> Result<(), AllocError>
-    ensures { OnOk result (text.new ≡ text.old ++ duals_stamp duals time main) }
-{
-    if time == duals {
-        return text.add(b"sound, duals waste time");
-    }
-    add_dual_count(text, duals)?;
-    text.add(place_words(duals, main))?;
-    add_waste(text, time)?;
-    text.add(none_words(main))
-}
-
-/// Adds `wrong: White wins`, `wrong: White mates in 2`, `does not win`, `fails at 1. Ka2`, `sound`, `correct, no solution yet`, `3 duals, 2 waste time`,
-/// `2 duals in variations, none in the main line`, `sound, duals waste time`, `not read: line 17`.
-pub fn add_stamp_words<A: Allocator>(
-    text: &mut Text<'_, A>,
-    stamp: &Stamp,
-) -> Result<(), AllocError>
-    requires { IsLegalStamp stamp.now }
-    ensures { OnOk result (text.new ≡ text.old ++ stamp_words stamp.now) }
-{
-    match stamp {
-        Stamp::Wins(side) => add_wrong_win(text, *side),
-        Stamp::Mates(side, value) => add_wrong_mate(text, *side, *value),
-        Stamp::Misses(stipulation) => add_misses(text, stipulation.goal),
-        Stamp::Fails(mistake) => add_failure(text, mistake),
-        Stamp::Sound => text.add(b"sound"),
-        Stamp::Correct => text.add(b"correct, no solution yet"),
-        Stamp::Duals(duals, time, main) => add_duals(text, *duals, *time, *main),
-        Stamp::NotRead(line) => add_unread(text, *line),
-    }
-}
-
-#[tactic(auto, unfolding(crate::specs::Verdict::wrong_sentence))]
-fn wrong_sentence() -> &'static [u8]
-    ensures { result.now ≡ wrong_sentence }
-{
-    b"The stipulation is wrong: "
-}
-
-#[tactic(auto, unfolding(crate::specs::Verdict::full_stop))]
-fn full_stop() -> &'static [u8]
-    ensures { result.now ≡ full_stop }
-{
-    b"."
-}
-
-fn add_number<A: Allocator>(text: &mut Text<'_, A>, duals: u32) -> Result<(), AllocError>
-    ensures { OnOk result (text.new ≡ text.old ++ number_words duals) }
-{
-    if duals == 1 {
-        return text.add(b"one dual");
-    }
-    text.add_number(duals)?;
-    text.add(b" duals")
-}
-
-fn add_which<A: Allocator>(text: &mut Text<'_, A>, duals: u32, time: u32) -> Result<(), AllocError>
-    ensures { OnOk result (text.new ≡ text.old ++ which_words duals time) }
-{
-    if time == duals {
-        return text.add(b", which");
-    }
-    text.add(b"; ")?;
-    text.add_number(time)?;
-    text.add(b" of them")
-}
-
-fn only_waste_words(time: u32) -> &'static [u8]
-    ensures { result.now ≡ only_waste_words time }
-{
-    if time == 1 {
-        b" only wastes time"
-    } else {
-        b" only waste time"
-    }
-}
-
-/// How many of the duals only waste time.
-fn add_wasted<A: Allocator>(text: &mut Text<'_, A>, duals: u32, time: u32) -> Result<(), AllocError>
-    ensures { OnOk result (text.new ≡ text.old ++ wasted_words duals time) }
-{
-    if time == 0 {
-        return Ok(());
-    }
-    add_which(text, duals, time)?;
-    text.add(only_waste_words(time))
-}
-
-#[tactic(auto, unfolding(crate::specs::Verdict::has_duals))]
-fn has_duals() -> &'static [u8]
-    ensures { result.now ≡ has_duals }
-{
-    b"The stipulation is correct; the solution has "
-}
-
-#[tactic(auto, unfolding(crate::specs::Verdict::has_mistake))]
-fn has_mistake() -> &'static [u8]
-    ensures { result.now ≡ has_mistake }
-{
-    b"The stipulation is correct, but the solution "
-}
-
-fn add_duals_sentence<A: Allocator>(
-    text: &mut Text<'_, A>,
-    duals: u32,
-    time: u32,
-    main: bool,
-) -> Result<(), AllocError>
-    ensures { OnOk result (text.new ≡ text.old ++ duals_sentence duals time main) }
-{
-    text.add(has_duals())?;
-    add_number(text, duals)?;
-    text.add(place_words(duals, main))?;
-    add_wasted(text, duals, time)?;
-    text.add(none_words(main))?;
-    text.add(full_stop())
-}
-
-fn add_win_sentence<A: Allocator>(text: &mut Text<'_, A>, side: Side) -> Result<(), AllocError>
-    ensures { OnOk result (text.new ≡ text.old
-        ++ (wrong_sentence ++ (wins_words side ++ full_stop))) }
-{
-    text.add(wrong_sentence())?;
-    add_wins(text, side)?;
-    text.add(full_stop())
-}
-
-fn add_mate_sentence<A: Allocator>(
-    text: &mut Text<'_, A>,
-    side: Side,
-    value: Value,
-) -> Result<(), AllocError>
-    ensures { OnOk result (text.new ≡ text.old
-        ++ (wrong_sentence ++ (value_text side value ++ full_stop))) }
-{
-    text.add(wrong_sentence())?;
-    add_value(text, side, value)?;
-    text.add(full_stop())
-}
-
-fn add_misses_sentence<A: Allocator>(
-    text: &mut Text<'_, A>,
-    stipulation: &Stipulation,
-) -> Result<(), AllocError>
-    ensures { OnOk result (text.new ≡ text.old ++ misses_sentence stipulation.now) }
-{
-    text.add(wrong_sentence())?;
-    text.add(side_name(stipulation.hero))?;
-    text.add(b" ")?;
-    add_misses(text, stipulation.goal)?;
-    text.add(full_stop())
-}
-
-fn add_fails_sentence<A: Allocator>(
-    text: &mut Text<'_, A>,
-    mistake: &NamedMove,
-) -> Result<(), AllocError>
-    requires { IsLegalMove mistake.now }
-    ensures { OnOk result (text.new ≡ text.old ++ fails_sentence mistake.now) }
-{
-    text.add(has_mistake())?;
-    text.add(fails_at())?;
-    add_move_name(text, mistake)?;
-    text.add(full_stop())
-}
-
-fn add_stamp_sentence<A: Allocator>(text: &mut Text<'_, A>, stamp: &Stamp) -> Result<(), AllocError>
-    requires { IsLegalStamp stamp.now }
-    ensures { OnOk result (text.new ≡ text.old ++ stamp_sentence stamp.now) }
-{
-    match stamp {
-        Stamp::Wins(side) => add_win_sentence(text, *side),
-        Stamp::Mates(side, value) => add_mate_sentence(text, *side, *value),
-        Stamp::Misses(stipulation) => add_misses_sentence(text, stipulation),
-        Stamp::Fails(mistake) => add_fails_sentence(text, mistake),
-        Stamp::Sound => text.add(
-            b"The stipulation is correct, and every move of the solution is the only one that works.",
-        ),
-        Stamp::Correct => text.add(b"The stipulation is correct."),
-        Stamp::Duals(duals, time, main) => add_duals_sentence(text, *duals, *time, *main),
-        Stamp::NotRead(_) => {
-            text.add(b"A line of this study could not be read, so there is no verdict.")
-        }
-    }
-}
-
-fn no_solution_words(empty: bool) -> &'static [u8]
-    ensures { result.now ≡ no_solution_words empty }
-{
-    if empty {
-        b" No move of the solution is given yet."
-    } else {
-        b""
-    }
-}
-
-/// Adds what a stamp says, in a sentence.
-#[tactic(auto, unfolding(crate::specs::Verdict::sentence))]
-pub fn add_sentence<A: Allocator>(
-    text: &mut Text<'_, A>,
-    empty: bool,
-    stamp: &Stamp,
-) -> Result<(), AllocError>
-    requires { IsLegalStamp stamp.now }
-    ensures { OnOk result (text.new ≡ text.old ++ sentence empty stamp.now) }
-{
-    add_stamp_sentence(text, stamp)?;
-    text.add(no_solution_words(empty))
-}
-
-#[tactic(auto, unfolding(crate::specs::Verdict::at_start))]
-fn at_start() -> &'static [u8]
-    ensures { result.now ≡ at_start }
-{
-    b"At the start: "
-}
-
-/// Adds the value of the start.
-#[tactic(auto, unfolding(crate::specs::Verdict::start_words))]
-pub fn add_start_value<A: Allocator>(
-    text: &mut Text<'_, A>,
-    side: Side,
-    value: Value,
-) -> Result<(), AllocError>
-    ensures { OnOk result (text.new ≡ text.old ++ start_words side value) }
-{
-    text.add(at_start())?;
-    add_value(text, side, value)?;
-    text.add(b".")
 }
 
 /// What a judge reads of a study.
@@ -506,51 +163,58 @@ pub struct Judgement {
     pub value: Value,
 }
 
-/// Adds what the stamp says and the value of the start, in sentences.
-#[tactic(auto, unfolding(crate::specs::Verdict::verdict_words))]
-pub fn add_verdict_words<A: Allocator>(
-    text: &mut Text<'_, A>,
-    judged: &Judgement,
-) -> Result<(), AllocError>
-    requires { IsLegalStamp judged.now.stamp }
-    ensures { OnOk result (text.new ≡ text.old ++ verdict_words judged.now) }
-{
-    add_sentence(text, judged.empty, &judged.stamp)?;
-    text.add(b" ")?;
-    add_start_value(text, judged.first, judged.value)
-}
-
-/// What a judge reads of the study, with so many duals that only waste time.
-pub fn judgement_of<'b, B: Allocator>(bench: &Bench<'b, B>, time: u32) -> Judgement
-    ensures judged { result ≡ judgement_of (marked_study bench.now) time }
+/// What a judge reads of the study, which has these facts.
+pub fn judgement_of<'b, B: Allocator>(bench: &Bench<'b, B>, facts: &SolutionFacts) -> Judgement
+    ensures judged { result ≡ judgement_of (marked_study bench.now) facts.now }
     ensures legal { IsLegalStamp result.stamp }
 {
     Judgement {
-        stamp: stamp_of(bench, time),
+        stamp: stamp_of(bench, facts),
         empty: is_empty(bench),
         first: bench.start().position.to_move(),
         value: root_mark(bench).value,
     }
 }
 
-/// What a judge reads of an entry, of which this line was refused, if one was. No verdict is given on an entry that was not read to its end, and it is not
-/// said of it that it has no solution.
+/// The verdict on an entry that is not a whole study may not be the one on its moves.
+fn standing_stamp(standing: Standing, stamp: Stamp) -> Stamp
+    requires { IsLegalStamp stamp }
+    ensures stamp { result ≡ standing_stamp standing stamp }
+    ensures legal { IsLegalStamp result }
+{
+    match standing {
+        Standing::Whole => stamp,
+        Standing::NotRead(line) => Stamp::NotRead(line),
+        Standing::BesideSolution => match stamp {
+            Stamp::Misses(_) => Stamp::Refuted,
+            _ => Stamp::SecondSolution,
+        },
+    }
+}
+
+fn is_whole(standing: Standing) -> bool
+    ensures { result ≡ is_whole standing }
+{
+    match standing {
+        Standing::Whole => true,
+        Standing::NotRead(_) => false,
+        Standing::BesideSolution => false,
+    }
+}
+
+/// What a judge reads of an entry. No verdict is given on a study that was not read to its end, and of a try it is only said whether it is refuted.
 pub fn entry_judgement<'b, B: Allocator>(
     bench: &Bench<'b, B>,
-    time: u32,
-    unread: Option<u32>,
+    facts: &SolutionFacts,
+    standing: Standing,
 ) -> Judgement
-    ensures judged { result ≡ entry_judgement (marked_study bench.now) time unread }
+    ensures judged { result ≡ entry_judgement (marked_study bench.now) facts.now standing }
     ensures legal { IsLegalStamp result.stamp }
 {
-    let judgement = judgement_of(bench, time);
-    match unread {
-        None => judgement,
-        Some(line) => Judgement {
-            stamp: Stamp::NotRead(line),
-            empty: false,
-            first: judgement.first,
-            value: judgement.value,
-        },
+    Judgement {
+        stamp: standing_stamp(standing, stamp_of(bench, facts)),
+        empty: is_whole(standing) && is_empty(bench),
+        first: bench.start().position.to_move(),
+        value: root_mark(bench).value,
     }
 }

@@ -33,7 +33,10 @@ front =
     ++ (codes "right:1.5mm}\n.note{font-size:8.5pt;color:#333;margin-top:1mm}\nsmall{font-size:8.5pt;color:#333}\nfooter{margin-top:5mm;border-top:.5pt solid #"
     ++ (codes "999;padding-top:1mm;font-size:8.5pt;color:#333}\n@media print{body{padding:0}article+article{margin-top:0}a{color:inherit}.stamp,."
     ++ (codes "dk{print-color-adjust:exact}}\n@media screen and (max-width:700px){body{padding:4mm}.top,.cards{grid-template-columns:1fr}}\n.warn"
-    ++ (codes "{color:#9c1119;font-style:italic}\n.keep{break-inside:avoid}\n.mini use{stroke-width:2.3}\n\n")))))))))))))))))))))))))))))
+    ++ (codes "{color:#9c1119;font-style:italic}\n.keep{break-inside:avoid}\n.mini use{stroke-width:2.3}\n"
+    ++ (codes "@media print{body{display:flex;flex-direction:column}.sum{order:-1}article.sum:last-child{break-after:page}article~article>footer{display:none}\n"
+    ++ (codes "article:not(.sum)::after{content:\"Remarks:\";display:block;margin-top:6mm;padding-bottom:8mm;border-bottom:.5pt solid #999;"
+    ++ codes "font-size:9pt;color:#333}}\n\n")))))))))))))))))))))))))))))))
 
 unfoldable pub back : List ℕ
 back =
@@ -73,7 +76,7 @@ unfoldable pub sheet_style : List ℕ
 sheet_style =
     codes "body{max-width:178mm}\nbody>figure{display:inline-block;width:59mm;height:68mm;vertical-align:top;break-inside:avoid}\nbody>figure svg.board"
     ++ codes "{width:50mm}\nbody>figure figcaption{margin:.5mm 2mm 0;font-size:8.5pt;line-height:1.3}\nbody>figure figcaption b{font-size:9.5pt}\n"
-    ++ codes ".defs{display:block}\n"
+    ++ codes ".defs{display:block}\n@media print{body{display:block}}\n"
 
 unfoldable pub sheet_opening : List ℕ
 sheet_opening = front ++ (sheet_style ++ back)

@@ -38,7 +38,10 @@ vertical-align:top;border-bottom:.4pt solid #bbb;padding:.7mm 2.5mm .7mm 0}\ntd:
 {white-space:nowrap;margin-right:1.5mm}\n.note{font-size:8.5pt;color:#333;margin-top:1mm}\nsmall{font-size:8.5pt;color:#333}\nfooter{margin-top:5mm;border-top:\
 .5pt solid #999;padding-top:1mm;font-size:8.5pt;color:#333}\n@media print{body{padding:0}article+article{margin-top:0}a{color:inherit}.stamp\
 ,.dk{print-color-adjust:exact}}\n@media screen and (max-width:700px){body{padding:4mm}.top,.cards{grid-template-columns:1fr}}\n.warn{color:#\
-9c1119;font-style:italic}\n.keep{break-inside:avoid}\n.mini use{stroke-width:2.3}\n\n"
+9c1119;font-style:italic}\n.keep{break-inside:avoid}\n.mini use{stroke-width:2.3}\n\
+@media print{body{display:flex;flex-direction:column}.sum{order:-1}article.sum:last-child{break-after:page}article~article>footer{display:none}\n\
+article:not(.sum)::after{content:\"Remarks:\";display:block;margin-top:6mm;padding-bottom:8mm;border-bottom:.5pt solid #999;\
+font-size:9pt;color:#333}}\n\n"
 }
 
 /// The end of the style, the shapes of the men, and the board.
@@ -77,7 +80,7 @@ fn sheet_style() -> &'static [u8]
 {
     b"body{max-width:178mm}\nbody>figure{display:inline-block;width:59mm;height:68mm;vertical-align:top;break-inside:avoid}\nbody>figure svg.board\
 {width:50mm}\nbody>figure figcaption{margin:.5mm 2mm 0;font-size:8.5pt;line-height:1.3}\nbody>figure figcaption b{font-size:9.5pt}\n\
-.defs{display:block}\n"
+.defs{display:block}\n@media print{body{display:block}}\n"
 }
 
 #[tactic(auto, unfolding(crate::specs::Frame::page_closing))]

@@ -20,7 +20,7 @@ refusal_record number line reply = refused_record number line (refusal_name repl
 -- a game that was left out: its number, its place among the games in place of a title, and the reason in place of a verdict
 unfoldable pub left_out_record : ℕ → List ℕ → List ℕ
 left_out_record number line =
-    decimal number ++ (codes "," ++ (quoted_text (subject line) ++ (codes ",,,," ++ (quoted_text (statement line) ++ codes "\r\n"))))
+    decimal number ++ (codes "," ++ (quoted_text (subject line) ++ (codes ",,,," ++ (quoted_text (statement line) ++ codes ",\r\n"))))
 
 -- another remark has no record
 abbrev pub remark_record : ℕ → List ℕ → List ℕ

@@ -23,7 +23,7 @@ fn add_left_out<A: Allocator>(
     add_quoted(text, subject(line))?;
     text.add(b",,,,")?;
     add_quoted(text, statement(line))?;
-    text.add(b"\r\n")
+    text.add(b",\r\n")
 }
 
 fn add_remark<A: Allocator>(

@@ -1,5 +1,5 @@
 -- What the parts of a page have of one node.
-use Rattle.std.proofs.Common.{◌≡◌, ℕ, ◌+◌, ◌<◌, ◌^◌, Bool, true, false, ◌&&◌, List, [], ◌++◌, Option, Some, None, length, Result, Ok, Err, OnOk, refl}
+use Rattle.std.proofs.Common.{◌≡◌, ℕ, Bool, true, false, List, [], ◌++◌, Option, Some, None, length, Result, Ok, Err, OnOk, refl}
 use Rattle.std.proofs.Common.{sym, ap, subst, ◌∙◌}
 use Rattle.std.specs.Prelude.{MatchOption, if◌then◌else◌}
 use Rattle.study_notation.specs.declared.start.Start.{Start}
@@ -26,9 +26,9 @@ use Rattle.study_facts.specs.Continuations.{AreRefutations}
 use Rattle.study_facts.specs.Defences.{AreDefences}
 use Rattle.study_facts.specs.Line.{line_to, moves_of}
 use Rattle.study_facts.specs.Nodes.{EmptyUnless, parent_path, is_defended, is_open_end, is_solution_move, is_try, mark_at, value_at}
-use Rattle.study_facts.specs.Made.{Grew, Rose}
-use Rattle.study_facts.specs.TimeFaults.{CountWhere, IsTimeDual, IsTimeFaultOf, IsTimeFault, all_lose_time}
+use Rattle.study_facts.specs.Made.{Grew}
 use Rattle.study_facts.specs.StudyNode.{IsStudyNode, IsStudyMove}
+use Rattle.study_facts.proofs.AtPath.{as-made, as-placed}
 use Rattle.study_facts.proofs.NodesShown.{are-there, not-there}
 use Rattle.study_page.specs.Words.{where_words, label_to}
 use Rattle.study_head.specs.Words.{label}
@@ -46,11 +46,11 @@ pub on-ok : {T E : Type 0} (r : Result T E) (P : Type 0) → P → OnOk r P
 on-ok (Ok x) P h = h
 on-ok (Err e) P h = tt
 
--- seven facts of one outcome
-pub on-ok-seven : {T E : Type 0} (r : Result T E) (A B C D F G H : Type 0) → OnOk r A → OnOk r B → OnOk r C → OnOk r D → OnOk r F → OnOk r G → OnOk r H
-    → OnOk r (A × B × C × D × F × G × H)
-on-ok-seven (Ok x) A B C D F G H a b c d f g h = (a, b, c, d, f, g, h)
-on-ok-seven (Err e) A B C D F G H a b c d f g h = tt
+-- six facts of one outcome
+pub on-ok-six : {T E : Type 0} (r : Result T E) (A B C D F G : Type 0) → OnOk r A → OnOk r B → OnOk r C → OnOk r D → OnOk r F → OnOk r G
+    → OnOk r (A × B × C × D × F × G)
+on-ok-six (Ok x) A B C D F G a b c d f g = (a, b, c, d, f, g)
+on-ok-six (Err e) A B C D F G a b c d f g = tt
 
 -- a text that nothing else changes
 pub grew-to : (Lines : List ℕ → Type 0) (old mid new : List ℕ) → new ≡ mid → Grew Lines old mid → Grew Lines old new
@@ -59,9 +59,6 @@ grew-to Lines old mid new e h = (h.0, h.1, e ∙ h.2)
 pub grew-from : (Lines : List ℕ → Type 0) (old mid new : List ℕ) → mid ≡ old → Grew Lines mid new → Grew Lines old new
 grew-from Lines old mid new e h = (h.0, h.1, h.2 ∙ ap (λ (t : List ℕ). t ++ h.0) e)
 
-pub rose-to : (Count : ℕ → Type 0) (old mid new : ℕ) → new ≡ mid → Rose Count old mid → Rose Count old new
-rose-to Count old mid new e h = subst (λ n. Rose Count old n) (sym e) h
-
 -- of a dual with these others, where it is listed
 module _ (a : Aim) (d : ℕ) (line : List Position) (p : Position) (m : Move) (list : List Alternative) (are : AreTimedAlternatives a d line p m list) where
   pub dual-listed : (start : Start) (v : Value) (k : ℕ) (listed : Bool) (old new : List ℕ)
@@ -69,12 +66,6 @@ module _ (a : Aim) (d : ℕ) (line : List Position) (p : Position) (m : Move) (l
       → Grew (EmptyUnless listed (IsFaultOf start a d line p m v (Some (Dual k)))) old new
   dual-listed start v k true old new e = (dual_item start d p m v list, (list, are, refl), e)
   dual-listed start v k false old new e = ([], refl, e)
-
-  pub dual-counted : (listed : Bool) (old new : ℕ)
-      → (old + (if listed && all_lose_time list then 1 else 0) < 2 ^ 32 → new ≡ old + (if listed && all_lose_time list then 1 else 0))
-      → Rose (CountWhere listed (IsTimeDual a d line p m)) old new
-  dual-counted true old new e = ((if all_lose_time list then 1 else 0), (list, are, refl), e)
-  dual-counted false old new e = (0, refl, e)
 
   pub dual-carded : (start : Start) (v : Value) (k : ℕ) (old new : List ℕ) → new ≡ old ++ card start d p m k v list
       → Grew (IsCardOf start a d line p m v (Some (Dual k))) old new
@@ -93,18 +84,9 @@ module _ (s : Study Mark) (x : StudyMove) (h : IsStudyMove s x) where
   abbrev path : List ℕ
   path = x.steps.now
 
-  -- what holds where the move was made holds at the start of its path
-  pub as-made : (P : Aim → ℕ → List Position → Position → Type 0) → P x.before.aim.now x.before.depth x.line.now x.before.position.now
-      → P (aim_of s) (length (parent_path x.steps.now)) (line_to s (parent_path x.steps.now)) (position_at s (parent_path x.steps.now))
-  as-made P k =
-      let one = subst (λ (a : Aim). P a x.before.depth x.line.now x.before.position.now) h.step.before.aim k in
-      let two = subst (λ d. P (aim_of s) d x.line.now x.before.position.now) h.step.before.depth one in
-      let three = subst (λ (l : List Position). P (aim_of s) (length (parent_path path)) l x.before.position.now) h.step.line two in
-      subst (λ (p : Position). P (aim_of s) (length (parent_path path)) (line_to s (parent_path path)) p) h.step.before.position three
-
   pub label-made : label s.start x.before.depth x.before.position.now x.played ≡ where_words s x.steps.now
   label-made =
-      as-made (λ a d l p. label s.start x.before.depth x.before.position.now x.played ≡ label s.start d p x.played) refl
+      as-made s x h (λ a d l p. label s.start x.before.depth x.before.position.now x.played ≡ label s.start d p x.played) refl
       ∙ ap (label_to s path) (sym h.step.played)
 
   -- a fault of the solution, by its mark
@@ -113,7 +95,7 @@ module _ (s : Study Mark) (x : StudyMove) (h : IsStudyMove s x) where
       → MatchOption (played_by (spot_at s.tree path)) (text ≡ []) (λ m. IsFaultOf s.start (aim_of s) (length (parent_path path))
       (line_to s (parent_path path)) (position_at s (parent_path path)) m (value_at s path) (mark_at s path) text)
   fault-there mark text e k =
-      let there = as-made (λ a d l p. IsFaultOf s.start a d l p x.played x.mark.value mark text) k in
+      let there = as-made s x h (λ a d l p. IsFaultOf s.start a d l p x.played x.mark.value mark text) k in
       let valued = subst (λ w. IsFaultOf s.start (aim_of s) (length (parent_path path)) (line_to s (parent_path path))
       (position_at s (parent_path path)) x.played w mark text) h.value there in
       let marked = subst (λ (o : Option MoveMark). IsFaultOf s.start (aim_of s) (length (parent_path path)) (line_to s (parent_path path))
@@ -138,25 +120,6 @@ module _ (s : Study Mark) (x : StudyMove) (h : IsStudyMove s x) where
           (length (parent_path path)) (line_to s (parent_path path)) (position_at s (parent_path path)) m (value_at s path) (mark_at s path) t)) grew.0
       listed true k = fault-there mark grew.0 e k
       listed false k = k
-
-  -- a dual that is counted where it loses time alone
-  pub time-listed : (k : ℕ) (old new : ℕ) → Some (Dual k) ≡ x.mark.on_move
-      → Rose (CountWhere x.solution (IsTimeDual x.before.aim.now x.before.depth x.line.now x.before.position.now x.played)) old new
-      → Rose (IsTimeFault s x.steps.now) old new
-  time-listed k old new e rose = (
-    rose.0,
-    subst (λ b. CountWhere b (λ j. MatchOption (played_by (spot_at s.tree path)) (j ≡ 0) (λ m. IsTimeFaultOf s path m (mark_at s path) j)) rose.0)
-        h.solution (listed x.solution rose.1),
-    rose.2,
-  )
-    where
-      listed : (b : Bool) → CountWhere b (IsTimeDual x.before.aim.now x.before.depth x.line.now x.before.position.now x.played) rose.0
-          → CountWhere b (λ j. MatchOption (played_by (spot_at s.tree path)) (j ≡ 0) (λ m. IsTimeFaultOf s path m (mark_at s path) j)) rose.0
-      listed true t =
-          let there : IsTimeFaultOf s path x.played (Some (Dual k)) rose.0 = as-made (λ a d l p. IsTimeDual a d l p x.played rose.0) t in
-          let marked = subst (λ (o : Option MoveMark). IsTimeFaultOf s path x.played o rose.0) (e ∙ h.mark) there in
-          subst (λ (o : Option Move). MatchOption o (rose.0 ≡ 0) (λ m. IsTimeFaultOf s path m (mark_at s path) rose.0)) (sym h.step.played) marked
-      listed false t = t
 
   pub mistake-listed : (start : Start) (old new : List ℕ) → Some Mistake ≡ x.mark.on_move → start ≡ s.start
       → new ≡ old ++ (if x.solution then mistake_item start x.before.depth x.before.position.now x.played x.mark.value else [])
@@ -195,7 +158,7 @@ module _ (s : Study Mark) (x : StudyMove) (h : IsStudyMove s x) where
       → Grew (IsCardOf s.start x.before.aim.now x.before.depth x.line.now x.before.position.now x.played x.mark.value mark) old new
       → Grew (Cards s x.steps.now) old new
   card-made mark old new e grew =
-      let there = as-made (λ a d l p. IsCardOf s.start a d l p x.played x.mark.value mark grew.0) grew.1 in
+      let there = as-made s x h (λ a d l p. IsCardOf s.start a d l p x.played x.mark.value mark grew.0) grew.1 in
       let valued = subst (λ w. IsCardOf s.start (aim_of s) (length (parent_path path)) (line_to s (parent_path path))
       (position_at s (parent_path path)) x.played w mark grew.0) h.value there in
       let marked = subst (λ (o : Option MoveMark). IsCardOf s.start (aim_of s) (length (parent_path path)) (line_to s (parent_path path))
@@ -238,17 +201,9 @@ module _ (s : Study Mark) (x : StudyNode) (h : IsStudyNode s x) where
   abbrev here : List ℕ
   here = x.steps.now
 
-  -- what holds at the node holds at its path
-  pub as-placed : (P : Aim → ℕ → Position → Type 0) → P x.node.aim.now x.node.depth x.node.position.now
-      → P (aim_of s) (length x.steps.now) (position_at s x.steps.now)
-  as-placed P k =
-      let one = subst (λ (a : Aim). P a x.node.depth x.node.position.now) h.node.aim k in
-      let two = subst (λ d. P (aim_of s) d x.node.position.now) h.node.depth one in
-      subst (λ (p : Position). P (aim_of s) (length here) p) h.node.position two
-
   pub zugzwang-evaluated : (z : Option Zugzwang) (old new : List ℕ) → IsZugzwangOf x.node.position.now z
       → new ≡ old ++ zugzwang_rows (where_words s x.steps.now) z → Grew (ZugzwangRows s x.steps.now) old new
-  zugzwang-evaluated z old new k grew = (zugzwang_rows (where_words s here) z, (z, as-placed (λ a d p. IsZugzwangOf p z) k, refl), grew)
+  zugzwang-evaluated z old new k grew = (zugzwang_rows (where_words s here) z, (z, as-placed s x h (λ a d p. IsZugzwangOf p z) k, refl), grew)
 
   pub try-evaluated : (list : List EvaluatedMove) (old new : List ℕ) → x.tried ≡ true
       → AreRefutations x.node.aim.now x.node.depth x.node.position.now list
@@ -258,7 +213,7 @@ module _ (s : Study Mark) (x : StudyNode) (h : IsStudyNode s x) where
         try_row (where_words s here) x.node.position.now x.value list,
         (
           list,
-          as-placed (λ a d p. AreRefutations a d p list) k,
+          as-placed s x h (λ a d p. AreRefutations a d p list) k,
           ap (λ (p : Position). try_row (where_words s here) p x.value list) h.node.position
               ∙ ap (λ v. try_row (where_words s here) (position_at s here) v list) h.value,
         ),
@@ -269,7 +224,7 @@ module _ (s : Study Mark) (x : StudyNode) (h : IsStudyNode s x) where
       → there ≡ moves_of (below_at s.tree.below x.steps.now) → AreDefences x.node.aim.now x.node.depth x.node.position.now there list
       → new ≡ old ++ defence_row (where_words s x.steps.now) x.node.position.now list → Grew (DefenceRows s x.steps.now) old new
   defences-evaluated there list old new is all k grew =
-      let three = as-placed (λ a d p. AreDefences a d p there list) k in
+      let three = as-placed s x h (λ a d p. AreDefences a d p there list) k in
       let four = subst (λ (ms : List Move). AreDefences (aim_of s) (length here) (position_at s here) ms list) all three in
       are-there (is_defended s here) _ old new is (
         defence_row (where_words s here) x.node.position.now list,
@@ -280,7 +235,7 @@ module _ (s : Study Mark) (x : StudyNode) (h : IsStudyNode s x) where
   pub end-evaluated : (name : List ℕ) (old new : List ℕ) → is_open_end s x.steps.now ≡ true → name ≡ where_words s x.steps.now
       → Grew (IsEnd s.start x.node.depth name x.node.position.now x.value) old new → Grew (EndRows s x.steps.now) old new
   end-evaluated name old new is n grew =
-      let one = as-placed (λ a d p. IsEnd s.start d name p x.value grew.0) grew.1 in
+      let one = as-placed s x h (λ a d p. IsEnd s.start d name p x.value grew.0) grew.1 in
       let two = subst (λ (u : List ℕ). IsEnd s.start (length here) u (position_at s here) x.value grew.0) n one in
       are-there (is_open_end s here) _ old new is
       (grew.0, subst (λ w. IsEnd s.start (length here) (where_words s here) (position_at s here) w grew.0) h.value two, grew.2)

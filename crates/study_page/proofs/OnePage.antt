@@ -18,7 +18,8 @@ use Rattle.study_marks.specs.Study.{Study, position_at}
 use Rattle.study_marks.specs.Goals.{aim_of, holds}
 use Rattle.study_facts.specs.Line.{line_to, moves_of}
 use Rattle.study_facts.specs.Nodes.{parent_path, mark_at, value_at, is_try, is_defended, is_open_end, is_solution_move}
-use Rattle.study_facts.proofs.OneFacts.{One, one-chosen, one-alternatives, one-defences, one-play, one-where, one-match, one-each, one-time-count}
+use Rattle.study_facts.proofs.OneFacts.{One, one-chosen, one-alternatives, one-defences, one-play, one-where, one-match, one-each}
+use Rattle.study_head.proofs.OneFacts.{one-facts}
 use Rattle.study_page.specs.Words.{where_words}
 use Rattle.study_page.specs.Rows.{IsFaultOf, FaultItems, IsCardOf, Cards, TryRows, DefenceRows, IsPlay, IsEnd, EndRows}
 use Rattle.study_page.specs.Rows.{dual_item, card, try_row, defence_row, end_row, play_words, keep_words, zugzwang_rows, ZugzwangRows}
@@ -82,13 +83,13 @@ module _ (law : EachHasAtMostOneValue) (s : Study Mark) (path : List ℕ) where
 pub one-page : EachHasAtMostOneValue → PagesAreUnique
 one-page law s n t u h j =
     let one = one-each (FaultItems s) (faults-once law s) (written_order s) h.0 j.0 h.7 j.7 in
-    let time = one-time-count law s h.6 j.6 h.8 j.8 in
+    let facts = one-facts law s h.6 j.6 h.8 j.8 in
     let two = one-each (Cards s) (cards-once law s) (written_order s) h.1 j.1 h.9 j.9 in
     let three = one-each (TryRows s) (tries-once law s) (written_order s) h.2 j.2 h.10 j.10 in
     let four = one-each (ZugzwangRows s) (zugzwangs-once law s) (written_order s) h.3 j.3 h.11 j.11 in
     let five = one-each (DefenceRows s) (defences-once law s) (written_order s) h.4 j.4 h.12 j.12 in
     let six = one-each (EndRows s) (ends-once law s) (written_order s) h.5 j.5 h.13 j.13 in
-    h.14 ∙ ap (λ k. page_text s n k h.0 h.1 h.2 h.3 h.4 h.5) time
+    h.14 ∙ ap (λ k. page_text s n k h.0 h.1 h.2 h.3 h.4 h.5) facts
     ∙ ap (λ (x : List ℕ). page_text s n j.6 x h.1 h.2 h.3 h.4 h.5) one ∙ ap (λ (x : List ℕ). page_text s n j.6 j.0 x h.2 h.3 h.4 h.5) two
     ∙ ap (λ (x : List ℕ). page_text s n j.6 j.0 j.1 x h.3 h.4 h.5) three ∙ ap (λ (x : List ℕ). page_text s n j.6 j.0 j.1 j.2 x h.4 h.5) four
     ∙ ap (λ (x : List ℕ). page_text s n j.6 j.0 j.1 j.2 j.3 x h.5) five ∙ ap (λ (x : List ℕ). page_text s n j.6 j.0 j.1 j.2 j.3 j.4 x) six ∙ sym j.14

@@ -1,5 +1,5 @@
 -- A study as a record of comma-separated values (RFC 4180).
-use Rattle.std.specs.Prelude.{◌≡◌, ℕ, ◌==◌, Bool, ◌||◌, List, [], ◌∷◌, ◌++◌, Option, if◌then◌else◌, codes, decimal}
+use Rattle.std.specs.Prelude.{◌≡◌, ℕ, ◌==◌, Bool, ◌||◌, List, [], ◌∷◌, ◌++◌, if◌then◌else◌, codes, decimal}
 use Rattle.std.specs.List.{flat_map, list_any}
 use Rattle.study_notation.specs.FenSpelling.{fen_text}
 use Rattle.study_marks.specs.declared.mark.Mark.{Mark}
@@ -7,10 +7,13 @@ use Rattle.study_marks.specs.declared.tag.TagName.TheVariants.{Event, White}
 use Rattle.study_marks.specs.Study.{Study, tag_of, plain_study}
 use Rattle.study_marks.specs.Annotated.{IsAnnotated}
 use Rattle.study_pgn.specs.Pgn.{stipulation_text}
-use Rattle.study_facts.specs.Order.{AreTimeFaults}
 use Rattle.study_head.specs.Known.{known_words}
 use Rattle.study_facts.specs.declared.entry.EntryInfo.{EntryInfo}
-use Rattle.study_head.specs.Verdict.{stamp_words, entry_judgement}
+use Rattle.study_facts.specs.declared.entry.Standing.{Standing}
+use Rattle.study_head.specs.declared.solution.SolutionFacts.{SolutionFacts}
+use Rattle.study_head.specs.declared.verdict.Stamp.{Stamp}
+use Rattle.study_head.specs.Solution.{AreSolutionFacts}
+use Rattle.study_head.specs.Verdict.{stamp_words, first_fault, entry_judgement}
 
 -- a comma, a quotation mark or an end of line: a field with one of them stands in quotation marks
 abbrev pub is_special : ℕ → Bool
@@ -31,32 +34,36 @@ unfoldable pub column : List ℕ → List ℕ
 column text = field text ++ codes ","
 
 unfoldable pub head_record : List ℕ
-head_record = codes "Number,Title,Author,FEN,Stipulation,Verdict\r\n"
+head_record = codes "Number,Title,Author,FEN,Stipulation,Verdict,Worst dual\r\n"
 
 -- title and author, if they are known
 unfoldable pub names : Study Mark → List ℕ
 names s = column (known_words (tag_of s.tags Event)) ++ column (known_words (tag_of s.tags White))
 
--- its number, title and author, its start as FEN, the stipulation, and the verdict on a study of whose duals so many only waste time, if it was read
--- to its end
-unfoldable pub record_text : Study Mark → ℕ → EntryInfo → List ℕ
-record_text s time entry =
+-- a verdict, and the worst dual
+abbrev pub verdict_fields : Stamp → SolutionFacts → List ℕ
+verdict_fields x facts = column (stamp_words x) ++ field (first_fault x facts)
+
+-- its number, title and author, its start as FEN, the stipulation, the verdict, and the worst dual
+unfoldable pub record_text : Study Mark → SolutionFacts → EntryInfo → List ℕ
+record_text s facts entry =
     column (decimal entry.number) ++ (names s ++ (column (fen_text s.start) ++ (column (stipulation_text s.stipulation)
-    ++ (field (stamp_words (entry_judgement s time entry.unread).stamp) ++ codes "\r\n"))))
+    ++ (verdict_fields (entry_judgement s facts entry.standing).stamp facts ++ codes "\r\n"))))
 
 -- a refused line: its number and its text in place of a title, and the name of the refusal in place of a verdict
 unfoldable pub refused_record : ℕ → List ℕ → List ℕ → List ℕ
 refused_record number line name =
-    codes "," ++ (column (codes "line " ++ (decimal number ++ (codes ": " ++ line))) ++ (codes ",,," ++ (field (codes "refused: " ++ name) ++ codes "\r\n")))
+    codes "," ++ (column (codes "line " ++ (decimal number ++ (codes ": " ++ line))) ++ (codes ",,," ++ (column (codes "refused: " ++ name) ++ codes "\r\n")))
 
 -- the record of an annotated study
 abbrev pub IsRecord : Study Mark → EntryInfo → List ℕ → Type 0
-IsRecord s entry text = (time : ℕ) × AreTimeFaults s time × (text ≡ record_text s time entry)
+IsRecord s entry text = (facts : SolutionFacts) × AreSolutionFacts s facts × (text ≡ record_text s facts entry)
 
--- the record of a plain study with this number, whatever its marks are and whether or not it was read to its end: the verdict alone is left open
+-- the record of a plain study with this number, whatever its marks are and however it stands: verdict and worst dual are left open
 abbrev pub IsSomeRecordOf : Study (Unit {0}) → ℕ → List ℕ → Type 0
 IsSomeRecordOf plain number text =
-    (s : Study Mark) × (plain_study s ≡ plain) × (time : ℕ) × (unread : Option ℕ) × (text ≡ record_text s time (record { number = number; unread = unread }))
+    (s : Study Mark) × (plain_study s ≡ plain) × (facts : SolutionFacts) × (standing : Standing)
+    × (text ≡ record_text s facts (record { number = number; standing = standing }))
 
 -- the record of a plain study is that of its annotation
 abbrev pub IsRecordOf : Study (Unit {0}) → EntryInfo → List ℕ → Type 0

@@ -1,16 +1,21 @@
 -- Refused lines, and the list of all entries.
-use Rattle.std.specs.Prelude.{ℕ, List, ◌++◌, codes, decimal}
+use Rattle.std.specs.Prelude.{ℕ, ◌==◌, List, [], ◌++◌, length, if◌then◌else◌, codes, decimal}
 use Rattle.study_marks.specs.declared.mark.Mark.{Mark}
 use Rattle.study_marks.specs.declared.tag.TagName.TheVariants.{Event, White}
 use Rattle.study_marks.specs.Study.{Study, tag_of}
 use Rattle.study_pgn.specs.Pgn.{stipulation_text}
-use Rattle.study_html.specs.declared.element.Element.TheVariants.{Cell, Code, Head, Heads, Header, Link, Row, Rows, Strong, Summary, Table, Title, Warning}
+use Rattle.study_html.specs.declared.element.Element.TheVariants.{Cell, Code, Head, Heads, Header, Link, Row, Rows, Small, Strong, Summary, Table, Title}
+use Rattle.study_html.specs.declared.element.Element.TheVariants.{Warning}
 use Rattle.study_html.specs.Escape.{escaped_text}
 use Rattle.study_html.specs.Elements.{element_text}
 use Rattle.study_head.specs.Known.{known_words}
 use Rattle.study_head.specs.Head.{title_words}
 use Rattle.study_facts.specs.declared.entry.EntryInfo.{EntryInfo}
-use Rattle.study_head.specs.Verdict.{stamp_words, entry_judgement}
+use Rattle.study_html.specs.declared.drawing.Drawing.TheVariants.{Break}
+use Rattle.study_html.specs.Drawings.{drawing_text}
+use Rattle.study_head.specs.declared.solution.SolutionFacts.{SolutionFacts}
+use Rattle.study_head.specs.declared.verdict.Stamp.{Stamp}
+use Rattle.study_head.specs.Verdict.{stamp_words, first_fault, entry_judgement}
 
 -- a refused line: its number, its text, the name of the refusal, and the reason in words
 unfoldable pub refusal_part : ℕ → List ℕ → List ℕ → List ℕ → List ℕ
@@ -19,15 +24,22 @@ refusal_part line text name reason =
     ++ (element_text Code (escaped_text text) ++ (escaped_text (codes " ")
     ++ (element_text Strong (escaped_text name) ++ (escaped_text (codes ": ") ++ escaped_text reason)))))
 
--- an entry: its number, its title, which leads to its page, its author, what is asked for, and the verdict on a study of whose duals so many
--- only waste time, if it was read to its end
-unfoldable pub summary_row : Study Mark → ℕ → EntryInfo → List ℕ
-summary_row s time entry =
+-- the worst dual below a verdict, if there is one
+abbrev pub fault_note : List ℕ → List ℕ
+fault_note words = if length words == 0 then [] else (drawing_text Break ++ element_text Small (escaped_text words))
+
+-- a verdict, and below it the worst dual
+unfoldable pub verdict_cell : Stamp → SolutionFacts → List ℕ
+verdict_cell x facts = element_text Cell (escaped_text (stamp_words x) ++ fault_note (first_fault x facts))
+
+-- an entry: its number, its title, which leads to its page, its author, what is asked for, and the verdict
+unfoldable pub summary_row : Study Mark → SolutionFacts → EntryInfo → List ℕ
+summary_row s facts entry =
     element_text Row (element_text Cell (escaped_text (decimal entry.number))
     ++ (element_text Cell (element_text (Link entry.number) (escaped_text (title_words (known_words (tag_of s.tags Event)))))
     ++ (element_text Cell (escaped_text (known_words (tag_of s.tags White)))
     ++ (element_text Cell (escaped_text (stipulation_text s.stipulation))
-    ++ element_text Cell (escaped_text (stamp_words (entry_judgement s time entry.unread).stamp))))))
+    ++ verdict_cell (entry_judgement s facts entry.standing).stamp facts))))
 
 unfoldable pub two_heads : List ℕ → List ℕ → List ℕ
 two_heads a b = element_text Head (escaped_text a) ++ element_text Head (escaped_text b)

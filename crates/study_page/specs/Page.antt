@@ -1,17 +1,21 @@
 -- The page of a study.
-use Rattle.std.specs.Prelude.{◌≡◌, ◌==◌, ℕ, List, [], ◌++◌, length, Option, if◌then◌else◌, codes}
+use Rattle.std.specs.Prelude.{◌≡◌, ◌==◌, ℕ, not, ◌||◌, List, [], ◌++◌, length, if◌then◌else◌, codes}
 use Rattle.study_marks.specs.declared.mark.Mark.{Mark}
 use Rattle.study_marks.specs.Study.{Study, plain_study}
 use Rattle.study_marks.specs.Annotated.{IsAnnotated}
-use Rattle.study_facts.specs.Order.{LinesOfEach, AreTimeFaults, written_order}
+use Rattle.study_facts.specs.Order.{LinesOfEach, written_order}
 use Rattle.study_html.specs.declared.element.Element.TheVariants as element
 use Rattle.study_html.specs.Escape.{escaped_text}
 use Rattle.study_html.specs.Elements.{element_text}
 use Rattle.study_html.specs.Markup.{IsWellNested}
 use Rattle.study_head.specs.Head.{head, figure}
 use Rattle.study_facts.specs.declared.entry.EntryInfo.{EntryInfo}
+use Rattle.study_head.specs.declared.solution.SolutionFacts.{SolutionFacts}
+use Rattle.study_head.specs.declared.verdict.Judgement.{Judgement}
+use Rattle.study_head.specs.declared.verdict.Stamp.{Stamp}
+use Rattle.study_head.specs.Solution.{AreSolutionFacts}
 use Rattle.study_head.specs.Verdict.{entry_judgement}
-use Rattle.study_page.specs.Verdict.{verdict_part}
+use Rattle.study_page.specs.Verdict.{shows_duals, verdict_part}
 use Rattle.study_page.specs.Tree.{solution_words}
 use Rattle.study_page.specs.Lists.{summary_row, three_heads}
 use Rattle.study_page.specs.Rows.{FaultItems, Cards, TryRows, ZugzwangRows, DefenceRows, EndRows}
@@ -46,8 +50,8 @@ full_cards cards =
     element_text element.Part (element_text element.Heading (escaped_text duals_title)
     ++ (element_text element.Note (escaped_text duals_note) ++ element_text element.Cards cards))
 
-abbrev pub cards_part : List ℕ → List ℕ
-cards_part cards = if length cards == 0 then [] else full_cards cards
+abbrev pub cards_part : Stamp → List ℕ → List ℕ
+cards_part x cards = if not (shows_duals x) || (length cards == 0) then [] else full_cards cards
 
 unfoldable pub solution_part : List ℕ → List ℕ
 solution_part tree = element_text element.Part (element_text element.Heading (escaped_text (codes "Solution")) ++ element_text element.Tree tree)
@@ -83,37 +87,37 @@ tables tries zugzwangs defences ends =
     ++ last_tables defences ends)
 
 -- the diagram and the verdict, side by side
-unfoldable pub top : Study Mark → Option ℕ → ℕ → List ℕ → List ℕ
-top s unread time faults = element_text element.Top (figure s.stipulation s.start ++ verdict_part (entry_judgement s time unread) faults)
+unfoldable pub top : Study Mark → Judgement → List ℕ → List ℕ
+top s j faults = element_text element.Top (figure s.stipulation s.start ++ verdict_part j faults)
 
-unfoldable pub content : Study Mark → Option ℕ → ℕ → List ℕ → List ℕ → List ℕ → List ℕ → List ℕ → List ℕ → List ℕ
-content s unread time faults duals tries zugzwangs defences ends =
-    head s.tags ++ (top s unread time faults ++ (solution_part (solution_words s) ++ (cards_part duals
+unfoldable pub content : Study Mark → Judgement → List ℕ → List ℕ → List ℕ → List ℕ → List ℕ → List ℕ → List ℕ
+content s j faults duals tries zugzwangs defences ends =
+    head s.tags ++ (top s j faults ++ (solution_part (solution_words s) ++ (cards_part j.stamp duals
     ++ (tables tries zugzwangs defences ends ++ element_text element.Foot (escaped_text foot_words)))))
 
-abbrev pub page_text : Study Mark → EntryInfo → ℕ → List ℕ → List ℕ → List ℕ → List ℕ → List ℕ → List ℕ → List ℕ
-page_text s entry time faults duals tries zugzwangs defences ends =
-    element_text (element.Entry entry.number) (content s entry.unread time faults duals tries zugzwangs defences ends)
+abbrev pub page_text : Study Mark → EntryInfo → SolutionFacts → List ℕ → List ℕ → List ℕ → List ℕ → List ℕ → List ℕ → List ℕ
+page_text s entry facts faults duals tries zugzwangs defences ends =
+    element_text (element.Entry entry.number) (content s (entry_judgement s facts entry.standing) faults duals tries zugzwangs defences ends)
 
 -- ---- what it says
 
--- The page of an annotated study, as this entry: head, diagram and verdict, of whose duals so many only waste time, the tree of
--- the solution, and then part by part what each has of the nodes.
+-- The page of an annotated study, as this entry: head, diagram and verdict, the tree of the solution, and then part by
+-- part what each has of the nodes.
 abbrev pub IsPage : Study Mark → EntryInfo → List ℕ → Type 0
 IsPage s entry text =
-    (faults duals tries zugzwangs defences ends : List ℕ) × (time : ℕ)
+    (faults duals tries zugzwangs defences ends : List ℕ) × (facts : SolutionFacts)
     × AreRows FaultItems s faults
-    × AreTimeFaults s time
+    × AreSolutionFacts s facts
     × AreRows Cards s duals
     × AreRows TryRows s tries
     × AreRows ZugzwangRows s zugzwangs
     × AreRows DefenceRows s defences
     × AreRows EndRows s ends
-    × (text ≡ page_text s entry time faults duals tries zugzwangs defences ends)
+    × (text ≡ page_text s entry facts faults duals tries zugzwangs defences ends)
 
 -- the row of an annotated study in the list of all
 abbrev pub IsRow : Study Mark → EntryInfo → List ℕ → Type 0
-IsRow s entry row = (time : ℕ) × AreTimeFaults s time × (row ≡ summary_row s time entry)
+IsRow s entry row = (facts : SolutionFacts) × AreSolutionFacts s facts × (row ≡ summary_row s facts entry)
 
 -- each page is one element, the entry of its number, with markup inside it that is well nested, whatever the values are
 abbrev pub IsEntry : ℕ → List ℕ → Type 0

@@ -6,7 +6,7 @@ use Rattle.std.specs.Str.{bytes_eq}
 use Rattle.study_board.specs.declared.men.Side.{Side}
 use Rattle.study_board.specs.declared.men.Side.TheVariants.{White, Black}
 use Rattle.study_board.specs.Men.{other_side}
-use Rattle.study_board.specs.Position.{Position}
+use Rattle.study_board.specs.Position.{Position, in_check}
 use Rattle.study_moves.specs.declared.moves.Move.{Move}
 use Rattle.study_moves.specs.Rules.{after}
 use Rattle.study_moves.specs.LegalList.{legal_list}
@@ -36,7 +36,7 @@ use Rattle.study_facts.specs.Words.{move_words}
 use Rattle.study_facts.specs.declared.zugzwang.Zugzwang.{Zugzwang}
 use Rattle.study_facts.specs.declared.zugzwang.Zugzwang.TheVariants.{Full, Half}
 use Rattle.study_facts.specs.Zugzwang.{IsZugzwangOf}
-use Rattle.study_facts.specs.Nodes.{parent_path, EmptyUnless, mark_at, value_at, is_stalemate, is_try, is_defended, is_open_end, is_solution_move}
+use Rattle.study_facts.specs.Nodes.{parent_path, EmptyUnless, mark_at, value_at, is_try, is_defended, is_open_end, is_solution_move}
 use Rattle.study_html.specs.declared.element.Element.TheVariants.{Strong, Small, Below, Item, Card, Beside, CardTitle, Label, Also}
 use Rattle.study_html.specs.declared.element.Element.TheVariants.{Paragraph, Row, Cell, Whole, Group, Answer}
 use Rattle.study_html.specs.declared.drawing.Drawing.TheVariants.{Break}
@@ -69,6 +69,14 @@ difference (Loss n) Draw = []
 difference (Win n) w = []
 difference Draw w = []
 
+abbrev pub is_quicker : Value → Value → Bool
+is_quicker (Loss n) (Loss k) = nat_lt (k / 2) (n / 2)
+is_quicker _ _ = false
+
+-- the time that another move wastes, beside a move with this value after it: none if mate comes sooner by it
+abbrev pub wasted : Value → Alternative → Option ℕ
+wasted v x = if is_quicker v x.value then None else x.time
+
 unfoldable pub loses_time : List ℕ
 loses_time = codes ", wastes time"
 
@@ -84,7 +92,7 @@ bracket_words words = if length words == 0 then [] else (codes " (" ++ (drop 2 w
 
 -- `Kb6 (2 moves longer, wastes time)`, beside a move with this value after it
 unfoldable pub named_words : Position → Value → Alternative → List ℕ
-named_words p v x = move_text p x.played ++ bracket_words (difference v x.value ++ lost_words x.time)
+named_words p v x = move_text p x.played ++ bracket_words (difference v x.value ++ lost_words (wasted v x))
 
 unfoldable pub next_words : Position → Value → Alternative → List ℕ
 next_words p v x = codes ", " ++ named_words p v x
@@ -140,7 +148,7 @@ time_words None = []
 time_words (Some m) = loses_time ++ forced_words m
 
 unfoldable pub also_words : Side → Value → Alternative → List ℕ
-also_words side v x = codes ": " ++ (value_text side x.value ++ (difference v x.value ++ time_words x.time))
+also_words side v x = codes ": " ++ (value_text side x.value ++ (difference v x.value ++ time_words (wasted v x)))
 
 -- `Kb6: White mates in 25, 2 moves longer, wastes time`, beside a move with this value after it
 unfoldable pub also_item : Position → Value → Alternative → List ℕ
@@ -188,8 +196,16 @@ move_and_value p m v = element_text Strong (escaped_text (move_text p m)) ++ ele
 unfoldable pub refuted_item : Position → EvaluatedMove → List ℕ
 refuted_item p x = element_text Whole (move_and_value p x.played x.value) ++ escaped_text (codes " ")
 
+-- the game has ended
+unfoldable pub is_over : Position → Bool
+is_over p = length (legal_list p) == 0
+
+-- a mate refutes a try, since it comes too late
+abbrev pub over_words : Position → List ℕ
+over_words p = if in_check p.men p.to_move then codes "mate, too late" else codes "stalemate"
+
 abbrev pub refuted_items : Position → List EvaluatedMove → List ℕ
-refuted_items p list = if is_stalemate p then escaped_text (codes "stalemate") else flat_map (refuted_item p) list
+refuted_items p list = if is_over p then escaped_text (over_words p) else flat_map (refuted_item p) list
 
 -- `(3 of 17)`
 unfoldable pub of_all : ℕ → ℕ → List ℕ
@@ -198,7 +214,7 @@ of_all n all = codes "(" ++ (decimal n ++ (codes " of " ++ (decimal all ++ codes
 -- that it is the only refutation, or of how many legal moves so many refute
 abbrev pub refuted_count : Position → ℕ → List ℕ
 refuted_count p n =
-    if is_stalemate p then [] else (if n == 1 then element_text Strong (escaped_text (codes "only")) else element_text Small
+    if is_over p then [] else (if n == 1 then element_text Strong (escaped_text (codes "only")) else element_text Small
     (escaped_text (of_all n (length (legal_list p)))))
 
 unfoldable pub try_row : List ℕ → Position → Value → List EvaluatedMove → List ℕ

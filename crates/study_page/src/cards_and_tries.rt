@@ -2,15 +2,16 @@
 ghost use Rattle.std.specs.Prelude.{◌≡◌, ◌++◌, ◌<◌, ◌^◌, true, length, OnOk, codes, decimal};
 ghost use Rattle.std.specs.List.{All, flat_map};
 ghost use Rattle.study_moves.specs.Rules.{is_legal};
-ghost use Rattle.study_facts.specs.Nodes.{is_stalemate};
 ghost use Rattle.study_notation.specs.SanSpelling.{move_text};
 ghost use Rattle.study_pgn.specs.Values.{value_text};
 ghost use Rattle.study_head.specs.Words.{label};
 ghost use Rattle.study_html.specs.declared.element.Element.TheVariants.{Label};
 ghost use Rattle.study_html.specs.Escape.{escaped_text};
 ghost use Rattle.study_html.specs.Elements.{element_text};
-ghost use Rattle.study_page.specs.Rows.{loses_time, forced_words, time_words, move_word, by_words, later_words, difference, also_words, also_item};
-ghost use Rattle.study_page.specs.Rows.{card_title, card_words, card, front_cells, move_and_value, refuted_item, refuted_items, of_all, refuted_count, try_row};
+ghost use Rattle.study_page.specs.Rows.{loses_time, forced_words, time_words, move_word, by_words, later_words, difference, is_quicker, wasted};
+ghost use Rattle.study_page.specs.Rows.{also_words, also_item};
+ghost use Rattle.study_page.specs.Rows.{card_title, card_words, card, front_cells, move_and_value, refuted_item, is_over, over_words, refuted_items};
+ghost use Rattle.study_page.specs.Rows.{of_all, refuted_count, try_row};
 ghost use Rattle.study_page.specs.Rows.{points_words, to_move_words, zugzwang_row};
 
 use std::alloc::{AllocError, Allocator};
@@ -99,6 +100,26 @@ pub fn add_difference<A: Allocator>(
     }
 }
 
+fn is_quicker(value: Value, other: Value) -> bool
+    ensures { result ≡ is_quicker value other }
+{
+    match (value, other) {
+        (Value::Loss(n), Value::Loss(k)) => k / 2 < n / 2,
+        _ => false,
+    }
+}
+
+/// The time that another move wastes, beside a move with this value after it: none if mate comes sooner by it.
+pub fn wasted(value: Value, x: &Alternative) -> Option<u8>
+    ensures { result ≡ wasted value x.now }
+{
+    if is_quicker(value, x.value) {
+        None
+    } else {
+        x.time
+    }
+}
+
 #[tactic(auto, unfolding(crate::specs::Rows::also_words))]
 fn add_also<A: Allocator>(
     text: &mut Text<'_, A>,
@@ -111,7 +132,7 @@ fn add_also<A: Allocator>(
     text.add(b": ")?;
     add_value(text, side, x.value)?;
     add_difference(text, value, x.value)?;
-    add_time(text, x.time)
+    add_time(text, wasted(value, x))
 }
 
 fn put_san<'a, A: Allocator>(
@@ -359,12 +380,22 @@ fn put_each_refuted<'a, A: Allocator>(
     Ok(())
 }
 
-/// Whether the side to move is stalemated.
-#[tactic(auto, unfolding(study_facts::specs::Nodes::is_stalemate))]
-fn is_stalemate(p: &Position) -> bool
-    ensures { result ≡ is_stalemate p.now }
+/// Whether the game has ended.
+#[tactic(auto, unfolding(crate::specs::Rows::is_over))]
+fn is_over(p: &Position) -> bool
+    ensures { result ≡ is_over p.now }
 {
-    legal_moves(p).is_empty() && !in_check(p)
+    legal_moves(p).is_empty()
+}
+
+fn over_words(p: &Position) -> &'static [u8]
+    ensures { result.now ≡ over_words p.now }
+{
+    if in_check(p) {
+        b"mate, too late"
+    } else {
+        b"stalemate"
+    }
 }
 
 fn put_refutations<'a, A: Allocator>(
@@ -376,8 +407,8 @@ fn put_refutations<'a, A: Allocator>(
     requires { All (λ x. is_legal p.now x.played ≡ true) list.now }
     ensures { OnOk result (html.new ≡ html.old ++ refuted_items p.now list.now) }
 {
-    if is_stalemate(p) {
-        return html.say(b"stalemate");
+    if is_over(p) {
+        return html.say(over_words(p));
     }
     put_each_refuted(alloc, html, p, list)
 }
@@ -403,7 +434,7 @@ fn put_refuted_count<'a, A: Allocator>(
 ) -> Result<(), AllocError>
     ensures { OnOk result (html.new ≡ html.old ++ refuted_count p.now count) }
 {
-    if is_stalemate(p) {
+    if is_over(p) {
         return Ok(());
     }
     if count == 1 {

@@ -11,15 +11,17 @@ ghost use Rattle.study_pgn.specs.Pgn.{stipulation_text};
 ghost use Rattle.study_facts.specs.Asked.{within};
 ghost use Rattle.study_facts.specs.Order.{HasReviewed};
 ghost use Rattle.study_facts.specs.Made.{HasAsked};
-ghost use Rattle.study_head.specs.Verdict.{stamp_words, entry_judgement};
-ghost use Rattle.study_page.specs.Csv.{is_special, quoted_byte, quoted_text, field, column, head_record, names, record_text, refused_record};
+ghost use Rattle.study_head.specs.Verdict.{IsLegalStamp};
+ghost use Rattle.study_page.specs.Csv.{is_special, quoted_byte, quoted_text, field, column, head_record, names, verdict_fields, record_text, refused_record};
 ghost use Rattle.study_page.specs.Csv.{IsRecord, IsSomeRecordOf, IsRecordOf};
 
-use crate::page::parts_of;
 use std::alloc::{AllocError, Allocator};
 use std::io::Write;
 use study_facts::{EntryInfo, ReviewFault, TextFault, WriteFault};
-use study_head::{add_stamp_words, entry_judgement, known_tag};
+use study_head::{
+    SolutionFacts, Stamp, add_first_fault, add_stamp_words, entry_judgement, known_tag,
+    solution_facts,
+};
 use study_marks::{Bench, TagName};
 use study_notation::write_fen;
 use study_pgn::add_stipulation;
@@ -136,38 +138,42 @@ fn add_wanted<'a, 'b, A: Allocator, B: Allocator>(
     add_column(text, words.as_slice())
 }
 
-fn add_verdict<'a, 'b, A: Allocator, B: Allocator>(
+/// Adds a verdict and the worst dual.
+fn add_verdict<'a, A: Allocator>(
     alloc: &'a A,
     text: &mut Text<'_, A>,
-    bench: &Bench<'b, B>,
-    time: u32,
-    unread: Option<u32>,
+    stamp: &Stamp,
+    facts: &SolutionFacts,
 ) -> Result<(), AllocError>
-    ensures { OnOk result (text.new ≡ text.old
-        ++ field (stamp_words (entry_judgement (marked_study bench.now) time unread).stamp)) }
+    requires { IsLegalStamp stamp.now }
+    ensures { OnOk result (text.new ≡ text.old ++ verdict_fields stamp.now facts.now) }
 {
     let mut words = Text::new(alloc);
-    let judged = entry_judgement(bench, time, unread);
-    add_stamp_words(&mut words, &judged.stamp)?;
-    add_field(text, words.as_slice())
+    let mut fault = Text::new(alloc);
+    add_stamp_words(&mut words, stamp)?;
+    add_column(text, words.as_slice())?;
+    add_first_fault(&mut fault, stamp, facts)?;
+    add_field(text, fault.as_slice())
 }
 
-/// The record of an entry, of whose duals so many only waste time.
+/// The record of an entry with these facts.
 #[tactic(auto, unfolding(crate::specs::Csv::record_text))]
 fn add_record<'a, 'b, A: Allocator, B: Allocator>(
     alloc: &'a A,
     text: &mut Text<'_, A>,
     bench: &Bench<'b, B>,
-    time: u32,
+    facts: &SolutionFacts,
     info: EntryInfo,
 ) -> Result<(), AllocError>
-    ensures { OnOk result (text.new ≡ text.old ++ record_text (marked_study bench.now) time info) }
+    ensures { OnOk result (text.new ≡ text.old
+        ++ record_text (marked_study bench.now) facts.now info) }
 {
+    let judged = entry_judgement(bench, facts, info.standing);
     add_number(alloc, text, info.number)?;
     add_names(text, bench)?;
     add_fen(text, bench)?;
     add_wanted(alloc, text, bench)?;
-    add_verdict(alloc, text, bench, time, info.unread)?;
+    add_verdict(alloc, text, &judged.stamp, facts)?;
     text.add(b"\r\n")
 }
 
@@ -186,21 +192,25 @@ fn record_of<'a, 'b, A: Allocator, B: Allocator, V: Values>(
         values.old result values.new }
 {
     let mut text = Text::new(alloc);
-    let parts = parts_of(alloc, bench, values)?;
-    add_record(alloc, &mut text, bench, parts.time_faults, info)?;
+    let facts = solution_facts(alloc, bench, values)?;
+    add_record(alloc, &mut text, bench, &facts, info)?;
     Ok(text)
 }
 
-/// Writes the head of a list: the names of the six fields.
+/// Writes the head of a list: the names of the seven fields.
 #[tactic(auto, unfolding(crate::specs::Csv::head_record))]
 pub fn write_head_record<W: Write>(out: &mut W) -> Result<(), DeviceFailed>
     ensures ok { OnOk result (Appends (W.contents out.old) (W.contents out.new) head_record) }
     ensures err { OnErr result (TakesPrefix (W.contents out.old) (W.contents out.new) head_record) }
 {
-    write_text(out, b"Number,Title,Author,FEN,Stipulation,Verdict\r\n")
+    write_text(
+        out,
+        b"Number,Title,Author,FEN,Stipulation,Verdict,Worst dual\r\n",
+    )
 }
 
-/// Writes a study as a record of comma-separated values, ended by CR LF: number, title, author, FEN, stipulation, verdict. What is not known is empty.
+/// Writes a study as a record of comma-separated values, ended by CR LF: number, title, author, FEN, stipulation, verdict, and the worst
+/// dual. What is not known is empty.
 ///
 /// The record is made whole first, so want of memory, and a value that cannot be read, are reported before the first byte.
 pub fn write_record<'a, 'b, A: Allocator, B: Allocator, V: Values, W: Write>(
@@ -253,7 +263,7 @@ fn add_refused<'a, A: Allocator>(
     text.add(b",")?;
     add_column(text, title.as_slice())?;
     text.add(b",,,")?;
-    add_field(text, verdict.as_slice())?;
+    add_column(text, verdict.as_slice())?;
     text.add(b"\r\n")
 }
 

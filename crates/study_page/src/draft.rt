@@ -4,11 +4,10 @@ ghost use Rattle.std.specs.Prelude.{◌≡◌, []};
 use std::alloc::Allocator;
 use study_html::Html;
 
-/// What is made of the nodes, part by part, and how many faults of the solution lose time alone.
+/// What is made of the nodes, part by part.
 #[derive(Drop)]
 pub struct Sections<'a, A: Allocator> {
     pub faults: Html<'a, A>,
-    pub time_faults: u32,
     pub duals: Html<'a, A>,
     pub tries: Html<'a, A>,
     pub zugzwangs: Html<'a, A>,
@@ -20,7 +19,6 @@ impl<'a, A: Allocator> Sections<'a, A> {
     /// Nothing of any node.
     pub fn new(alloc: &'a A) -> Self
         ensures faults { result.faults ≡ [] }
-        ensures time { result.time_faults ≡ 0 }
         ensures duals { result.duals ≡ [] }
         ensures tries { result.tries ≡ [] }
         ensures zugzwangs { result.zugzwangs ≡ [] }
@@ -29,7 +27,6 @@ impl<'a, A: Allocator> Sections<'a, A> {
     {
         Sections {
             faults: Html::new(alloc),
-            time_faults: 0,
             duals: Html::new(alloc),
             tries: Html::new(alloc),
             zugzwangs: Html::new(alloc),

@@ -5,7 +5,7 @@ ghost use Rattle.study_moves.specs.Rules.{is_legal};
 ghost use Rattle.study_page.specs.Rows.{lost_words, bracket_words, named_words, next_words, list_words, more_words, others_words, dual_item};
 ghost use Rattle.study_page.specs.Rows.{gives_up_goal, mistake_item};
 
-use crate::cards_and_tries::{add_difference, loses_time};
+use crate::cards_and_tries::{add_difference, loses_time, wasted};
 use std::alloc::{AllocError, Allocator};
 use study_board::Position;
 use study_facts::{Alternative, EvaluatedMove};
@@ -60,7 +60,7 @@ fn add_named<'a, A: Allocator>(
 {
     let mut gap = Text::new(alloc);
     add_difference(&mut gap, value, x.value)?;
-    add_lost(&mut gap, x.time)?;
+    add_lost(&mut gap, wasted(value, x))?;
     add_san(text, p, x.played)?;
     add_bracketed(text, gap.as_slice())
 }

@@ -1,23 +1,19 @@
 //! What the parts of a page have of one move: the item of a fault of the solution, and the card of a dual.
-ghost use Rattle.std.specs.Prelude.{◌≡◌, ◌++◌, ◌+◌, ◌^◌, ◌<◌, ◌&&◌, [], true, Some, length, OnOk, if◌then◌else◌};
+ghost use Rattle.std.specs.Prelude.{◌≡◌, ◌++◌, ◌+◌, ◌^◌, ◌<◌, [], true, Some, length, OnOk, if◌then◌else◌};
 ghost use Rattle.std.specs.List.{All};
 ghost use Rattle.study_moves.specs.Rules.{is_legal};
 ghost use Rattle.study_marks.specs.BenchState.{marked_study};
 ghost use Rattle.study_facts.specs.Asked.{within};
-ghost use Rattle.study_facts.specs.Made.{Grew, Rose, HasAsked};
+ghost use Rattle.study_facts.specs.Made.{Grew, HasAsked};
 ghost use Rattle.study_facts.specs.Nodes.{EmptyUnless};
 ghost use Rattle.study_facts.specs.StudyNode.{IsStudyMove};
-ghost use Rattle.study_facts.specs.TimeFaults.{CountWhere, IsTimeDual, IsTimeFault, all_lose_time};
 ghost use Rattle.study_page.specs.Rows.{IsFaultOf, FaultItems, IsCardOf, Cards, dual_item, mistake_item, card};
 
 use crate::cards_and_tries::put_card;
 use crate::draft::Sections;
 use crate::fault_list::{put_dual, put_mistake};
 use std::alloc::{AllocError, Allocator};
-use study_facts::{
-    Alternative, EvaluatedMove, StudyMove, TextFault, all_lose_time, count_where,
-    timed_alternatives,
-};
+use study_facts::{Alternative, EvaluatedMove, StudyMove, TextFault, timed_alternatives};
 use study_head::Ply;
 use study_html::Html;
 use study_marks::{Bench, MoveMark};
@@ -46,14 +42,7 @@ fn put_listed_dual<'a, A: Allocator>(
     put_dual(alloc, html, ply, x, list)
 }
 
-/// Whether a dual with these others is listed and loses time alone.
-fn loses_alone(listed: bool, list: &[Alternative]) -> bool
-    ensures { result ≡ (listed && all_lose_time list.now) }
-{
-    listed && all_lose_time(list)
-}
-
-/// The item and the card of a dual beside which so many moves hold, of which these are the others, and one more that loses time alone, where it does.
+/// The item and the card of a dual beside which so many moves hold, of which these are the others.
 fn put_dual_parts<'a, A: Allocator>(
     alloc: &'a A,
     parts: &mut Sections<'_, A>,
@@ -73,11 +62,6 @@ fn put_dual_parts<'a, A: Allocator>(
     ensures duals { OnOk result (parts.new.duals ≡ parts.old.duals
         ++ card start.now step.now.before.depth step.now.before.position.now step.now.played
         others step.now.mark.value list.now) }
-    ensures time { OnOk result
-        (parts.old.time_faults
-        + (if step.now.solution && all_lose_time list.now then 1 else 0) < 2 ^ 32
-        → parts.new.time_faults ≡ parts.old.time_faults
-        + (if step.now.solution && all_lose_time list.now then 1 else 0)) }
     ensures tries { parts.new.tries ≡ parts.old.tries }
     ensures zugzwangs { parts.new.zugzwangs ≡ parts.old.zugzwangs }
     ensures defences { parts.new.defences ≡ parts.old.defences }
@@ -93,10 +77,7 @@ fn put_dual_parts<'a, A: Allocator>(
         value: step.mark.value,
     };
     put_listed_dual(alloc, &mut parts.faults, &ply, &x, list, step.solution)?;
-    put_card(alloc, &mut parts.duals, &ply, &x, others, list)?;
-    let alone = loses_alone(step.solution, list);
-    parts.time_faults = count_where(parts.time_faults, alone);
-    Ok(())
+    put_card(alloc, &mut parts.duals, &ply, &x, others, list)
 }
 
 /// What the parts have of a dual beside which so many moves hold.
@@ -118,11 +99,6 @@ fn add_dual<'a, A: Allocator, V: Values>(
         step.now.before.position.now step.now.played step.now.mark.value
         (Some (MoveMark.Dual others))))
         parts.old.faults parts.new.faults) }
-    ensures time { V.source.is_honest values.old
-        → OnOk result (Rose (CountWhere step.now.solution (IsTimeDual
-        step.now.before.aim.now step.now.before.depth step.now.line.now
-        step.now.before.position.now step.now.played))
-        parts.old.time_faults parts.new.time_faults) }
     ensures duals { V.source.is_honest values.old
         → OnOk result (Grew (IsCardOf start.now step.now.before.aim.now step.now.before.depth
         step.now.line.now step.now.before.position.now step.now.played step.now.mark.value
@@ -181,10 +157,6 @@ pub fn add_move<'a, 'b, A: Allocator, B: Allocator, V: Values>(
     ensures faults { V.source.is_honest values.old
         → OnOk result (Grew (FaultItems (marked_study bench.now) step.now.steps.now)
         parts.old.faults parts.new.faults) }
-    ensures time { V.source.is_honest values.old
-        → OnOk result
-        (Rose (IsTimeFault (marked_study bench.now) step.now.steps.now)
-        parts.old.time_faults parts.new.time_faults) }
     ensures duals { V.source.is_honest values.old
         → OnOk result
         (Grew (Cards (marked_study bench.now) step.now.steps.now) parts.old.duals parts.new.duals) }

@@ -327,7 +327,6 @@ pub fn add_rows<'a, 'b, A: Allocator, B: Allocator, V: Values>(
     // Many clauses: one for each part of the page, and those of the probes.
     requires { IsPageNode (marked_study bench.now) node.now }
     ensures faults { parts.new.faults ≡ parts.old.faults }
-    ensures time { parts.new.time_faults ≡ parts.old.time_faults }
     ensures duals { parts.new.duals ≡ parts.old.duals }
     ensures tries { V.source.is_honest values.old
         → OnOk result

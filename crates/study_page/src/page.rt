@@ -6,7 +6,9 @@ ghost use Rattle.study_marks.specs.BenchState.{marked_study, IsKeptRight};
 ghost use Rattle.study_marks.specs.Study.{plain_study};
 ghost use Rattle.study_values.specs.declared.values.ProbeFault.{ProbeFault as AProbeFault};
 ghost use Rattle.study_facts.specs.Asked.{within};
-ghost use Rattle.study_facts.specs.Order.{HasReviewed, AreTimeFaults};
+ghost use Rattle.study_facts.specs.Order.{HasReviewed};
+ghost use Rattle.study_head.specs.Solution.{AreSolutionFacts};
+ghost use Rattle.study_head.specs.Verdict.{IsLegalStamp};
 ghost use Rattle.study_html.specs.Elements.{element_text};
 ghost use Rattle.study_html.specs.declared.element.Element.TheVariants.{Table, Rows};
 ghost use Rattle.study_html.specs.Markup.{IsWellNested};
@@ -22,11 +24,13 @@ use crate::draft::Sections;
 use crate::page_findings::PageFindings;
 use crate::summary::{add_entry, put_three_heads};
 use crate::tree::put_following;
-use crate::verdict::put_verdict;
+use crate::verdict::{put_verdict, shows_duals};
 use std::alloc::{AllocError, Allocator};
 use std::io::Write;
 use study_facts::{EntryInfo, ReviewFault, TextFault, walk_study};
-use study_head::{entry_judgement, put_figure, put_head};
+use study_head::{
+    Judgement, SolutionFacts, Stamp, entry_judgement, put_figure, put_head, solution_facts,
+};
 use study_html::{Element, Html, put_words};
 use study_marks::Bench;
 use study_text::write_text;
@@ -40,7 +44,6 @@ pub fn parts_of<'a, 'b, A: Allocator, B: Allocator, V: Values>(
 ) -> Result<Sections<'a, A>, TextFault>
     ensures text { V.source.is_honest values.old
         → IfOk result (λ p. AreRows FaultItems (marked_study bench.now) p.faults
-        × AreTimeFaults (marked_study bench.now) p.time_faults
         × AreRows Cards (marked_study bench.now) p.duals
         × AreRows TryRows (marked_study bench.now) p.tries
         × AreRows ZugzwangRows (marked_study bench.now) p.zugzwangs
@@ -49,8 +52,6 @@ pub fn parts_of<'a, 'b, A: Allocator, B: Allocator, V: Values>(
     ensures asked { HasAsked (within (marked_study bench.now).start.position V.source)
         values.old result values.new }
 {
-    // (the study has at most 4,096 nodes)
-    let _size = bench.size();
     let mut findings = PageFindings::new(alloc);
     walk_study(alloc, &mut findings, bench, values)?;
     Ok(findings.sections)
@@ -156,11 +157,12 @@ fn put_full_cards<'a, A: Allocator>(
 fn put_cards<'a, A: Allocator>(
     alloc: &'a A,
     html: &mut Html<'_, A>,
+    stamp: &Stamp,
     cards: &Html<'_, A>,
 ) -> Result<(), AllocError>
-    ensures { OnOk result (html.new ≡ html.old ++ cards_part cards.now) }
+    ensures { OnOk result (html.new ≡ html.old ++ cards_part stamp.now cards.now) }
 {
-    if cards.is_empty() {
+    if !shows_duals(stamp) || cards.is_empty() {
         return Ok(());
     }
     put_full_cards(alloc, html, cards)
@@ -281,20 +283,16 @@ fn put_top<'a, 'b, A: Allocator, B: Allocator>(
     alloc: &'a A,
     html: &mut Html<'_, A>,
     bench: &Bench<'b, B>,
-    unread: Option<u32>,
-    parts: &Sections<'_, A>,
+    judged: &Judgement,
+    faults: &Html<'_, A>,
 ) -> Result<(), AllocError>
+    requires { IsLegalStamp judged.now.stamp }
     ensures { OnOk result (html.new ≡ html.old
-        ++ top (marked_study bench.now) unread parts.now.time_faults parts.now.faults) }
+        ++ top (marked_study bench.now) judged.now faults.now) }
 {
     let mut within = Html::new(alloc);
     put_figure(alloc, &mut within, bench)?;
-    put_verdict(
-        alloc,
-        &mut within,
-        &entry_judgement(bench, parts.time_faults, unread),
-        &parts.faults,
-    )?;
+    put_verdict(alloc, &mut within, judged, faults)?;
     html.put(Element::Top, &within)
 }
 
@@ -304,17 +302,18 @@ fn put_content<'a, 'b, A: Allocator, B: Allocator>(
     alloc: &'a A,
     html: &mut Html<'_, A>,
     bench: &Bench<'b, B>,
-    unread: Option<u32>,
+    judged: &Judgement,
     parts: &Sections<'_, A>,
 ) -> Result<(), AllocError>
+    requires { IsLegalStamp judged.now.stamp }
     ensures { OnOk result (html.new ≡ html.old
-        ++ content (marked_study bench.now) unread parts.now.time_faults parts.now.faults
+        ++ content (marked_study bench.now) judged.now parts.now.faults
         parts.now.duals parts.now.tries parts.now.zugzwangs parts.now.defences parts.now.ends) }
 {
     put_head(alloc, html, bench)?;
-    put_top(alloc, html, bench, unread, parts)?;
+    put_top(alloc, html, bench, judged, &parts.faults)?;
     put_solution(alloc, html, bench)?;
-    put_cards(alloc, html, &parts.duals)?;
+    put_cards(alloc, html, &judged.stamp, &parts.duals)?;
     put_tables(alloc, html, parts)?;
     put_words(alloc, html, Element::Foot, foot_words())
 }
@@ -326,20 +325,49 @@ pub struct Listed<'l, 's, S: Allocator> {
     pub rows: &'l Html<'s, S>,
 }
 
-/// The rows with one more, of the study of whose duals so many only waste time.
+/// The rows with one more, of the study with these facts.
 fn with_row<'s, 'b, S: Allocator, B: Allocator>(
     list: &Listed<'_, 's, S>,
     bench: &Bench<'b, B>,
-    time: u32,
+    facts: &SolutionFacts,
     info: EntryInfo,
 ) -> Result<Html<'s, S>, AllocError>
     ensures { IfOk result (λ more.
-        more ≡ list.now.rows.now ++ summary_row (marked_study bench.now) time info) }
+        more ≡ list.now.rows.now ++ summary_row (marked_study bench.now) facts.now info) }
 {
     let mut more = Html::new(list.alloc);
     more.append(list.rows)?;
-    add_entry(list.alloc, &mut more, bench, time, info)?;
+    add_entry(list.alloc, &mut more, bench, facts, info)?;
     Ok(more)
+}
+
+/// The facts of a solution, and the parts of a page that evaluate positions.
+#[derive(Drop)]
+struct Found<'a, A: Allocator> {
+    facts: SolutionFacts,
+    parts: Sections<'a, A>,
+}
+
+fn found_in<'a, 'b, A: Allocator, B: Allocator, V: Values>(
+    alloc: &'a A,
+    bench: &Bench<'b, B>,
+    values: &mut V,
+) -> Result<Found<'a, A>, TextFault>
+    ensures facts { V.source.is_honest values.old
+        → IfOk result (λ found. AreSolutionFacts (marked_study bench.now) found.facts) }
+    ensures text { V.source.is_honest values.old
+        → IfOk result (λ found. AreRows FaultItems (marked_study bench.now) found.parts.faults
+        × AreRows Cards (marked_study bench.now) found.parts.duals
+        × AreRows TryRows (marked_study bench.now) found.parts.tries
+        × AreRows ZugzwangRows (marked_study bench.now) found.parts.zugzwangs
+        × AreRows DefenceRows (marked_study bench.now) found.parts.defences
+        × AreRows EndRows (marked_study bench.now) found.parts.ends) }
+    ensures asked { HasAsked (within (marked_study bench.now).start.position V.source)
+        values.old result values.new }
+{
+    let facts = solution_facts(alloc, bench, values)?;
+    let parts = parts_of(alloc, bench, values)?;
+    Ok(Found { facts, parts })
 }
 
 /// A page, and the rows of the list with its own behind them.
@@ -368,12 +396,13 @@ fn entry_of<'a, 's, 'b, A: Allocator, S: Allocator, B: Allocator, V: Values>(
 {
     let mut page = Html::new(alloc);
     let mut content = Html::new(alloc);
-    let parts = parts_of(alloc, bench, values)?;
-    put_content(alloc, &mut content, bench, info.unread, &parts)?;
+    let found = found_in(alloc, bench, values)?;
+    let judged = entry_judgement(bench, &found.facts, info.standing);
+    put_content(alloc, &mut content, bench, &judged, &found.parts)?;
     page.put(Element::Entry(info.number), &content)?;
     // (the content is well nested, as the clause of its bytes says)
     let _content = content.as_slice();
-    let rows = with_row(list, bench, parts.time_faults, info)?;
+    let rows = with_row(list, bench, &found.facts, info)?;
     Ok(Entry { page, rows })
 }
 

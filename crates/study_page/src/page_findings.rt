@@ -20,7 +20,6 @@ impl<'a, A: Allocator> PageFindings<'a, A> {
     /// Nothing of any node.
     pub fn new(alloc: &'a A) -> Self
         ensures faults { result.sections.faults ≡ [] }
-        ensures time { result.sections.time_faults ≡ 0 }
         ensures duals { result.sections.duals ≡ [] }
         ensures tries { result.sections.tries ≡ [] }
         ensures zugzwangs { result.sections.zugzwangs ≡ [] }
@@ -36,13 +35,11 @@ impl<'a, A: Allocator> PageFindings<'a, A> {
 
 impl<'a, A: Allocator> Findings for PageFindings<'a, A> {
     ghost use Rattle.std.specs.Prelude.{◌≡◌};
-    ghost use Rattle.study_facts.specs.Made.{Grew, Rose};
-    ghost use Rattle.study_facts.specs.TimeFaults.{IsTimeFault};
+    ghost use Rattle.study_facts.specs.Made.{Grew};
     ghost use Rattle.study_page.specs.Rows.{FaultItems, Cards, TryRows, ZugzwangRows, DefenceRows, EndRows};
 
     ghost adds = { λ s path old new.
         Grew (FaultItems s path) old.sections.faults new.sections.faults
-        × Rose (IsTimeFault s path) old.sections.time_faults new.sections.time_faults
         × Grew (Cards s path) old.sections.duals new.sections.duals
         × Grew (TryRows s path) old.sections.tries new.sections.tries
         × Grew (ZugzwangRows s path) old.sections.zugzwangs new.sections.zugzwangs

@@ -10,14 +10,16 @@ ghost use Rattle.study_html.specs.Elements.{element_text};
 ghost use Rattle.study_html.specs.Escape.{escaped_text};
 ghost use Rattle.study_head.specs.Known.{known_words};
 ghost use Rattle.study_head.specs.Head.{title_words};
-ghost use Rattle.study_head.specs.Verdict.{stamp_words, entry_judgement};
-ghost use Rattle.study_page.specs.Lists.{refusal_part, summary_row, two_heads, three_heads, summary_heads, summary_part};
+ghost use Rattle.study_head.specs.Verdict.{IsLegalStamp};
+ghost use Rattle.study_page.specs.Lists.{refusal_part, fault_note, verdict_cell, summary_row, two_heads, three_heads, summary_heads, summary_part};
 
 use std::alloc::{AllocError, Allocator};
 use std::io::Write;
 use study_facts::{EntryInfo, WriteFault};
-use study_head::{add_stamp_words, entry_judgement, known_tag, title_words};
-use study_html::{Element, Html, put_words};
+use study_head::{
+    SolutionFacts, Stamp, add_first_fault, add_stamp_words, entry_judgement, known_tag, title_words,
+};
+use study_html::{Drawing, Element, Html, put_words};
 use study_marks::{Bench, TagName};
 use study_pgn::add_stipulation;
 use study_text::{Text, write_text};
@@ -115,40 +117,69 @@ fn put_link_cell<'a, 'b, A: Allocator, B: Allocator>(
     html.put(Element::Cell, &within)
 }
 
-/// The cells with what is asked for and the verdict.
-fn put_judged<'a, 'b, A: Allocator, B: Allocator>(
+/// The worst dual below a verdict, if there is one.
+fn put_fault_note<'a, A: Allocator>(
+    alloc: &'a A,
+    html: &mut Html<'_, A>,
+    words: &[u8],
+) -> Result<(), AllocError>
+    ensures { OnOk result (html.new ≡ html.old ++ fault_note words.now) }
+{
+    if words.is_empty() {
+        return Ok(());
+    }
+    html.draw(&Drawing::Break)?;
+    put_words(alloc, html, Element::Small, words)
+}
+
+/// The cell with a verdict, and below it the worst dual.
+#[tactic(auto, unfolding(crate::specs::Lists::verdict_cell))]
+fn put_verdict_cell<'a, A: Allocator>(
+    alloc: &'a A,
+    html: &mut Html<'_, A>,
+    stamp: &Stamp,
+    facts: &SolutionFacts,
+) -> Result<(), AllocError>
+    requires { IsLegalStamp stamp.now }
+    ensures { OnOk result (html.new ≡ html.old ++ verdict_cell stamp.now facts.now) }
+{
+    let mut within = Html::new(alloc);
+    let mut verdict = Text::new(alloc);
+    let mut fault = Text::new(alloc);
+    add_stamp_words(&mut verdict, stamp)?;
+    within.say(verdict.as_slice())?;
+    add_first_fault(&mut fault, stamp, facts)?;
+    put_fault_note(alloc, &mut within, fault.as_slice())?;
+    html.put(Element::Cell, &within)
+}
+
+/// The cell with what is asked for.
+fn put_wanted<'a, 'b, A: Allocator, B: Allocator>(
     alloc: &'a A,
     html: &mut Html<'_, A>,
     bench: &Bench<'b, B>,
-    time: u32,
-    unread: Option<u32>,
 ) -> Result<(), AllocError>
-    ensures { OnOk result (html.new ≡ html.old
-        ++ (element_text Element.Cell (escaped_text (stipulation_text (marked_study bench.now).stipulation))
-        ++ element_text Element.Cell
-        (escaped_text (stamp_words (entry_judgement (marked_study bench.now) time unread).stamp)))) }
+    ensures { OnOk result (html.new ≡ html.old ++ element_text Element.Cell
+        (escaped_text (stipulation_text (marked_study bench.now).stipulation))) }
 {
     let mut stipulation = Text::new(alloc);
-    let mut verdict = Text::new(alloc);
     add_stipulation(&mut stipulation, bench.stipulation())?;
-    put_words(alloc, html, Element::Cell, stipulation.as_slice())?;
-    let judged = entry_judgement(bench, time, unread);
-    add_stamp_words(&mut verdict, &judged.stamp)?;
-    put_words(alloc, html, Element::Cell, verdict.as_slice())
+    put_words(alloc, html, Element::Cell, stipulation.as_slice())
 }
 
-/// Adds a row for this entry: its number, its title, its author, what is asked for and the verdict, by how many of its
-/// duals only waste time, or which line of it was refused.
+/// Adds a row for this entry: its number, its title, its author, what is asked for and the verdict.
 #[tactic(auto, unfolding(crate::specs::Lists::summary_row))]
 pub fn add_entry<'a, 'b, A: Allocator, B: Allocator>(
     alloc: &'a A,
     rows: &mut Html<'_, A>,
     bench: &Bench<'b, B>,
-    time: u32,
+    facts: &SolutionFacts,
     info: EntryInfo,
 ) -> Result<(), AllocError>
-    ensures { OnOk result (rows.new ≡ rows.old ++ summary_row (marked_study bench.now) time info) }
+    ensures { OnOk result (rows.new ≡ rows.old
+        ++ summary_row (marked_study bench.now) facts.now info) }
 {
+    let judged = entry_judgement(bench, facts, info.standing);
     let mut row = Html::new(alloc);
     put_number(alloc, &mut row, Element::Cell, info.number)?;
     put_link_cell(alloc, &mut row, bench, info.number)?;
@@ -158,7 +189,8 @@ pub fn add_entry<'a, 'b, A: Allocator, B: Allocator>(
         Element::Cell,
         known_tag(bench, TagName::White),
     )?;
-    put_judged(alloc, &mut row, bench, time, info.unread)?;
+    put_wanted(alloc, &mut row, bench)?;
+    put_verdict_cell(alloc, &mut row, &judged.stamp, facts)?;
     rows.put(Element::Row, &row)
 }
 

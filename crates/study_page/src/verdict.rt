@@ -1,7 +1,7 @@
 //! The part of a page with the verdict.
-ghost use Rattle.std.specs.Prelude.{◌≡◌, ◌++◌, ◌==◌, OnOk, if◌then◌else◌};
+ghost use Rattle.std.specs.Prelude.{◌≡◌, ◌++◌, OnOk};
 ghost use Rattle.study_head.specs.Verdict.{IsLegalStamp};
-ghost use Rattle.study_page.specs.Verdict.{stamp_element, stamp_part, fault_list, verdict_part};
+ghost use Rattle.study_page.specs.Verdict.{stamp_element, shows_duals, stamp_part, fault_list, verdict_part};
 
 use std::alloc::{AllocError, Allocator};
 use study_head::{Judgement, Stamp, add_sentence, add_stamp_words, add_start_value};
@@ -15,22 +15,28 @@ fn stamp_element(stamp: &Stamp) -> Element
         Stamp::Wins(_) => Element::Wrong,
         Stamp::Mates(_, _) => Element::Wrong,
         Stamp::Misses(_) => Element::Wrong,
-        Stamp::Fails(_) => Element::Wrong,
-        Stamp::Sound => Element::Sound,
+        Stamp::Fails(_, _) => Element::Wrong,
+        Stamp::Cooked(_) => Element::Wrong,
+        Stamp::Sound(_, _) => Element::Sound,
         Stamp::Correct => Element::Sound,
-        Stamp::Duals(duals, time, _) => duals_element(*duals, *time),
+        Stamp::Duals(_, _) => Element::Unsound,
         Stamp::NotRead(_) => Element::Unsound,
+        Stamp::Refuted => Element::Sound,
+        Stamp::SecondSolution => Element::Wrong,
     }
 }
 
-/// The frame of a study with so many duals, of which so many only waste time.
-fn duals_element(duals: u32, time: u32) -> Element
-    ensures { result ≡ (if time == duals then Element.Sound else Element.Unsound) }
+/// Whether the duals are shown behind a verdict: they say nothing where the stipulation is wrong, nor of a try.
+pub fn shows_duals(stamp: &Stamp) -> bool
+    ensures { result ≡ shows_duals stamp.now }
 {
-    if time == duals {
-        Element::Sound
-    } else {
-        Element::Unsound
+    match stamp {
+        Stamp::Wins(_) => false,
+        Stamp::Mates(_, _) => false,
+        Stamp::Misses(_) => false,
+        Stamp::Refuted => false,
+        Stamp::SecondSolution => false,
+        _ => true,
     }
 }
 
@@ -50,10 +56,14 @@ fn put_stamp<'a, A: Allocator>(
     html.put(Element::Heading, &within)
 }
 
-fn put_faults<A: Allocator>(html: &mut Html<'_, A>, faults: &Html<'_, A>) -> Result<(), AllocError>
-    ensures { OnOk result (html.new ≡ html.old ++ fault_list faults.now) }
+fn put_faults<A: Allocator>(
+    html: &mut Html<'_, A>,
+    stamp: &Stamp,
+    faults: &Html<'_, A>,
+) -> Result<(), AllocError>
+    ensures { OnOk result (html.new ≡ html.old ++ fault_list stamp.now faults.now) }
 {
-    if faults.is_empty() {
+    if !shows_duals(stamp) || faults.is_empty() {
         return Ok(());
     }
     html.put(Element::Faults, faults)
@@ -78,6 +88,6 @@ pub fn put_verdict<'a, A: Allocator>(
     put_words(alloc, &mut part, Element::Paragraph, says.as_slice())?;
     add_start_value(&mut start, judged.first, judged.value)?;
     put_words(alloc, &mut part, Element::Paragraph, start.as_slice())?;
-    put_faults(&mut part, faults)?;
+    put_faults(&mut part, &judged.stamp, faults)?;
     html.put(Element::Verdict, &part)
 }

@@ -1,5 +1,6 @@
 -- The contribution of a line, from what was written for it.
-use Rattle.std.proofs.Common.{◌≡◌, ℕ, ◌+◌, suc, Bool, true, false, List, [], ◌∷◌, ◌++◌, Option, Some, None, Result, Ok, Err, refl, sym, ap, subst, ◌∙◌, inl, inr, arith}
+use Rattle.std.proofs.Common.{◌≡◌, ℕ, ◌+◌, suc, Bool, true, false, List, [], ◌∷◌, ◌++◌, Option, Some, None, Result, Ok, Err, refl, sym, ap, subst, ◌∙◌}
+use Rattle.std.proofs.Common.{inl, inr, arith}
 use Rattle.std.specs.Prelude.{IfOk, IfErr, if◌then◌else◌}
 use Rattle.std.specs.Io.KnownBytes.{Appends}
 use Rattle.std.proofs.KnownBytes.{Appends-nil}
@@ -19,20 +20,21 @@ use Rattle.study_script.specs.Replies.{Reply, refused_reply, IsReplyIn}
 use Rattle.study_script.specs.SessionHolds.{Answered}
 use Rattle.study_report.specs.declared.line_kind.LineKind.TheVariants.{Study, Checked}
 use Rattle.study_report.specs.declared.line_outcome.LineOutcome.{LineOutcome}
-use Rattle.study_report.specs.declared.line_outcome.LineOutcome.TheVariants.{Nothing, Study as AStudy, LeftOut, NotRead, Refusal as ARefusal}
+use Rattle.study_report.specs.declared.line_outcome.LineOutcome.TheVariants.{Nothing, Study as AStudy, LeftOut, NotRead, Try, Refusal as ARefusal}
 use Rattle.study_facts.specs.declared.entry.EntryInfo.{EntryInfo}
 use Rattle.study_report.specs.declared.unread_line.Unread.{Unread}
 use Rattle.study_report.specs.declared.line_outcome.ReportPosition.{ReportPosition}
 use Rattle.study_remark.specs.Remarks.{Told, left_out, not_read, stipulated, doubted, not_taken_over, behind_result, original_of, latin_1, letters, tail, total}
 use Rattle.study_remark.specs.Reading.{remark_in}
-use Rattle.study_report.specs.Remarks.{says_left_out, outcome_told, remark_outcome}
+use Rattle.study_facts.specs.declared.entry.Standing.{Standing}
+use Rattle.study_report.specs.Remarks.{says_left_out, outcome_told, is_try, with_try, remark_outcome}
 use Rattle.study_report.specs.Reported.{entry_count, Entry, game_entry, entry_at, next_entry, IsAt, games_in, listed_in}
 use Rattle.study_report.specs.Reported.{Point, Added, IsLeftOut, IsStudyReported, IsAddedAs, IsPgnAfter, IsCheckedAfter}
 use Rattle.study_report.specs.Reported.{nothing_added, study_added, refusal_added, remark_added}
 use Rattle.study_report.specs.Written.{Adds, Stops, StopsIn, IsSection, IsSectionPart, IsReplied}
 
-abbrev pub entry : ℕ → Option ℕ → EntryInfo
-entry number unread = record { number = number; unread = unread }
+abbrev pub entry : ℕ → Standing → EntryInfo
+entry number standing = record { number = number; standing = standing }
 
 -- the next study is the entry of the next line
 pub at-next : (p : Point) (at : ReportPosition) → IsAt p at → entry_at at ≡ next_entry p
@@ -59,6 +61,7 @@ none-in line Nothing document info e = refl
 none-in line AStudy document info e = absurd cc
 none-in line LeftOut document info e = absurd cc
 none-in line NotRead document info e = refl
+none-in line Try document info e = refl
 none-in line ARefusal document info e = refl
 
 -- a remark is an entry if it is of a game that was left out
@@ -76,6 +79,17 @@ game-in (Some (latin_1 name)) line document info = refl
 game-in (Some (letters language)) line document info = refl
 game-in (Some (tail moves)) line document info = refl
 game-in (Some (total games studies)) line document info = refl
+
+-- so with tries, which are no entries
+try-in : (t : LineOutcome) (is : Bool) (line : List ℕ) (document : Document) (info : EntryInfo)
+    → listed_in line t document info ≡ listed_in line (with_try t is) document info
+try-in Nothing true line document info = refl
+try-in Nothing false line document info = refl
+try-in AStudy is line document info = refl
+try-in LeftOut is line document info = refl
+try-in NotRead is line document info = refl
+try-in Try is line document info = refl
+try-in ARefusal is line document info = refl
 
 pub nothing-listed : (Lists : List Entry → Type 0) (reported : List Entry) → Lists reported → Lists (reported ++ [])
 nothing-listed Lists reported kept = subst Lists (sym (append-nil reported)) kept
@@ -104,7 +118,8 @@ pub remark-listed : (Lists : List Entry → Type 0) (r : Result LineOutcome RunF
     → IfOk r (λ t. Lists (reported ++ listed_in line t document info))
 remark-listed Lists (Ok t) reported line document info text old new (e, wrote) kept =
     subst (λ (x : LineOutcome). Lists (reported ++ listed_in line x document info)) (sym e)
-    (subst (λ (x : List Entry). Lists (reported ++ x)) (game-in (remark_in line) line document info) kept)
+    (subst (λ (x : List Entry). Lists (reported ++ x)) (game-in (remark_in line) line document info
+    ∙ try-in (outcome_told (remark_in line)) (is_try line) line document info) kept)
 remark-listed Lists (Err fault) reported line document info text old new h kept = tt
 
 pub adds-weaker : (I J : Added → Type 0) (H K : State → Type 0) (r : Result LineOutcome RunFault) (old new : Option (List ℕ)) → ((a : Added) → I a → J a)

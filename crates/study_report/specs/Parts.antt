@@ -17,7 +17,7 @@ use Rattle.study_script.specs.Written.{Piece, IsPiece, error_of}
 use Rattle.study_report.specs.declared.line_kind.LineKind.{LineKind}
 use Rattle.study_report.specs.declared.line_kind.LineKind.TheVariants.{Remark, PassedOver, NoClass, Study, Checked}
 use Rattle.study_report.specs.declared.line_outcome.LineOutcome.{LineOutcome}
-use Rattle.study_report.specs.declared.line_outcome.LineOutcome.TheVariants.{Nothing, Study as AStudy, LeftOut, NotRead, Refusal as ARefusal}
+use Rattle.study_report.specs.declared.line_outcome.LineOutcome.TheVariants.{Nothing, Study as AStudy, LeftOut, NotRead, Try, Refusal as ARefusal}
 use Rattle.study_report.specs.Remarks.{remark_outcome}
 use Rattle.study_report.specs.Reported.{line_kind, entry_count, refusal_count}
 
@@ -54,6 +54,7 @@ IsNextAs Checked here line Nothing next = IsAfterLine here (command_of line) nex
 IsNextAs Checked here line AStudy next = ⊥
 IsNextAs Checked here line LeftOut next = ⊥
 IsNextAs Checked here line NotRead next = ⊥
+IsNextAs Checked here line Try next = ⊥
 IsNextAs Remark here line reported next = next ≡ here
 IsNextAs PassedOver here line reported next = next ≡ here
 IsNextAs NoClass here line reported next = next ≡ here

@@ -1,12 +1,12 @@
 -- Comments that an import writes into a script, and a report shows. They begin with `#!`, with which no person begins a comment; any other comment is its
 -- author's own.
-use Rattle.std.specs.Prelude.{ℕ, ◌==◌, Bool, true, false, not, List, length, take, drop, Option, Some, None}
+use Rattle.std.specs.Prelude.{ℕ, ◌==◌, Bool, true, false, not, ◌&&◌, ◌||◌, List, [], ◌∷◌, length, take, drop, Option, Some, None, if◌then◌else◌, codes}
 use Rattle.std.specs.List.{prefix_len}
 use Rattle.std.specs.Str.{bytes_eq}
 use Rattle.study_remark.specs.Remarks.{Told, left_out, not_read, stipulated, total}
 use Rattle.study_remark.specs.Reading.{remark_in}
 use Rattle.study_report.specs.declared.line_outcome.LineOutcome.{LineOutcome}
-use Rattle.study_report.specs.declared.line_outcome.LineOutcome.TheVariants.{Nothing, LeftOut, NotRead}
+use Rattle.study_report.specs.declared.line_outcome.LineOutcome.TheVariants.{Nothing, LeftOut, NotRead, Try}
 
 -- the text begins with the word
 abbrev pub begins : List ℕ → List ℕ → Bool
@@ -40,16 +40,33 @@ says_not_read _ = false
 abbrev pub is_not_read : List ℕ → Bool
 is_not_read line = says_not_read (remark_in line)
 
+-- these words are somewhere in the text
+abbrev pub has_words : List ℕ → List ℕ → Bool
+has_words words [] = false
+has_words words (b ∷ bs) = begins (b ∷ bs) words || has_words words bs
+
+-- a part of a study with more men, which begins where four are left
+abbrev pub is_tail : List ℕ → Bool
+is_tail line = begins line (codes "#! tail ")
+
+abbrev pub is_try : List ℕ → Bool
+is_try line = is_tail line && has_words (codes ", beside the solution") line
+
 -- a game that was left out is an entry; the block of one that was not read to its end comes next
 abbrev pub outcome_told : Option Told → LineOutcome
 outcome_told (Some (left_out game why)) = LeftOut
 outcome_told (Some (not_read game why)) = NotRead
 outcome_told _ = Nothing
 
-abbrev pub remark_outcome : List ℕ → LineOutcome
-remark_outcome line = outcome_told (remark_in line)
+-- so does the block of a try
+abbrev pub with_try : LineOutcome → Bool → LineOutcome
+with_try Nothing is = if is then Try else Nothing
+with_try other is = other
 
--- A remark that is shown: each except the source of a stipulation and the numbers of games and studies.
+abbrev pub remark_outcome : List ℕ → LineOutcome
+remark_outcome line = with_try (outcome_told (remark_in line)) (is_try line)
+
+-- A remark that is shown: each except the source of a stipulation and the numbers of games and studies; and the one above a part of a study with more men.
 abbrev pub is_told : Option Told → Bool
 is_told None = false
 is_told (Some (stipulated game by)) = false
@@ -57,4 +74,4 @@ is_told (Some (total games studies)) = false
 is_told (Some told) = true
 
 abbrev pub is_remark : List ℕ → Bool
-is_remark line = is_told (remark_in line)
+is_remark line = is_tail line || is_told (remark_in line)

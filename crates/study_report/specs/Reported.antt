@@ -18,7 +18,7 @@ use Rattle.study_report.specs.declared.line_kind.LineKind.{LineKind}
 use Rattle.study_report.specs.declared.line_kind.LineKind.TheVariants.{Remark, PassedOver, NoClass, Study, Checked}
 use Rattle.study_report.specs.declared.line_outcome.ReportPosition.{ReportPosition}
 use Rattle.study_report.specs.declared.line_outcome.LineOutcome.{LineOutcome}
-use Rattle.study_report.specs.declared.line_outcome.LineOutcome.TheVariants.{Nothing, Study as AStudy, LeftOut, NotRead, Refusal as ARefusal}
+use Rattle.study_report.specs.declared.line_outcome.LineOutcome.TheVariants.{Nothing, Study as AStudy, LeftOut, NotRead, Try, Refusal as ARefusal}
 use Rattle.study_report.specs.Remarks.{is_remark, is_left_out, remark_outcome}
 use Rattle.study_report.specs.declared.unread_line.Unread.{Unread}
 use Rattle.study_report.specs.Unread.{unread_after}
@@ -56,13 +56,13 @@ IsAt p at = (at.line ≡ suc p.lines) × (at.entries ≡ p.entries) × (at.unrea
 
 -- the study in the document as the last entry, and as the next one
 abbrev pub last_entry : Point → EntryInfo
-last_entry p = record { number = p.entries; unread = p.unread.own }
+last_entry p = record { number = p.entries; standing = p.unread.own }
 
 abbrev pub next_entry : Point → EntryInfo
-next_entry p = record { number = suc p.entries; unread = p.unread.own }
+next_entry p = record { number = suc p.entries; standing = p.unread.own }
 
 abbrev pub entry_at : ReportPosition → EntryInfo
-entry_at at = record { number = at.entries + 1; unread = at.unread.own }
+entry_at at = record { number = at.entries + 1; standing = at.unread.own }
 
 -- the text that a line adds, the point after it, and what it reported
 pub record Added : Type 0 where
@@ -76,6 +76,7 @@ entry_count Nothing = 0
 entry_count AStudy = 1
 entry_count LeftOut = 1
 entry_count NotRead = 0
+entry_count Try = 0
 entry_count ARefusal = 0
 
 abbrev pub refusal_count : LineOutcome → ℕ
@@ -83,6 +84,7 @@ refusal_count Nothing = 0
 refusal_count AStudy = 0
 refusal_count LeftOut = 0
 refusal_count NotRead = 0
+refusal_count Try = 0
 refusal_count ARefusal = 1
 
 -- the point after a line, with this state
@@ -144,6 +146,7 @@ listed_in line Nothing document info = []
 listed_in line AStudy document info = studies_on document info
 listed_in line LeftOut document info = game_entry line info.number ∷ []
 listed_in line NotRead document info = []
+listed_in line Try document info = []
 listed_in line ARefusal document info = []
 
 -- the entries of lines, in their order

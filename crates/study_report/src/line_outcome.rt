@@ -4,7 +4,7 @@ ghost use Rattle.study_report.specs.Reported.{entry_count, refusal_count};
 
 use crate::unread_line::Unread;
 
-/// The number of a line, the number of entries before it, and the lines for which the study in the document is not read.
+/// The number of a line, the number of entries before it, and how the study in the document stands, and the next one.
 #[derive(Clone, Copy, Debug)]
 pub struct ReportPosition {
     pub line: u32,
@@ -22,6 +22,8 @@ pub enum LineOutcome {
     LeftOut,
     /// It is the remark of a game that was read only up to a fault, whose block comes next.
     NotRead,
+    /// It is the remark of a try, whose block comes next.
+    Try,
     Refusal,
 }
 
@@ -32,7 +34,8 @@ impl LineOutcome {
     {
         match self {
             LineOutcome::Study | LineOutcome::LeftOut => 1,
-            LineOutcome::Nothing | LineOutcome::NotRead | LineOutcome::Refusal => 0,
+            LineOutcome::Nothing | LineOutcome::NotRead | LineOutcome::Try | LineOutcome::Refusal =>
+                0,
         }
     }
 
@@ -45,7 +48,8 @@ impl LineOutcome {
             LineOutcome::Nothing
             | LineOutcome::Study
             | LineOutcome::LeftOut
-            | LineOutcome::NotRead => 0,
+            | LineOutcome::NotRead
+            | LineOutcome::Try => 0,
         }
     }
 }

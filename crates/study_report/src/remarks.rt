@@ -1,6 +1,7 @@
 //! Comments of an imported script that a report shows.
-ghost use Rattle.std.specs.Prelude.{◌≡◌, ◌≤◌, length, drop};
-ghost use Rattle.study_report.specs.Remarks.{begins, colon_in, subject, statement, is_left_out, is_not_read, is_remark, remark_outcome};
+ghost use Rattle.std.specs.Prelude.{◌≡◌, ◌≤◌, length, drop, if◌then◌else◌};
+ghost use Rattle.study_report.specs.Remarks.{begins, colon_in, subject, statement, is_left_out, is_not_read, has_words, is_tail, is_try, is_remark};
+ghost use Rattle.study_report.specs.Remarks.{remark_outcome};
 
 use crate::line_outcome::LineOutcome;
 use study_remark::{Remark, read_remark};
@@ -64,6 +65,45 @@ pub fn is_not_read(line: &[u8]) -> bool
     }
 }
 
+/// Whether these words are somewhere in a text.
+fn has_words(text: &[u8], words: &[u8]) -> bool
+    ensures { result ≡ has_words words.now text.now }
+{
+    let mut rest = text;
+    while let [_, behind @ ..] = rest {
+        if begins(rest, words) {
+            return true;
+        }
+        rest = behind;
+    }
+    false
+}
+
+/// Whether the line is the remark of a part of a study with more men.
+pub fn is_tail(line: &[u8]) -> bool
+    ensures { result ≡ is_tail line.now }
+{
+    begins(line, b"#! tail ")
+}
+
+/// Whether the line is the remark of such a part beside the study's solution.
+fn is_try(line: &[u8]) -> bool
+    ensures { result ≡ is_try line.now }
+{
+    is_tail(line) && has_words(line, b", beside the solution")
+}
+
+/// The outcome of a remark that is of no game.
+fn part_outcome(line: &[u8]) -> LineOutcome
+    ensures { result ≡ (if is_try line.now then LineOutcome.Try else LineOutcome.Nothing) }
+{
+    if is_try(line) {
+        LineOutcome::Try
+    } else {
+        LineOutcome::Nothing
+    }
+}
+
 /// The outcome of a remark.
 pub fn remark_outcome(line: &[u8]) -> LineOutcome
     ensures { result ≡ remark_outcome line.now }
@@ -71,7 +111,7 @@ pub fn remark_outcome(line: &[u8]) -> LineOutcome
     match read_remark(line) {
         Some(Remark::LeftOut(_, _)) => LineOutcome::LeftOut,
         Some(Remark::NotRead(_, _)) => LineOutcome::NotRead,
-        _ => LineOutcome::Nothing,
+        _ => part_outcome(line),
     }
 }
 
@@ -79,6 +119,9 @@ pub fn remark_outcome(line: &[u8]) -> LineOutcome
 pub fn is_shown(line: &[u8]) -> bool
     ensures { result ≡ is_remark line.now }
 {
+    if is_tail(line) {
+        return true;
+    }
     match read_remark(line) {
         None | Some(Remark::Stipulated(_, _)) | Some(Remark::Total(_, _)) => false,
         Some(_) => true,

@@ -187,7 +187,7 @@ fn report_study<'a, P: PageSource, A: Allocator, W: Write, T: Report>(
 {
     let info = EntryInfo {
         number: at.entries + 1,
-        unread: at.unread.own,
+        standing: at.unread.own,
     };
     match add_section(alloc, document, tables, report, info, out) {
         Ok(()) => Ok(LineOutcome::Study),

@@ -1,20 +1,21 @@
 //! The line for which a study is not read.
 ghost use Rattle.std.specs.Prelude.{◌≡◌};
-ghost use Rattle.study_report.specs.Unread.{is_edit, is_pgn, first_of, none_unread, unread_after, unread_refused};
+ghost use Rattle.study_report.specs.Unread.{is_edit, is_pgn, first_of, or_try, none_unread, unread_after, unread_refused};
 
 use crate::line_outcome::LineOutcome;
 use study_command::{CommandKind, Keyword, read_keyword};
+use study_facts::Standing;
 use study_script::begins_position;
 use study_text::next_word;
 
-/// The lines for which the study in the document is not read, and the one after it: refused edits, and remarks of games that were read only up to a
-/// fault.
+/// How the study in the document stands as an entry, and the one after it: by refused edits, and remarks of games that were read only up to a fault, and
+/// of tries.
 #[derive(Clone, Copy, Debug, PartialEq, Eq)]
 pub struct Unread {
-    /// The first line for which the study in the document is not read.
-    pub own: Option<u32>,
-    /// That of the next study: a remark, or a refused edit after the study was reported, which may belong to the next one.
-    pub ahead: Option<u32>,
+    /// How the study in the document stands.
+    pub own: Standing,
+    /// How the next study stands, by a remark, or a refused edit after the study was reported, which may belong to the next one.
+    pub ahead: Standing,
     /// Whether the study was reported.
     pub reported: bool,
 }
@@ -25,8 +26,8 @@ impl Unread {
         ensures { result ≡ none_unread }
     {
         Unread {
-            own: None,
-            ahead: None,
+            own: Standing::Whole,
+            ahead: Standing::Whole,
             reported: false,
         }
     }
@@ -60,12 +61,23 @@ fn is_pgn(line: &[u8]) -> bool
     }
 }
 
-fn first_of(old: Option<u32>, number: u32) -> Option<u32>
+fn first_of(old: Standing, number: u32) -> Standing
     ensures { result ≡ first_of old number }
 {
     match old {
-        None => Some(number),
-        Some(first) => Some(first),
+        Standing::NotRead(first) => Standing::NotRead(first),
+        Standing::Whole => Standing::NotRead(number),
+        Standing::BesideSolution => Standing::NotRead(number),
+    }
+}
+
+fn or_try(old: Standing) -> Standing
+    ensures { result ≡ or_try old }
+{
+    match old {
+        Standing::NotRead(first) => Standing::NotRead(first),
+        Standing::Whole => Standing::BesideSolution,
+        Standing::BesideSolution => Standing::BesideSolution,
     }
 }
 
@@ -75,7 +87,10 @@ fn after_refusal(old: Unread, number: u32, line: &[u8]) -> Unread
     ensures { result ≡ unread_refused old number line.now }
 {
     if is_pgn(line) {
-        return Unread { ahead: None, ..old };
+        return Unread {
+            ahead: Standing::Whole,
+            ..old
+        };
     }
     if !is_edit(line) {
         return old;
@@ -100,7 +115,7 @@ pub fn unread_after(old: Unread, number: u32, line: &[u8], outcome: LineOutcome)
             if begins_position(line) {
                 Unread {
                     own: old.ahead,
-                    ahead: None,
+                    ahead: Standing::Whole,
                     reported: false,
                 }
             } else {
@@ -109,13 +124,18 @@ pub fn unread_after(old: Unread, number: u32, line: &[u8], outcome: LineOutcome)
         }
         LineOutcome::Study => Unread {
             own: old.own,
-            ahead: None,
+            ahead: Standing::Whole,
             reported: true,
         },
         LineOutcome::LeftOut => old,
         LineOutcome::NotRead => Unread {
             own: old.own,
             ahead: first_of(old.ahead, number),
+            reported: old.reported,
+        },
+        LineOutcome::Try => Unread {
+            own: old.own,
+            ahead: or_try(old.ahead),
             reported: old.reported,
         },
         LineOutcome::Refusal => after_refusal(old, number, line),

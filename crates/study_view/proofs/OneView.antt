@@ -20,6 +20,8 @@ use Rattle.study_marks.proofs.PathRenewed.{spot-there}
 use Rattle.study_facts.specs.Order.{written_order}
 use Rattle.study_facts.specs.Zugzwang.{ZugzwangLines}
 use Rattle.study_facts.proofs.OneFacts.{one-each, zugzwang-once}
+use Rattle.study_head.specs.declared.solution.SolutionFacts.{SolutionFacts}
+use Rattle.study_head.proofs.OneFacts.{one-facts}
 use Rattle.study_view.specs.Words.{at_line, move_line}
 use Rattle.study_view.specs.View.{start_to, node_line, head_lines, AreMoveLines, ViewsAreUnique}
 
@@ -46,9 +48,11 @@ lines-once law s path x e (m ∷ ms) t u h j =
 
 pub one-view : EachHasAtMostOneValue → ViewsAreUnique
 one-view law s path t u h j =
-    let spot = spot-there s.tree path h.2 in
+    let spot = spot-there s.tree path h.3 in
     let p = position_at s path in
-    h.5 ∙ ap (λ (m : List ℕ). head_lines s ++ (flat_map (node_line s) (written_order s) ++ (at_line path p ++ (m ++ h.1))))
-    (lines-once law s path spot.0 spot.1 (legal_list p) h.0 j.0 h.3 j.3)
-    ∙ ap (λ (z : List ℕ). head_lines s ++ (flat_map (node_line s) (written_order s) ++ (at_line path p ++ (j.0 ++ z))))
-    (one-each (ZugzwangLines s) (zugzwang-once law s) (written_order s) h.1 j.1 h.4 j.4) ∙ sym j.5
+    h.7 ∙ ap (λ (f : SolutionFacts). head_lines s f ++ (flat_map (node_line s) (written_order s) ++ (at_line path p ++ (h.0 ++ h.1))))
+    (one-facts law s h.2 j.2 h.6 j.6)
+    ∙ ap (λ (m : List ℕ). head_lines s j.2 ++ (flat_map (node_line s) (written_order s) ++ (at_line path p ++ (m ++ h.1))))
+    (lines-once law s path spot.0 spot.1 (legal_list p) h.0 j.0 h.4 j.4)
+    ∙ ap (λ (z : List ℕ). head_lines s j.2 ++ (flat_map (node_line s) (written_order s) ++ (at_line path p ++ (j.0 ++ z))))
+    (one-each (ZugzwangLines s) (zugzwang-once law s) (written_order s) h.1 j.1 h.5 j.5) ∙ sym j.7

@@ -15,6 +15,8 @@ use Rattle.study_facts.specs.Continuations.{AreChosen, positions_after}
 use Rattle.study_facts.specs.Nodes.{value_at}
 use Rattle.study_facts.specs.Order.{LinesOfEach, written_order}
 use Rattle.study_facts.specs.Zugzwang.{ZugzwangLines}
+use Rattle.study_head.specs.declared.solution.SolutionFacts.{SolutionFacts}
+use Rattle.study_head.specs.Solution.{AreSolutionFacts}
 use Rattle.study_view.specs.Marking.{holding_count, line_of_move}
 use Rattle.study_view.specs.View.{start_to, node_line, head_lines, IsView, asked_at}
 use Rattle.study_view.specs.Words.{at_line}
@@ -26,20 +28,23 @@ pub asked-is : {L : Type 0} (s : Study L) (path : List ℕ) (here : Start) → h
 asked-is s path here e = ap (λ p. positions_after p (legal_list p)) (position-of s path here e)
 
 pub view-is : (s : Study Mark) (path : List ℕ) (here : Start) (a : Aim) (d : ℕ) (before : Value) (list : List EvaluatedMove)
-    (nodes zugzwangs text : List ℕ) → IsTrue (has_spot s.tree path) → here ≡ start_to s path → a ≡ aim_of s → d ≡ length path → before ≡ value_at s path
+    (nodes zugzwangs : List ℕ) (facts : SolutionFacts) (text : List ℕ) → IsTrue (has_spot s.tree path)
+    → here ≡ start_to s path → a ≡ aim_of s → d ≡ length path → before ≡ value_at s path
     → AreChosen (λ v. true) here.position (legal_list here.position) list
-    → nodes ≡ flat_map (node_line s) (written_order s) → LinesOfEach (ZugzwangLines s) (written_order s) zugzwangs
-    → text ≡ head_lines s ++ (nodes ++ (at_line path here.position
+    → nodes ≡ flat_map (node_line s) (written_order s) → LinesOfEach (ZugzwangLines s) (written_order s) zugzwangs → AreSolutionFacts s facts
+    → text ≡ head_lines s facts ++ (nodes ++ (at_line path here.position
     ++ (flat_map (line_of_move a d here before (holding_count a d list)) list ++ zugzwangs)))
     → IsView s path text
-view-is s path here a d before list nodes zugzwangs text found e ea ed ev chosen en zs h =
+view-is s path here a d before list nodes zugzwangs facts text found e ea ed ev chosen en zs fs h =
     let p : here.position ≡ position_at s path = position-of s path here e in
     let lines = flat_map (line_of_move a d here before (holding_count a d list)) list in (
       lines,
       zugzwangs,
+      facts,
       found,
       moves-evaluated s path a d here before list ea ed e ev (subst (λ (q : Position). AreChosen (λ v. true) q (legal_list q) list) p chosen),
       zs,
-      h ∙ ap (λ (t : List ℕ). head_lines s ++ (t ++ (at_line path here.position ++ (lines ++ zugzwangs)))) en
-          ∙ ap (λ q. head_lines s ++ (flat_map (node_line s) (written_order s) ++ (at_line path q ++ (lines ++ zugzwangs)))) p,
+      fs,
+      h ∙ ap (λ (t : List ℕ). head_lines s facts ++ (t ++ (at_line path here.position ++ (lines ++ zugzwangs)))) en
+          ∙ ap (λ q. head_lines s facts ++ (flat_map (node_line s) (written_order s) ++ (at_line path q ++ (lines ++ zugzwangs)))) p,
     )

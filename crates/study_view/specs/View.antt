@@ -14,11 +14,13 @@ use Rattle.study_marks.specs.Trial.{IsMarkOf}
 use Rattle.study_facts.specs.Continuations.{positions_after}
 use Rattle.study_facts.specs.Nodes.{parent_path}
 use Rattle.study_review.specs.Review.{stipulation_line}
-use Rattle.study_head.specs.Verdict.{judgement_of}
+use Rattle.study_head.specs.declared.solution.SolutionFacts.{SolutionFacts}
+use Rattle.study_head.specs.Solution.{AreSolutionFacts}
+use Rattle.study_head.specs.Verdict.{first_fault, judgement_of}
 use Rattle.study_head.specs.declared.verdict.Judgement.{Judgement}
 use Rattle.study_facts.specs.Order.{LinesOfEach, written_order}
 use Rattle.study_facts.specs.Zugzwang.{ZugzwangLines}
-use Rattle.study_view.specs.Words.{start_lines, stamp_line, sentence_line, node_words, at_line, move_line}
+use Rattle.study_view.specs.Words.{start_lines, stamp_line, worst_line, sentence_line, node_words, at_line, move_line}
 
 -- the start, with its counts, at the node of the path
 abbrev pub start_to : {L : Type 0} → Study L → List ℕ → Start
@@ -35,22 +37,23 @@ AreMoveLines s path (m ∷ ms) text =
     (mark : Mark) × (rest : List ℕ) × IsMarkOf s path m mark × AreMoveLines s path ms rest
     × (text ≡ move_line (start_to s path) m mark.value mark.on_move ++ rest)
 
--- the verdict as a judge reads it, as a stamp and in sentences, which do not say how many duals only waste time
-unfoldable pub judged_lines : Judgement → List ℕ
-judged_lines j = stamp_line j.stamp ++ sentence_line j
+-- the verdict as a judge reads it, as a stamp, with the worst dual and in sentences
+unfoldable pub judged_lines : Judgement → SolutionFacts → List ℕ
+judged_lines j facts = stamp_line j.stamp ++ (worst_line (first_fault j.stamp facts) ++ sentence_line j)
 
 -- the start with its counts of men, the verdict as scripts have it, and as a judge reads it
-unfoldable pub head_lines : Study Mark → List ℕ
-head_lines s = start_lines s.start ++ (stipulation_line s ++ judged_lines (judgement_of s 0))
+unfoldable pub head_lines : Study Mark → SolutionFacts → List ℕ
+head_lines s facts = start_lines s.start ++ (stipulation_line s ++ judged_lines (judgement_of s facts) facts)
 
 -- The view of an annotated study at the path of a node: its start, its verdict, each node, then the number of legal moves at the path, and each of them.
 abbrev pub IsView : Study Mark → List ℕ → List ℕ → Type 0
 IsView s path text =
-    (moves zugzwangs : List ℕ)
+    (moves zugzwangs : List ℕ) × (facts : SolutionFacts)
     × IsTrue (has_spot s.tree path)
     × AreMoveLines s path (legal_list (position_at s path)) moves
     × LinesOfEach (ZugzwangLines s) (written_order s) zugzwangs
-    × (text ≡ head_lines s ++ (flat_map (node_line s) (written_order s)
+    × AreSolutionFacts s facts
+    × (text ≡ head_lines s facts ++ (flat_map (node_line s) (written_order s)
     ++ (at_line path (position_at s path) ++ (moves ++ zugzwangs))))
 
 -- a study has exactly one view at a path

@@ -58,6 +58,10 @@ start_lines start = study_line start ++ counts_line start.position
 unfoldable pub stamp_line : Stamp → List ℕ
 stamp_line x = codes "stamp " ++ (stamp_words x ++ codes "\n")
 
+-- `worst 3. Kb4: also Kb6 (after 2... h3)`: the worst dual behind a stamp that counts them
+abbrev pub worst_line : List ℕ → List ℕ
+worst_line words = if length words == 0 then [] else (codes "worst " ++ (words ++ codes "\n"))
+
 -- `sentence The stipulation is wrong. At the start: draw.`
 unfoldable pub sentence_line : Judgement → List ℕ
 sentence_line j = codes "sentence " ++ (verdict_words j ++ codes "\n")

@@ -15,6 +15,7 @@ ghost use Rattle.study_facts.specs.Zugzwang.{ZugzwangLines};
 ghost use Rattle.study_view.specs.Asked.{HasViewed, HasWalked};
 ghost use Rattle.study_view.specs.Marking.{holding_count, line_of_move};
 ghost use Rattle.study_view.specs.View.{start_to, node_line, judged_lines, head_lines, IsView, IsViewOf, asked_at};
+ghost use Rattle.study_head.specs.Solution.{AreSolutionFacts};
 ghost use Rattle.study_head.specs.Verdict.{IsLegalStamp};
 ghost use Rattle.study_view.specs.Words.{at_line};
 
@@ -22,11 +23,11 @@ use crate::fault::ViewFault;
 use crate::move_lines::{ViewNode, add_moves};
 use crate::nodes::{Lines, add_nodes};
 use crate::probe::evaluate_legal_moves;
-use crate::words::{add_move_count, add_sentence_line, add_stamp_line, add_start};
+use crate::words::{add_move_count, add_sentence_line, add_stamp_line, add_start, add_worst_line};
 use std::alloc::{AllocError, Allocator};
 use std::io::Write;
-use study_facts::{EvaluatedMove, NodeContext, value_at};
-use study_head::{Judgement, judgement_of};
+use study_facts::{EvaluatedMove, NodeContext, TextFault, value_at};
+use study_head::{Judgement, SolutionFacts, add_first_fault, judgement_of, solution_facts};
 use study_marks::{Bench, aim_of};
 use study_moves::MAX_MOVES;
 use study_notation::Start;
@@ -36,27 +37,38 @@ use study_text::{Text, write_text};
 use study_tree::Path;
 use study_values::Values;
 
-/// The verdict as a judge reads it, as a stamp and in sentences.
+/// The verdict as a judge reads it, as a stamp, with the worst dual and in sentences.
 #[tactic(auto, unfolding(crate::specs::View::judged_lines))]
-fn add_judged<A: Allocator>(text: &mut Text<'_, A>, judged: &Judgement) -> Result<(), AllocError>
+fn add_judged<'a, A: Allocator>(
+    alloc: &'a A,
+    text: &mut Text<'_, A>,
+    judged: &Judgement,
+    facts: &SolutionFacts,
+) -> Result<(), AllocError>
     requires { IsLegalStamp judged.now.stamp }
-    ensures { OnOk result (text.new ≡ text.old ++ judged_lines judged.now) }
+    ensures { OnOk result (text.new ≡ text.old ++ judged_lines judged.now facts.now) }
 {
+    let mut worst = Text::new(alloc);
+    add_first_fault(&mut worst, &judged.stamp, facts)?;
     add_stamp_line(text, &judged.stamp)?;
+    add_worst_line(text, worst.as_slice())?;
     add_sentence_line(text, judged)
 }
 
 /// The start with its counts of men, the verdict as scripts have it, and as a judge reads it.
 #[tactic(auto, unfolding(crate::specs::View::head_lines))]
-fn add_head<'b, A: Allocator, B: Allocator>(
+fn add_head<'a, 'b, A: Allocator, B: Allocator>(
+    alloc: &'a A,
     text: &mut Text<'_, A>,
     bench: &Bench<'b, B>,
+    facts: &SolutionFacts,
 ) -> Result<(), AllocError>
-    ensures { OnOk result (text.new ≡ text.old ++ head_lines (marked_study bench.now)) }
+    ensures { OnOk result (text.new ≡ text.old
+        ++ head_lines (marked_study bench.now) facts.now) }
 {
     add_start(text, bench.start())?;
     add_stipulation_line(text, bench, root_mark(bench))?;
-    add_judged(text, &judgement_of(bench, 0))
+    add_judged(alloc, text, &judgement_of(bench, facts), facts)
 }
 
 /// The lines of all nodes.
@@ -84,6 +96,52 @@ fn tree_lines<'a, 'b, A: Allocator, B: Allocator, V: Values>(
     Ok(lines)
 }
 
+/// The facts of the solution.
+fn facts_of<'a, 'b, A: Allocator, B: Allocator, V: Values>(
+    alloc: &'a A,
+    bench: &Bench<'b, B>,
+    values: &mut V,
+) -> Result<SolutionFacts, ViewFault>
+    ensures facts { V.source.is_honest values.old
+        → IfOk result (AreSolutionFacts (marked_study bench.now)) }
+    ensures asked { HasWalked (within (marked_study bench.now).start.position V.source)
+        values.old result values.new }
+{
+    match solution_facts(alloc, bench, values) {
+        Ok(facts) => Ok(facts),
+        Err(TextFault::OutOfMemory) => Err(ViewFault::OutOfMemory),
+        Err(TextFault::NoValue(no_value)) => Err(ViewFault::Values(no_value)),
+    }
+}
+
+/// What walks of a study find: the facts of its solution, and the lines of all nodes.
+#[derive(Drop)]
+struct Found<'a, A: Allocator> {
+    facts: SolutionFacts,
+    lines: Lines<'a, A>,
+}
+
+fn found_in<'a, 'b, A: Allocator, B: Allocator, V: Values>(
+    alloc: &'a A,
+    bench: &Bench<'b, B>,
+    values: &mut V,
+) -> Result<Found<'a, A>, ViewFault>
+    ensures facts { V.source.is_honest values.old
+        → IfOk result (λ found. AreSolutionFacts (marked_study bench.now) found.facts) }
+    ensures nodes { IfOk result (λ found.
+        found.lines.nodes ≡ flat_map (node_line (marked_study bench.now))
+        (written_order (marked_study bench.now))) }
+    ensures zugzwangs { V.source.is_honest values.old → IfOk result (λ found.
+        LinesOfEach (ZugzwangLines (marked_study bench.now))
+        (written_order (marked_study bench.now)) found.lines.zugzwangs) }
+    ensures asked { HasWalked (within (marked_study bench.now).start.position V.source)
+        values.old result values.new }
+{
+    let facts = facts_of(alloc, bench, values)?;
+    let lines = tree_lines(alloc, bench, values)?;
+    Ok(Found { facts, lines })
+}
+
 /// The text of the view, from all legal moves with the values after them, and the lines of all nodes.
 fn text_of<'a, 'b, A: Allocator, B: Allocator>(
     alloc: &'a A,
@@ -91,24 +149,24 @@ fn text_of<'a, 'b, A: Allocator, B: Allocator>(
     steps: &[u16],
     here: &ViewNode<'_>,
     list: &[EvaluatedMove],
-    lines: &Lines<'_, A>,
+    found: &Found<'_, A>,
 ) -> Result<Text<'a, A>, AllocError>
     requires short { length steps.now ≤ 256 }
     requires depth { here.now.depth ≡ length steps.now }
     requires few { length list.now ≤ MAX_MOVES }
     requires legal { All (λ x. is_legal here.now.start.now.position x.played ≡ true) list.now }
-    ensures { IfOk result (λ text. text ≡ head_lines (marked_study bench.now)
-        ++ (lines.now.nodes ++ (at_line steps.now here.now.start.now.position
+    ensures { IfOk result (λ text. text ≡ head_lines (marked_study bench.now) found.now.facts
+        ++ (found.now.lines.nodes ++ (at_line steps.now here.now.start.now.position
         ++ (flat_map (line_of_move here.now.aim.now here.now.depth here.now.start.now here.now.value
         (holding_count here.now.aim.now here.now.depth list.now)) list.now
-        ++ lines.now.zugzwangs)))) }
+        ++ found.now.lines.zugzwangs)))) }
 {
     let mut text = Text::new(alloc);
-    add_head(&mut text, bench)?;
-    text.add(lines.nodes.as_slice())?;
+    add_head(alloc, &mut text, bench, &found.facts)?;
+    text.add(found.lines.nodes.as_slice())?;
     add_move_count(&mut text, steps, &here.start.position)?;
     add_moves(&mut text, here, list)?;
-    text.add(lines.zugzwangs.as_slice())?;
+    text.add(found.lines.zugzwangs.as_slice())?;
     Ok(text)
 }
 
@@ -145,8 +203,8 @@ fn view_from<'a, 'b, A: Allocator, B: Allocator, V: Values>(
         start,
         value: value_at(bench, steps),
     };
-    let lines = tree_lines(alloc, bench, values)?;
-    let text = text_of(alloc, bench, steps, &here, moves.as_slice(), &lines)?;
+    let found = found_in(alloc, bench, values)?;
+    let text = text_of(alloc, bench, steps, &here, moves.as_slice(), &found)?;
     Ok(text)
 }
 

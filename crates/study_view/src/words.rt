@@ -7,7 +7,7 @@ ghost use Rattle.study_marks.specs.Marks.{on_move_text};
 ghost use Rattle.study_marks.specs.Bench.{node_seen};
 ghost use Rattle.study_head.specs.Verdict.{IsLegalStamp};
 ghost use Rattle.study_view.specs.Words.{promoted_text, squares_text, moved_words, move_to_node_text, mark_words, study_line, counts_line, start_lines};
-ghost use Rattle.study_view.specs.Words.{stamp_line, sentence_line, shown_words, node_words, count_words, at_line, reached_words, move_line};
+ghost use Rattle.study_view.specs.Words.{stamp_line, worst_line, sentence_line, shown_words, node_words, count_words, at_line, reached_words, move_line};
 
 use std::alloc::{AllocError, Allocator};
 use study_board::{Kind, Position, Square};
@@ -156,6 +156,18 @@ pub fn add_stamp_line<A: Allocator>(text: &mut Text<'_, A>, stamp: &Stamp) -> Re
 {
     text.add(b"stamp ")?;
     add_stamp_words(text, stamp)?;
+    text.add(b"\n")
+}
+
+/// The line with the worst dual, if there are words of it.
+pub fn add_worst_line<A: Allocator>(text: &mut Text<'_, A>, words: &[u8]) -> Result<(), AllocError>
+    ensures { OnOk result (text.new ≡ text.old ++ worst_line words.now) }
+{
+    if words.is_empty() {
+        return Ok(());
+    }
+    text.add(b"worst ")?;
+    text.add(words)?;
     text.add(b"\n")
 }
 

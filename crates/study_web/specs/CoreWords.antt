@@ -15,8 +15,8 @@ use Rattle.study_pgn.specs.Values.{value_text}
 use Rattle.study_facts.specs.declared.zugzwang.Zugzwang.{Zugzwang}
 use Rattle.study_facts.specs.declared.zugzwang.Zugzwang.TheVariants.{Full, Half}
 use Rattle.study_marks.specs.declared.stipulation.Goal.TheVariants as goals
-use Rattle.study_head.specs.declared.verdict.Stamp.TheVariants.{Wins, Mates, Misses, Correct, Duals, NotRead}
-use Rattle.study_head.specs.Verdict.{stamp_words, fails_at, sentence, start_words}
+use Rattle.study_head.specs.declared.verdict.Stamp.TheVariants.{Wins, Mates, Misses, Correct, Sound, NotRead}
+use Rattle.study_head.specs.Verdict.{stamp_words, sentence, start_words}
 use Rattle.study_head.specs.Head.{title_words}
 use Rattle.study_page.specs.Page.{tries_title, zugzwangs_title, missing_title, ends_title}
 use Rattle.study_page.specs.Rows.{later_words, by_words, loses_time, gives_up_goal, points_words, to_move_words, several_words, keeps_draw_words}
@@ -86,35 +86,19 @@ value_lines =
 unfoldable pub stamp_lines : List ℕ
 stamp_lines =
     said_line (codes "correct") (stamp_words Correct)
-    ++ (said_line (codes "time") (stamp_words (Duals 1 1 true)) ++ said_line (codes "unread") (stamp_words (NotRead 1)))
-
-unfoldable pub dual_lines : List ℕ
-dual_lines =
-    said_line (codes "dual") (stamp_words (Duals 1 0 true)) ++ (said_line (codes "duals") (stamp_words (Duals 2 0 true))
-    ++ (said_line (codes "wastes") (stamp_words (Duals 2 1 true)) ++ said_line (codes "waste") (stamp_words (Duals 3 2 true))))
-
-unfoldable pub variation_lines : List ℕ
-variation_lines =
-    said_line (codes "in-variation") (stamp_words (Duals 1 0 false)) ++ said_line (codes "in-variations") (stamp_words (Duals 2 0 false))
+    ++ (said_line (codes "time") (stamp_words (Sound true None)) ++ said_line (codes "unread") (stamp_words (NotRead 1)))
 
 unfoldable pub wrong_lines : List ℕ
 wrong_lines =
     said_line (codes "wins") (stamp_words (Wins side.White)) ++ (said_line (codes "sooner") (stamp_words (Mates side.White (Win 1)))
     ++ said_line (codes "misses") (stamp_words (Misses (record { hero = side.White; goal = goals.Win }))))
 
-unfoldable pub fails_line : List ℕ
-fails_line = said_line (codes "fails") (fails_at ++ codes "1. Kb2")
-
 unfoldable pub sentence_lines : List ℕ
 sentence_lines =
     said_line (codes "unread-sentence") (sentence false (NotRead 1))
-    ++ (said_line (codes "time-sentence") (sentence false (Duals 1 1 true)) ++ said_line (codes "times-sentence") (sentence false (Duals 2 2 true)))
-
-unfoldable pub fault_lines : List ℕ
-fault_lines = dual_lines ++ (variation_lines ++ (wrong_lines ++ fails_line))
 
 unfoldable pub verdict_lines : List ℕ
-verdict_lines = value_lines ++ (stamp_lines ++ (fault_lines ++ sentence_lines))
+verdict_lines = value_lines ++ (stamp_lines ++ (wrong_lines ++ sentence_lines))
 
 -- of the parts of a printed page
 unfoldable pub title_lines : List ℕ

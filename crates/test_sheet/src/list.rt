@@ -28,12 +28,12 @@ pgn
 #! White was: \"R\"
 ";
 
-const LIST: &str = "Number,Title,Author,FEN,Stipulation,Verdict\r
-1,\"He said \"\"mate\"\", twice\",R & D,k7/8/8/8/8/8/8/K7 w - - 0 1,White to draw,\"correct, no solution yet\"\r
-,\"line 6: mark 7, please\",,,,refused: BadArguments\r
-2,,,k7/8/8/8/8/8/8/K7 b - - 0 5,White to win,does not win\r
-3,\"game 3, line 31 (Kasparyan, G.)\",,,,\"left out: 7 men\"\r
-4,\"game 4, line 52, column 17\",,,,\"NoSuchMove at \"\"Kb6\"\"\"\r
+const LIST: &str = "Number,Title,Author,FEN,Stipulation,Verdict,Worst dual\r
+1,\"He said \"\"mate\"\", twice\",R & D,k7/8/8/8/8/8/8/K7 w - - 0 1,White to draw,\"correct, no solution yet\",\r
+,\"line 6: mark 7, please\",,,,refused: BadArguments,\r
+2,,,k7/8/8/8/8/8/8/K7 b - - 0 5,White to win,does not win,\r
+3,\"game 3, line 31 (Kasparyan, G.)\",,,,\"left out: 7 men\",\r
+4,\"game 4, line 52, column 17\",,,,\"NoSuchMove at \"\"Kb6\"\"\",\r
 ";
 
 /// Studies of which a question, a move, a tag, a line of a table and an unknown command are refused, and one whose tag is refused before its position.
@@ -54,18 +54,18 @@ position k7/8/8/8/8/8/8/K7 w - - 0 1
 pgn
 ";
 
-const NOT_READ_LIST: &str = "Number,Title,Author,FEN,Stipulation,Verdict\r
-,line 3: mark 5,,,,refused: NoSuchNode\r
-1,,,k7/8/8/8/8/8/8/K7 w - - 0 1,White to draw,\"correct, no solution yet\"\r
-,line 5: insert root Kb5,,,,refused: NoSuchMove\r
-,line 6: tag Foo x,,,,refused: UnknownTag\r
-2,,,k7/8/8/8/8/8/8/K7 w - - 0 1,White to draw,not read: line 5\r
-,line 9: load XYZ,,,,refused: NotAClass\r
-3,,,k7/8/8/8/8/8/8/K7 b - - 0 5,White to draw,\"correct, no solution yet\"\r
-,line 11: insrt root Kb8,,,,refused: UnknownCommand\r
-4,,,k7/8/8/8/8/8/8/K7 b - - 0 5,White to draw,not read: line 11\r
-,line 13: tag Foo y,,,,refused: UnknownTag\r
-5,,,k7/8/8/8/8/8/8/K7 w - - 0 1,White to draw,not read: line 13\r
+const NOT_READ_LIST: &str = "Number,Title,Author,FEN,Stipulation,Verdict,Worst dual\r
+,line 3: mark 5,,,,refused: NoSuchNode,\r
+1,,,k7/8/8/8/8/8/8/K7 w - - 0 1,White to draw,\"correct, no solution yet\",\r
+,line 5: insert root Kb5,,,,refused: NoSuchMove,\r
+,line 6: tag Foo x,,,,refused: UnknownTag,\r
+2,,,k7/8/8/8/8/8/8/K7 w - - 0 1,White to draw,not read: line 5,\r
+,line 9: load XYZ,,,,refused: NotAClass,\r
+3,,,k7/8/8/8/8/8/8/K7 b - - 0 5,White to draw,\"correct, no solution yet\",\r
+,line 11: insrt root Kb8,,,,refused: UnknownCommand,\r
+4,,,k7/8/8/8/8/8/8/K7 b - - 0 5,White to draw,not read: line 11,\r
+,line 13: tag Foo y,,,,refused: UnknownTag,\r
+5,,,k7/8/8/8/8/8/8/K7 w - - 0 1,White to draw,not read: line 13,\r
 ";
 
 /// The list of a script that is written to this writer, and the result.

@@ -27,10 +27,10 @@ const ROWS: &str =
 <tr><td>2</td><td>game 2, line 14, column 12 (Kling, J.)</td><td></td><td></td><td>NoSuchMove at Kb6: no legal move of this position</td></tr>\
 <tr><td>3</td><td><a href=\"#e3\">Untitled</a></td><td></td><td>White to draw</td><td>sound</td></tr></tbody>";
 
-const RECORDS: &str = "Number,Title,Author,FEN,Stipulation,Verdict\r
-1,,,8/8/8/8/8/8/2k5/K7 w - - 0 1,White to draw,sound\r
-2,\"game 2, line 14, column 12 (Kling, J.)\",,,,\"NoSuchMove at Kb6\"\r
-3,,,8/8/8/8/8/8/2k5/K7 w - - 0 7,White to draw,sound\r
+const RECORDS: &str = "Number,Title,Author,FEN,Stipulation,Verdict,Worst dual\r
+1,,,8/8/8/8/8/8/2k5/K7 w - - 0 1,White to draw,sound,\r
+2,\"game 2, line 14, column 12 (Kling, J.)\",,,,\"NoSuchMove at Kb6\",\r
+3,,,8/8/8/8/8/8/2k5/K7 w - - 0 7,White to draw,sound,\r
 ";
 
 /// A game, one that was read only up to a fault, whose block has a remark more, and one more. Of a fifth such game the position is refused, so that it has
@@ -63,14 +63,14 @@ insert root Ka2
 pgn
 ";
 
-const NOT_READ_RECORDS: &str = "Number,Title,Author,FEN,Stipulation,Verdict\r
-1,,,8/8/8/8/8/8/2k5/K7 w - - 0 1,White to draw,sound\r
-2,,,8/8/8/8/8/8/2k5/K7 w - - 0 3,White to draw,not read: line 6\r
-3,,,8/8/8/8/8/8/2k5/K7 w - - 0 3,White to draw,not read: line 6\r
-4,,,8/8/8/8/8/8/2k5/K7 w - - 0 5,White to draw,sound\r
-,line 20: position 8/8/8/8/8/8/2k5/K8 w - - 0 7,,,,refused: Placement\r
-,line 21: pgn,,,,refused: NoStudy\r
-5,,,8/8/8/8/8/8/2k5/K7 w - - 0 9,White to draw,sound\r
+const NOT_READ_RECORDS: &str = "Number,Title,Author,FEN,Stipulation,Verdict,Worst dual\r
+1,,,8/8/8/8/8/8/2k5/K7 w - - 0 1,White to draw,sound,\r
+2,,,8/8/8/8/8/8/2k5/K7 w - - 0 3,White to draw,not read: line 6,\r
+3,,,8/8/8/8/8/8/2k5/K7 w - - 0 3,White to draw,not read: line 6,\r
+4,,,8/8/8/8/8/8/2k5/K7 w - - 0 5,White to draw,sound,\r
+,line 20: position 8/8/8/8/8/8/2k5/K8 w - - 0 7,,,,refused: Placement,\r
+,line 21: pgn,,,,refused: NoStudy,\r
+5,,,8/8/8/8/8/8/2k5/K7 w - - 0 9,White to draw,sound,\r
 ";
 
 #[test]

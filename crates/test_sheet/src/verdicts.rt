@@ -5,48 +5,98 @@ use std::test::Fail;
 use study_list::write_list;
 use study_text::{MemoryReader, MemoryWriter};
 
-/// Studies, each with its verdict. White mates in three moves from the first position, by Rc7 alone; 1. Kb6 stalemates, and after 1. Rc7 Kb8 2. Rc6 the
+/// Studies, each with its verdict and its worst dual. White mates in three moves from the first position, by Rc7 alone; 1. Kb6 stalemates, and after
+/// 1. Rc7 Kb8 2. Rc6 the
 /// mate comes too late. The last two have the colours exchanged. Two kings always draw; the last of
 /// these studies begins with White's only legal move.
 const VERDICTS: &str = "position k7/1R6/8/K7/8/8/8/8 w - - 0 1
-stipulate white draw -> wrong: White wins
-stipulate black draw -> does not draw
-stipulate black win -> does not win
-stipulate white win -> \"correct, no solution yet\"
-stipulate white mate 2 -> does not mate in 2
-stipulate white mate 4 -> wrong: White mates in 3
-stipulate white mate 3 -> \"correct, no solution yet\"
-insert root Kb6 -> fails at 1. Kb6
-insert root Rc7 -> fails at 1. Kb6
-promote 1 -> sound
-insert 0 Kb8 -> sound
-insert 0.0 Rc6 -> fails at 2. Rc6
-insert 0.0 Kb6 -> fails at 2. Rc6
-promote 0.0.1 -> sound
-stipulate white draw -> wrong: White wins
+stipulate white draw -> wrong: White wins,
+stipulate black draw -> does not draw,
+stipulate black win -> does not win,
+stipulate white win -> \"correct, no solution yet\",
+stipulate white mate 2 -> does not mate in 2,
+stipulate white mate 4 -> wrong: White mates in 3,
+stipulate white mate 3 -> \"correct, no solution yet\",
+insert root Kb6 -> fails at 1. Kb6,
+insert root Rc7 -> fails at 1. Kb6,
+promote 1 -> sound,
+insert 0 Kb8 -> sound,
+insert 0.0 Rc6 -> fails at 2. Rc6: 2... Ka7,
+insert 0.0 Kb6 -> fails at 2. Rc6: 2... Ka7,
+promote 0.0.1 -> sound,
+stipulate white draw -> wrong: White wins,
 position 8/8/8/8/k7/8/1r6/K7 b - - 0 7
-stipulate black draw -> wrong: Black wins
-stipulate black mate 3 -> \"correct, no solution yet\"
-insert root Kb3 -> fails at 7... Kb3
+stipulate black draw -> wrong: Black wins,
+stipulate black mate 3 -> \"correct, no solution yet\",
+insert root Kb3 -> fails at 7... Kb3,
 position k7/8/8/8/8/8/8/K7 w - - 0 1
-stipulate white win -> does not win
-insert root Ka2 -> does not win
-stipulate white draw -> 1 dual
-insert 0 Ka7 -> 1 dual
-insert 0.0 Ka3 -> 2 duals
-stipulate white mate 1 -> does not mate in 1
+stipulate white win -> does not win,
+insert root Ka2 -> does not win,
+stipulate white draw -> cook: 1. Kb1,1. Ka2: also Kb1 and 1 more
+insert 0 Ka7 -> cook: 1. Kb1,1. Ka2: also Kb1 and 1 more
+insert 0.0 Ka3 -> cook: 1. Kb1,1. Ka2: also Kb1 and 1 more
+stipulate white mate 1 -> does not mate in 1,
 position 8/8/8/8/8/8/2k5/K7 w - - 0 1
-stipulate white draw -> \"correct, no solution yet\"
-insert root Ka2 -> sound
-insert 0 Kc3 -> sound
-insert 0 Kd3 -> sound
-insert 0.1 Kb2 -> \"1 dual in a variation, none in the main line\"
-insert 0.1.0 Ke3 -> \"1 dual in a variation, none in the main line\"
-insert 0.1.0.0 Kb1 -> \"2 duals in variations, none in the main line\"
-insert 0.0 Ka3 -> 3 duals
+stipulate white draw -> \"correct, no solution yet\",
+insert root Ka2 -> sound,
+insert 0 Kc3 -> sound,
+insert 0 Kd3 -> sound,
+insert 0.1 Kb2 -> 1 dual in the last move,2. Kb2: also Ka1 and 3 more (after 1... Kd3)
+insert 0.1.0 Ke3 -> 1 dual in the last move,2. Kb2: also Ka1 and 3 more (after 1... Kd3)
+insert 0.1.0.0 Kb1 -> \"2 duals, 1 in a variation, 1 in a last move\",2. Kb2: also Ka1 and 3 more (after 1... Kd3)
+insert 0.0 Ka3 -> \"3 duals, 1 in a variation, 2 in last moves\",2. Kb2: also Ka1 and 3 more (after 1... Kd3)
 ";
 
-/// Each verdict is that of its line, in the list of a script that has the study after each of these lines.
+/// Three parts of a study with more men: in the solution, beside it and drawn, and beside it, where White wins though the move given stalemates. A refused
+/// line is said of a try, too.
+const TRIES: &str = "#! tail 1 of 4 of game 1, node 0, after 1. Kb1
+position k7/8/8/8/8/8/8/K7 w - - 0 1
+stipulate white win
+pgn
+
+#! tail 2 of 4 of game 1, node 1, after 1. Kb2, beside the solution
+position k7/8/8/8/8/8/8/K7 w - - 0 1
+pgn
+
+#! tail 3 of 4 of game 1, node 2, after 1. Kb3, beside the solution, the position of tail 9
+position k7/1R6/8/K7/8/8/8/8 w - - 0 1
+insert root Kb6
+pgn
+
+#! tail 4 of 4 of game 1, node 3, after 1. Kb4, beside the solution
+position k7/1R6/8/K7/8/8/8/8 w - - 0 1
+insert root Kb8
+pgn
+";
+
+/// How their records end.
+const TRY_VERDICTS: &str = "does not win,
+refuted,
+a second solution,
+refused: NoSuchMove,
+not read: line 17,
+";
+
+#[test]
+fn a_try_is_refuted_or_a_second_solution(rt: HostRuntime) -> Result<(), Fail> {
+    let alloc = rt.alloc();
+    let mut list = MemoryWriter::new(&alloc);
+    let answer = write_list(
+        &alloc,
+        &mut MemoryReader::new(TRIES.as_bytes()),
+        &mut list,
+        built(&rt, &alloc, &["KK", "KRK"]),
+    );
+    assert!(rt; answer.is_ok());
+    let list = std::str::from_utf8(list.taken.as_slice()).unwrap_or("no text");
+    assert!(rt; list.lines().count() == 1 + 5);
+    for (record, verdict) in list.lines().skip(1).zip(TRY_VERDICTS.lines()) {
+        assert!(rt; record.trim_end().ends_with(verdict), "{record}");
+    }
+    Ok(())
+}
+
+/// Each verdict, with the worst dual behind it, is that of its line, in the list of a script that has the study after each of these lines.
 #[test]
 fn each_study_has_its_verdict(rt: HostRuntime) -> Result<(), Fail> {
     let alloc = rt.alloc();

@@ -644,19 +644,10 @@ word start At the start: draw.
 word correct correct, no solution yet
 word time sound, duals waste time
 word unread not read: line 1
-word dual 1 dual
-word duals 2 duals
-word wastes 2 duals, 1 wastes time
-word waste 3 duals, 2 waste time
-word in-variation 1 dual in a variation, none in the main line
-word in-variations 2 duals in variations, none in the main line
 word wins wrong: White wins
 word sooner wrong: White mates in 1
 word misses does not win
-word fails fails at 1. Kb2
 word unread-sentence A line of this study could not be read, so there is no verdict.
-word time-sentence The stipulation is correct; the solution has one dual, which only wastes time.
-word times-sentence The stipulation is correct; the solution has 2 duals, which only waste time.
 word untitled Untitled
 word tries Tries and their refutations
 word list-heads No.\tTitle\tAuthor\tStipulation\tVerdict

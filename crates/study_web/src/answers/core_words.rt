@@ -9,8 +9,8 @@ ghost use Rattle.study_head.specs.Verdict.{IsLegalStamp, stamp_words, sentence, 
 ghost use Rattle.study_page.specs.Rows.{by_words, several_words};
 ghost use Rattle.study_web.specs.Answers.{MayEnd, IsOutOfMemory, IsNoMemory};
 ghost use Rattle.study_web.specs.CoreWords.{word_line, refusal_names, game_names, command_names, kind_name, group_name, group_words};
-ghost use Rattle.study_web.specs.CoreWords.{name_lines, said_line, value_lines, stamp_lines, dual_lines, variation_lines, wrong_lines, fails_line};
-ghost use Rattle.study_web.specs.CoreWords.{fault_lines, sentence_lines, verdict_lines, title_lines, last_title_lines};
+ghost use Rattle.study_web.specs.CoreWords.{name_lines, said_line, value_lines, stamp_lines, wrong_lines};
+ghost use Rattle.study_web.specs.CoreWords.{sentence_lines, verdict_lines, title_lines, last_title_lines};
 ghost use Rattle.study_web.specs.CoreWords.{head_lines, page_lines, said_lines, keep_line, later_lines, move_lines, zugzwang_lines};
 ghost use Rattle.study_web.specs.CoreWords.{explained_lines, core_words};
 
@@ -203,26 +203,8 @@ fn add_stamps<A: Allocator>(text: &mut Text<'_, A>) -> Result<(), AllocError>
     ensures { OnOk result (text.new ≡ text.old ++ stamp_lines) }
 {
     add_stamp_line(text, b"correct", &Stamp::Correct)?;
-    add_stamp_line(text, b"time", &Stamp::Duals(1, 1, true))?;
+    add_stamp_line(text, b"time", &Stamp::Sound(true, None))?;
     add_stamp_line(text, b"unread", &Stamp::NotRead(1))
-}
-
-#[tactic(auto, unfolding(crate::specs::CoreWords::dual_lines))]
-fn add_duals<A: Allocator>(text: &mut Text<'_, A>) -> Result<(), AllocError>
-    ensures { OnOk result (text.new ≡ text.old ++ dual_lines) }
-{
-    add_stamp_line(text, b"dual", &Stamp::Duals(1, 0, true))?;
-    add_stamp_line(text, b"duals", &Stamp::Duals(2, 0, true))?;
-    add_stamp_line(text, b"wastes", &Stamp::Duals(2, 1, true))?;
-    add_stamp_line(text, b"waste", &Stamp::Duals(3, 2, true))
-}
-
-#[tactic(auto, unfolding(crate::specs::CoreWords::variation_lines))]
-fn add_variations<A: Allocator>(text: &mut Text<'_, A>) -> Result<(), AllocError>
-    ensures { OnOk result (text.new ≡ text.old ++ variation_lines) }
-{
-    add_stamp_line(text, b"in-variation", &Stamp::Duals(1, 0, false))?;
-    add_stamp_line(text, b"in-variations", &Stamp::Duals(2, 0, false))
 }
 
 #[tactic(auto, unfolding(crate::specs::CoreWords::wrong_lines))]
@@ -238,30 +220,11 @@ fn add_wrong<A: Allocator>(text: &mut Text<'_, A>) -> Result<(), AllocError>
     add_stamp_line(text, b"misses", &Stamp::Misses(win))
 }
 
-#[tactic(auto, unfolding(crate::specs::CoreWords::fails_line, study_head::specs::Verdict::fails_at))]
-fn fails_line() -> &'static [u8]
-    ensures { result.now ≡ fails_line }
-{
-    b"word fails fails at 1. Kb2\n"
-}
-
 #[tactic(auto, unfolding(crate::specs::CoreWords::sentence_lines))]
 fn add_sentences<A: Allocator>(text: &mut Text<'_, A>) -> Result<(), AllocError>
     ensures { OnOk result (text.new ≡ text.old ++ sentence_lines) }
 {
-    add_sentence_line(text, b"unread-sentence", &Stamp::NotRead(1))?;
-    add_sentence_line(text, b"time-sentence", &Stamp::Duals(1, 1, true))?;
-    add_sentence_line(text, b"times-sentence", &Stamp::Duals(2, 2, true))
-}
-
-#[tactic(auto, unfolding(crate::specs::CoreWords::fault_lines))]
-fn add_faults<A: Allocator>(text: &mut Text<'_, A>) -> Result<(), AllocError>
-    ensures { OnOk result (text.new ≡ text.old ++ fault_lines) }
-{
-    add_duals(text)?;
-    add_variations(text)?;
-    add_wrong(text)?;
-    text.add(fails_line())
+    add_sentence_line(text, b"unread-sentence", &Stamp::NotRead(1))
 }
 
 #[tactic(auto, unfolding(crate::specs::CoreWords::verdict_lines))]
@@ -270,7 +233,7 @@ fn add_verdicts<A: Allocator>(text: &mut Text<'_, A>) -> Result<(), AllocError>
 {
     add_values(text)?;
     add_stamps(text)?;
-    add_faults(text)?;
+    add_wrong(text)?;
     add_sentences(text)
 }
 

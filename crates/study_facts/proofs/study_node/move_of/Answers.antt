@@ -19,6 +19,7 @@ returns-clause-made g c =
       };
       legal = legal-before s steps c.requires.some step.by c.requires.by c.start-first.ensures.study.playable step.before.now c.requires.before;
       depth = omega (arith, few, one);
+      shallow = few;
       value = arrival-value s steps step.by c.requires.by;
       mark = arrival-mark s steps step.by c.requires.by;
       solution = c.is_solution_move.ensures ∙ ap (λ b. b && step.here.now.solution) c.hero_moves-made.ensures

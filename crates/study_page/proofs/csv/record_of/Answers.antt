@@ -7,7 +7,7 @@ pub returns-clause-form : goal.returns-clause-form
 returns-clause-form g c = (
   marked_study c.args.bench.now,
   refl,
-  c.in_ok-parts.parts.time_faults,
-  c.args.info.unread,
+  c.in_ok-facts.facts,
+  c.args.info.standing,
   from-nothing _ _ _ c.new-text.ensures c.in_ok-add_record.ensures,
 )

@@ -6,9 +6,8 @@ use Rattle.study_marks.specs.BenchState.{marked_study}
 use Rattle.study_facts.specs.Made.{Grew}
 use Rattle.study_facts.specs.Nodes.{EmptyUnless, parent_path}
 use Rattle.study_page.specs.Rows.{IsFaultOf, IsCardOf}
-use Rattle.study_facts.proofs.TimeCounted.{time-none}
 use Rattle.study_facts.proofs.Within.{leads-at, asks-wider}
-use Rattle.study_page.proofs.MadeRows.{fault-listed, time-listed, mistake-listed, fault-plain, card-made, nothing-grew}
+use Rattle.study_page.proofs.MadeRows.{fault-listed, mistake-listed, fault-plain, card-made, nothing-grew}
 use Rattle.study_page.proofs.move_parts.add_move.Goals as goal
 
 pub returns-in-Some-Dual-clause-faults : goal.returns-in-Some-Dual-clause-faults
@@ -22,13 +21,6 @@ returns-in-Some-Dual-clause-faults g c h =
     (subst (λ (st : Start). Grew (EmptyUnless step.solution (IsFaultOf st before.aim.now before.depth step.line.now before.position.now step.played
     step.mark.value mark)) c.args.parts.now.faults c.add_dual.new.parts.faults) c.start-first.ensures.value grew))
     (c.add_dual.ensures.faults h)
-
-pub returns-in-Some-Dual-clause-time : goal.returns-in-Some-Dual-clause-time
-returns-in-Some-Dual-clause-time g c h =
-    on_ok_weaker c.add_dual.result
-    (time-listed (marked_study c.args.bench.now) c.args.step.now c.requires c.in-Some-Dual.others c.args.parts.now.time_faults c.add_dual.new.parts.time_faults
-    (sym (c.in-Some-Dual.is ∙ ap Some c.in-Some-Dual.field-0-is) ∙ c.on_move.ensures))
-    (c.add_dual.ensures.time h)
 
 pub returns-in-Some-Dual-clause-duals : goal.returns-in-Some-Dual-clause-duals
 returns-in-Some-Dual-clause-duals g c h =
@@ -56,11 +48,6 @@ returns-in_ok-put_listed_mistake-in-Some-Mistake-clause-faults g c h =
     (sym (c.in-Some-Mistake.is ∙ ap Some c.in-Some-Mistake.field-0-is) ∙ c.on_move.ensures) c.start-first.ensures.value
     c.in_ok-put_listed_mistake-in-Some-Mistake.ensures
 
-pub returns-in_ok-put_listed_mistake-in-Some-Mistake-clause-time : goal.returns-in_ok-put_listed_mistake-in-Some-Mistake-clause-time
-returns-in_ok-put_listed_mistake-in-Some-Mistake-clause-time g c h =
-    time-none (marked_study c.args.bench.now) c.args.step.now.steps.now c.args.parts.now.time_faults (Some variant.Mistake)
-    (sym (c.in-Some-Mistake.is ∙ ap Some c.in-Some-Mistake.field-0-is) ∙ c.on_move.ensures ∙ c.requires.mark) refl
-
 pub returns-in_ok-put_listed_mistake-in-Some-Mistake-clause-duals : goal.returns-in_ok-put_listed_mistake-in-Some-Mistake-clause-duals
 returns-in_ok-put_listed_mistake-in-Some-Mistake-clause-duals g c h =
     card-made (marked_study c.args.bench.now) c.args.step.now c.requires (Some variant.Mistake) c.args.parts.now.duals c.args.parts.now.duals
@@ -70,11 +57,6 @@ pub returns-in-Some-Only-clause-faults : goal.returns-in-Some-Only-clause-faults
 returns-in-Some-Only-clause-faults g c h =
     fault-plain (marked_study c.args.bench.now) c.args.step.now c.requires (Some variant.Only) c.args.parts.now.faults
     (sym (c.in-Some-Only.is ∙ ap Some c.in-Some-Only.field-0-is) ∙ c.on_move.ensures) tt
-
-pub returns-in-Some-Only-clause-time : goal.returns-in-Some-Only-clause-time
-returns-in-Some-Only-clause-time g c h =
-    time-none (marked_study c.args.bench.now) c.args.step.now.steps.now c.args.parts.now.time_faults (Some variant.Only)
-    (sym (c.in-Some-Only.is ∙ ap Some c.in-Some-Only.field-0-is) ∙ c.on_move.ensures ∙ c.requires.mark) refl
 
 pub returns-in-Some-Only-clause-duals : goal.returns-in-Some-Only-clause-duals
 returns-in-Some-Only-clause-duals g c h =
@@ -86,11 +68,6 @@ returns-in-Some-Idle-clause-faults g c h =
     fault-plain (marked_study c.args.bench.now) c.args.step.now c.requires (Some variant.Idle) c.args.parts.now.faults
     (sym (c.in-Some-Idle.is ∙ ap Some c.in-Some-Idle.field-0-is) ∙ c.on_move.ensures) tt
 
-pub returns-in-Some-Idle-clause-time : goal.returns-in-Some-Idle-clause-time
-returns-in-Some-Idle-clause-time g c h =
-    time-none (marked_study c.args.bench.now) c.args.step.now.steps.now c.args.parts.now.time_faults (Some variant.Idle)
-    (sym (c.in-Some-Idle.is ∙ ap Some c.in-Some-Idle.field-0-is) ∙ c.on_move.ensures ∙ c.requires.mark) refl
-
 pub returns-in-Some-Idle-clause-duals : goal.returns-in-Some-Idle-clause-duals
 returns-in-Some-Idle-clause-duals g c h =
     card-made (marked_study c.args.bench.now) c.args.step.now c.requires (Some variant.Idle) c.args.parts.now.duals c.args.parts.now.duals
@@ -101,11 +78,6 @@ returns-in-Some-Reply-clause-faults g c h =
     fault-plain (marked_study c.args.bench.now) c.args.step.now c.requires (Some variant.Reply) c.args.parts.now.faults
     (sym (c.in-Some-Reply.is ∙ ap Some c.in-Some-Reply.field-0-is) ∙ c.on_move.ensures) tt
 
-pub returns-in-Some-Reply-clause-time : goal.returns-in-Some-Reply-clause-time
-returns-in-Some-Reply-clause-time g c h =
-    time-none (marked_study c.args.bench.now) c.args.step.now.steps.now c.args.parts.now.time_faults (Some variant.Reply)
-    (sym (c.in-Some-Reply.is ∙ ap Some c.in-Some-Reply.field-0-is) ∙ c.on_move.ensures ∙ c.requires.mark) refl
-
 pub returns-in-Some-Reply-clause-duals : goal.returns-in-Some-Reply-clause-duals
 returns-in-Some-Reply-clause-duals g c h =
     card-made (marked_study c.args.bench.now) c.args.step.now c.requires (Some variant.Reply) c.args.parts.now.duals c.args.parts.now.duals
@@ -115,11 +87,6 @@ pub returns-in-None-clause-faults : goal.returns-in-None-clause-faults
 returns-in-None-clause-faults g c h =
     fault-plain (marked_study c.args.bench.now) c.args.step.now c.requires None c.args.parts.now.faults
     (sym c.in-None.is ∙ c.on_move.ensures) tt
-
-pub returns-in-None-clause-time : goal.returns-in-None-clause-time
-returns-in-None-clause-time g c h =
-    time-none (marked_study c.args.bench.now) c.args.step.now.steps.now c.args.parts.now.time_faults None
-    (sym c.in-None.is ∙ c.on_move.ensures ∙ c.requires.mark) refl
 
 pub returns-in-None-clause-duals : goal.returns-in-None-clause-duals
 returns-in-None-clause-duals g c h =

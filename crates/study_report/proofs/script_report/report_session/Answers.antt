@@ -247,7 +247,7 @@ loop-n-preserved g c =
           (λ more kept before have.
           subst (λ (l : List Entry). g.T.Report.lists c.add_line.new.report l)
           (append_assoc before more (listed_in line reported (document_seen c.add_line.new.session.document)
-          (record { number = c.loop-n.entries + 1; unread = c.loop-n.unread.own })))
+          (record { number = c.loop-n.entries + 1; standing = c.loop-n.unread.own })))
           (rw c.as_slice.ensures at (c.in-Ok.ensures.listed on.point (before ++ more) on.held (kept before have)))),
       omega (arith, counted, some-more),
       omega (arith, numbered, one-more),

@@ -30,46 +30,46 @@ returns-in_err-moves-clause-asked g c =
     (leads-at s c.args.steps.now c.args.start.now.position c.start.ensures.study.playable (position-of s c.args.steps.now c.args.start.now c.requires.start))
     _ c.args.values.now f c.evaluate_legal_moves.new.values c.in_err-moves.ensures.asked))
 
-pub returns-in_err-lines-clause-asked : goal.returns-in_err-lines-clause-asked
-returns-in_err-lines-clause-asked g c =
+pub returns-in_err-found-clause-asked : goal.returns-in_err-found-clause-asked
+returns-in_err-found-clause-asked g c =
     let s = marked_study c.args.bench.now in
     refused-after g.V.Values.source
-    s.start.position (asked_at s c.args.steps.now) c.args.values.now c.tree_lines.new.values c.from_residual-in_err-lines.result c.in_err-lines.field-0.0
-    c.from_residual-in_err-lines.ensures.1
+    s.start.position (asked_at s c.args.steps.now) c.args.values.now c.found_in.new.values c.from_residual-in_err-found.result c.in_err-found.field-0.0
+    c.from_residual-in_err-found.ensures.1
     (walked-more g.V.Values.source (Unit {0}) (Unit {0}) s.start.position (asked_at s c.args.steps.now) c.args.values.now c.evaluate_legal_moves.new.values
-    c.tree_lines.new.values
-    c.in_err-lines.field-0.0
+    c.found_in.new.values
+    c.in_err-found.field-0.0
     (subst
     (λ (asked : List Position). EachEvaluated g.V.Values.source
     s.start.position asked c.args.values.now c.evaluate_legal_moves.new.values) (asked-is s c.args.steps.now c.args.start.now c.requires.start)
     (each-wider g.V.Values.source s.start.position c.args.start.now.position
     (leads-at s c.args.steps.now c.args.start.now.position c.start.ensures.study.playable (position-of s c.args.steps.now c.args.start.now c.requires.start))
-    _ c.args.values.now c.evaluate_legal_moves.new.values c.in_ok-moves.ensures.asked)) c.in_err-lines.ensures.asked)
+    _ c.args.values.now c.evaluate_legal_moves.new.values c.in_ok-moves.ensures.asked)) c.in_err-found.ensures.asked)
 
 pub returns-in_err-text-clause-asked : goal.returns-in_err-text-clause-asked
 returns-in_err-text-clause-asked g c =
     let s = marked_study c.args.bench.now in
     refused-after g.V.Values.source
-    s.start.position (asked_at s c.args.steps.now) c.args.values.now c.tree_lines.new.values c.from_residual-in_err-text.result OutOfMemory
+    s.start.position (asked_at s c.args.steps.now) c.args.values.now c.found_in.new.values c.from_residual-in_err-text.result OutOfMemory
     c.from_residual-in_err-text.ensures.1
-    (each-more g.V.Values.source s.start.position (asked_at s c.args.steps.now) c.args.values.now c.evaluate_legal_moves.new.values c.tree_lines.new.values
+    (each-more g.V.Values.source s.start.position (asked_at s c.args.steps.now) c.args.values.now c.evaluate_legal_moves.new.values c.found_in.new.values
     (subst
     (λ (asked : List Position). EachEvaluated g.V.Values.source
     s.start.position asked c.args.values.now c.evaluate_legal_moves.new.values) (asked-is s c.args.steps.now c.args.start.now c.requires.start)
     (each-wider g.V.Values.source s.start.position c.args.start.now.position
     (leads-at s c.args.steps.now c.args.start.now.position c.start.ensures.study.playable (position-of s c.args.steps.now c.args.start.now c.requires.start))
-    _ c.args.values.now c.evaluate_legal_moves.new.values c.in_ok-moves.ensures.asked)) c.in_ok-lines.ensures.asked)
+    _ c.args.values.now c.evaluate_legal_moves.new.values c.in_ok-moves.ensures.asked)) c.in_ok-found.ensures.asked)
 
 pub returns-clause-asked : goal.returns-clause-asked
 returns-clause-asked g c =
     let s = marked_study c.args.bench.now in
-    each-more g.V.Values.source s.start.position (asked_at s c.args.steps.now) c.args.values.now c.evaluate_legal_moves.new.values c.tree_lines.new.values
+    each-more g.V.Values.source s.start.position (asked_at s c.args.steps.now) c.args.values.now c.evaluate_legal_moves.new.values c.found_in.new.values
     (subst
     (λ (asked : List Position). EachEvaluated g.V.Values.source
     s.start.position asked c.args.values.now c.evaluate_legal_moves.new.values) (asked-is s c.args.steps.now c.args.start.now c.requires.start)
     (each-wider g.V.Values.source s.start.position c.args.start.now.position
     (leads-at s c.args.steps.now c.args.start.now.position c.start.ensures.study.playable (position-of s c.args.steps.now c.args.start.now c.requires.start))
-    _ c.args.values.now c.evaluate_legal_moves.new.values c.in_ok-moves.ensures.asked)) c.in_ok-lines.ensures.asked
+    _ c.args.values.now c.evaluate_legal_moves.new.values c.in_ok-moves.ensures.asked)) c.in_ok-found.ensures.asked
 
 pub returns-clause-text : goal.returns-clause-text
 returns-clause-text g c h =
@@ -80,9 +80,10 @@ returns-clause-text g c h =
     c.aim_of-aim.ensures
     ∙ ap (λ t. record { goal = st.goal; hero_first = same_side st.hero t }) (c.to_move.ensures ∙ ap (λ (x : Start). x.position.to_move) c.start.ensures.value)
     ∙ ap (λ u. record { goal = u.goal; hero_first = same_side u.hero s.start.position.to_move }) c.stipulation-stipulation.ensures in
-    view-is s c.args.steps.now here c.aim_of-aim.result (length c.args.steps.now) c.value_at.result c.as_slice.result.now c.in_ok-lines.lines.nodes
-    c.in_ok-lines.lines.zugzwangs c.in_ok-text.text
+    view-is s c.args.steps.now here c.aim_of-aim.result (length c.args.steps.now) c.value_at.result c.as_slice.result.now c.in_ok-found.found.lines.nodes
+    c.in_ok-found.found.lines.zugzwangs c.in_ok-found.found.facts c.in_ok-text.text
     c.requires.found c.requires.start aim refl c.value_at.ensures
     (subst (λ (l : List EvaluatedMove). AreChosen (λ v. true) here.position (legal_list here.position) l) (sym c.as_slice.ensures.value)
-    (c.in_ok-moves.ensures.game h)) c.in_ok-lines.ensures.nodes (c.in_ok-lines.ensures.zugzwangs (c.in_ok-moves.ensures.asked.all.honest h))
+    (c.in_ok-moves.ensures.game h)) c.in_ok-found.ensures.nodes (c.in_ok-found.ensures.zugzwangs (c.in_ok-moves.ensures.asked.all.honest h))
+    (c.in_ok-found.ensures.facts (c.in_ok-moves.ensures.asked.all.honest h))
     c.in_ok-text.ensures

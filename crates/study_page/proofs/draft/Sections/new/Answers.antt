@@ -1,10 +1,8 @@
-use Rattle.std.proofs.Common.{refl}
 use Rattle.study_page.proofs.draft.Sections.new.Goals as goal
 
 pub returns : goal.returns
 returns g c = record {
   faults = c.new.ensures;
-  time = refl;
   duals = c.new-2.ensures;
   tries = c.new-3.ensures;
   zugzwangs = c.new-4.ensures;

@@ -2,12 +2,11 @@ use Rattle.std.proofs.Common.{ℕ, List, OnOk, subst, sym, ◌∙◌}
 use Rattle.std.proofs.lemmas.Result.{on_ok_weaker}
 use Rattle.study_marks.specs.BenchState.{marked_study}
 use Rattle.study_facts.specs.Asked.{within}
-use Rattle.study_facts.specs.Made.{Grew, Rose}
-use Rattle.study_facts.specs.TimeFaults.{IsTimeFault}
+use Rattle.study_facts.specs.Made.{Grew}
 use Rattle.study_page.specs.Rows.{FaultItems, Cards, TryRows, ZugzwangRows, DefenceRows, EndRows}
 use Rattle.study_facts.proofs.Asking.{asks-then}
 use Rattle.study_facts.proofs.Within.{leads-at, asks-wider}
-use Rattle.study_page.proofs.MadeRows.{on-ok, on-ok-seven, grew-to, grew-from, rose-to}
+use Rattle.study_page.proofs.MadeRows.{on-ok, on-ok-six, grew-to, grew-from}
 use Rattle.study_page.proofs.page_findings.PageFindingsFindings.add_node.Goals as goal
 
 pub returns-clause-adds : goal.returns-clause-adds
@@ -23,14 +22,12 @@ returns-clause-adds g c h =
     let still = moved.asked.honest h in
     let by = c.move_of-made.ensures.path in
     let at = c.node_after.ensures.path in
-    on-ok-seven result
-    (Grew (FaultItems s path) old.faults new.faults) (Rose (IsTimeFault s path) old.time_faults new.time_faults) (Grew (Cards s path) old.duals new.duals)
+    on-ok-six result
+    (Grew (FaultItems s path) old.faults new.faults) (Grew (Cards s path) old.duals new.duals)
     (Grew (TryRows s path) old.tries new.tries) (Grew (ZugzwangRows s path) old.zugzwangs new.zugzwangs)
     (Grew (DefenceRows s path) old.defences new.defences) (Grew (EndRows s path) old.ends new.ends)
     (on-ok result _ (subst (λ (u : List ℕ). Grew (FaultItems s u) old.faults new.faults) by
     (grew-to _ old.faults mid.faults new.faults made.faults (moved.faults h))))
-    (on-ok result _ (subst (λ (u : List ℕ). Rose (IsTimeFault s u) old.time_faults new.time_faults) by
-    (rose-to _ old.time_faults mid.time_faults new.time_faults made.time (moved.time h))))
     (on-ok result _ (subst (λ (u : List ℕ). Grew (Cards s u) old.duals new.duals) by
     (grew-to _ old.duals mid.duals new.duals made.duals (moved.duals h))))
     (subst (λ (u : List ℕ). OnOk result (Grew (TryRows s u) old.tries new.tries)) at

@@ -2,12 +2,10 @@ use Rattle.std.proofs.Common.{ℕ, List, [], OnOk, ap, refl, subst}
 use Rattle.study_tree.specs.Tree.{spot_at}
 use Rattle.study_marks.specs.Bench.{played_by}
 use Rattle.study_marks.specs.BenchState.{marked_study}
-use Rattle.study_facts.specs.Made.{Grew, Rose}
-use Rattle.study_facts.specs.TimeFaults.{IsTimeFault}
+use Rattle.study_facts.specs.Made.{Grew}
 use Rattle.study_page.specs.Rows.{FaultItems, Cards, TryRows, ZugzwangRows, DefenceRows, EndRows}
-use Rattle.study_facts.proofs.TimeCounted.{root-time}
 use Rattle.study_facts.proofs.Within.{leads-at, asks-wider}
-use Rattle.study_page.proofs.MadeRows.{on-ok, on-ok-seven, grew-to, rose-to, fault-unplayed, no-card}
+use Rattle.study_page.proofs.MadeRows.{on-ok, on-ok-six, grew-to, fault-unplayed, no-card}
 use Rattle.study_page.proofs.page_findings.PageFindingsFindings.add_root.Goals as goal
 
 pub add_rows-requires : goal.add_rows-requires
@@ -25,12 +23,11 @@ returns-clause-adds g c h =
     let made = c.add_rows.ensures in
     let result = c.add_rows.result in
     let at = c.root_node.ensures.path in
-    on-ok-seven result
-    (Grew (FaultItems s root) old.faults new.faults) (Rose (IsTimeFault s root) old.time_faults new.time_faults) (Grew (Cards s root) old.duals new.duals)
+    on-ok-six result
+    (Grew (FaultItems s root) old.faults new.faults) (Grew (Cards s root) old.duals new.duals)
     (Grew (TryRows s root) old.tries new.tries) (Grew (ZugzwangRows s root) old.zugzwangs new.zugzwangs)
     (Grew (DefenceRows s root) old.defences new.defences) (Grew (EndRows s root) old.ends new.ends)
     (on-ok result _ (grew-to (FaultItems s root) old.faults old.faults new.faults made.faults (fault-unplayed s root old.faults refl)))
-    (on-ok result _ (rose-to (IsTimeFault s root) old.time_faults old.time_faults new.time_faults made.time (root-time s old.time_faults)))
     (on-ok result _ (grew-to (Cards s root) old.duals old.duals new.duals made.duals (no-card s root old.duals refl)))
     (subst (λ (u : List ℕ). OnOk result (Grew (TryRows s u) old.tries new.tries)) at (made.tries h))
     (subst (λ (u : List ℕ). OnOk result (Grew (ZugzwangRows s u) old.zugzwangs new.zugzwangs)) at (made.zugzwangs h))
