@@ -9,8 +9,10 @@ import {openText} from './opening.js';
  * The tables of a script's positions are loaded, and built where they lack.
  * @param {string} script
  */
-const tablesOf = async script => {
-  await services.tables.ready(fensOf(linesOf(script)));
+const tablesOf = async (script, core = services.core) => {
+  const fens = fensOf(linesOf(script));
+  await services.tables.ready(fens);
+  await services.tables.loadFor(fens, core);
 };
 /**
  * @param {string} request
@@ -29,8 +31,7 @@ async function answer(request, script, core = services.core, pages = PAGES) {
  * @param {string} script
  */
 async function factsOf(request, script) {
-  await tablesOf(script);
-  await services.tables.loadFor(fensOf(linesOf(script)), services.facts);
+  await tablesOf(script, services.facts);
   return answer(request, script, services.facts);
 }
 /** @param {() => import('./engine.js').Core} spawn */
@@ -85,7 +86,7 @@ export function makeApi(spawn) {
      * @param {string} stipulation      as `white win`, `black draw`, `white mate 3`
      */
     async survey(fen, square, stipulation) {
-      await services.tables.ready([fen]);
+      await tablesOf(`position ${fen}`);
       return answer(`survey ${square} ${stipulation} ${fen}`, '');
     },
     /**
@@ -94,7 +95,7 @@ export function makeApi(spawn) {
      * @param {'win' | 'draw'} goal
      */
     async row(fen, goal) {
-      await services.tables.ready([fen]);
+      await tablesOf(`position ${fen}`);
       return answer(`row ${goal} ${fen}`, '');
     },
     /** The words that no reply has. */

@@ -59,7 +59,7 @@ export async function movesBefore(fen, aim) {
   const found = /** @type {Before[]} */ ([]), lacking = /** @type {Set<string>} */ (new Set());
   for (const [i, place] of places.entries()) {
     if (!replies[i] || !replies[i].startsWith('position ')) continue;
-    const lacks = place.promoted ? await services.tables.lacking([place.fen]) : [];
+    const lacks = await services.tables.loadFor([place.fen]);
     for (const name of lacks) lacking.add(name);
     if (lacks.length) continue;
     const {text: shown} = await services.core.answer('view root', `${texts[i]}stipulate ${aim}\n`, PAGES),

@@ -16,6 +16,7 @@ export class Stopped extends Error {}
  * @property {(name: string, bytes: Uint8Array) => Promise<any>} load      the bytes are transferred
  * @property {(name: string) => boolean} has
  * @property {(name: string) => void} drop
+ * @property {() => string[]} held      the tables that are loaded
  * @property {() => number} waiting      how many questions are not answered yet
  * @property {(why?: Error) => void} end
  * @property {{ms: number, memory: number}} last
@@ -29,7 +30,7 @@ export class Stopped extends Error {}
 export function makeCore(spawn, compiled) {
   let worker = /** @type {Worker | null} */ (null), next = 0;
   const waiting = /** @type {Map<number, {ok: (answer: any) => void, no: (why: Error) => void}>} */ (new Map());
-  const loaded = new Set(), last = {ms: 0, memory: 0};
+  const loaded = /** @type {Set<string>} */ (new Set()), last = {ms: 0, memory: 0};
 
   /**
    * @param {any} message
@@ -109,6 +110,7 @@ export function makeCore(spawn, compiled) {
       if (loaded.delete(name)) ready({kind: 'drop', name}).catch(() => {});
     },
     has: name => loaded.has(name),
+    held: () => [...loaded],
     waiting: () => waiting.size,
   };
 }

@@ -4,7 +4,7 @@ import {track} from './actions.js';
 import {app, doc, services, PAGES} from './state.js';
 import {entriesOf} from './entries.js';
 import {judgedBy, readReview, readView} from './parse_answers.js';
-import {editsTo, fensOf, toText} from './script.js';
+import {editsTo, fensOf, toText, wordsOf} from './script.js';
 import {moveName} from './words.js';
 /** @typedef {import('./types.js').Doc} Doc @typedef {import('./types.js').Review} Review */
 
@@ -69,6 +69,11 @@ function mainLineOf(root) {
   for (let node = root.children[0]; node; node = node.children[0]) line.push({fen: node.fen, move: moveName(node)});
   return line;
 }
+/**
+ * The men of a study. Those with the same men come one after the other, so that their tables are loaded once.
+ * @param {string} text
+ */
+const menIn = text => [...wordsOf(text)[1].replace(/[^a-z]/gi, '')].sort().join('');
 /** @param {string} text */
 async function find(text) {
   await services.tables.loadFor(fensOf(text.split('\n')), services.facts);
@@ -86,6 +91,7 @@ async function find(text) {
 export async function reviewAll(d, wanted) {
   const open = textsOf(d).filter(text => text && !found.has(text)), stamp = app.stamp;
   if (!open.length || (!wanted && open.length > MOST_UNWANTED)) return;
+  open.sort((x, y) => (menIn(x) < menIn(y) ? -1 : 1));
   for (const [at, text] of open.entries()) {
     if (wanted) services.reading(at, open.length, 'Finding the faults of study');
     else {

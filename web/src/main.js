@@ -51,6 +51,7 @@ services.core = spawn();
 services.facts = spawn();
 services.tables = makeTables({
   core: services.core,
+  facts: services.facts,
   spawn,
   readers,
   store,

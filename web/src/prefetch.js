@@ -4,7 +4,7 @@
 import {LARGE, keepView, keptView, pause, viewOf} from './answer_cache.js';
 import {insertMoves} from './edits.js';
 import {lastRunTime, repliesFor} from './running.js';
-import {assumeAccepted, editsTo, fensOf, toText} from './script.js';
+import {assumeAccepted, editsTo, toText} from './script.js';
 import {app, doc, node, services, study} from './state.js';
 import {holds} from './words.js';
 /** @typedef {import('./types.js').Doc} Doc @typedef {import('./types.js').Change} Change */
@@ -35,12 +35,13 @@ function studyAfter(now, {lines, at}) {
  */
 export async function prefetchView(now, wanted) {
   if (wanted.at !== undefined && wanted.lines.length > MANY_LINES) return;
-  const names = services.tables.knownClasses(fensOf(wanted.lines)),
-        path = wanted.path === undefined ? now.path : wanted.path;
-  const free = services.facts.waiting() <= viewing && names.every(services.facts.has);
-  const core = free ? services.facts : services.core;
-  const s = path !== 'made' && names.length && names.every(core.has) ? studyAfter(now, wanted) : undefined;
+  const path = wanted.path === undefined ? now.path : wanted.path,
+        s = path !== 'made' ? studyAfter(now, wanted) : undefined;
   if (!s) return;
+  const names = services.tables.knownClasses([s.fen]),
+        free = services.facts.waiting() <= viewing && names.every(services.facts.has),
+        core = free ? services.facts : services.core;
+  if (!names.length || !names.every(core.has)) return;
   const text = toText(editsTo(wanted.lines, s)), kept = keptView(text, path);
   if (kept) return void await kept;
   if (free) viewing++;

@@ -163,17 +163,33 @@ function nextBlocks(blocks, from) {
   while (end < blocks.length && end - from < AT_A_TIME && !known.has(textOf(blocks[end]))) end++;
   return blocks.slice(from, end);
 }
+/** @param {Sent[][]} blocks */
+const linesOf = blocks => blocks.flatMap(block => block.map(({text}) => text));
+/**
+ * Whether a block was never run.
+ * @param {Sent[]} block
+ */
+const isFresh = block => !known.has(textOf(block));
+/**
+ * The lines that load tables, as far as these are kept; they are in the core then.
+ * @param {string[]} names
+ */
+async function loadsOf(names) {
+  const lacking = await services.tables.load(names);
+  return names.filter(name => !lacking.includes(name)).map(name => 'load ' + name);
+}
 /**
  * The replies to each line of a script, as studybench gives them.
  * @param {string[]} lines
  * @param {(done: number, of: number) => void} [report]
  */
 export async function repliesFor(lines, report = () => {}) {
-  const sent = toRun(lines), names = (await services.tables.classesOf(fensOf(lines))).filter(services.core.has),
-        loads = names.map(name => 'load ' + name), replies = /** @type {string[]} */ ([]);
-  if (lines.some(isTableLine))
+  const sent = toRun(lines), replies = /** @type {string[]} */ ([]);
+  if (lines.some(isTableLine)) {
+    const loads = await loadsOf(await services.tables.classesOf(fensOf(lines)));
     return {sent, replies: (await repliesTo([...loads, ...sent.map(({text}) => text)])).slice(loads.length)};
-  const blocks = blocksOf(sent);
+  }
+  const blocks = blocksOf(sent), names = await services.tables.classesOf(fensOf(linesOf(blocks.filter(isFresh))));
   let carried = /** @type {Carried} */ ({aim: null, tags: {}});
   const take = (/** @type {Sent[]} */ block, /** @type {string[]} */ own) => {
     replies.push(...own);
@@ -185,8 +201,10 @@ export async function repliesFor(lines, report = () => {}) {
       take(blocks[at++], there);
       continue;
     }
-    const some = nextBlocks(blocks, at), head = [...loads, ...before(carried)],
-          all = (await repliesTo([...head, ...some.flat().map(({text}) => text)])).slice(head.length);
+    const some = nextBlocks(blocks, at),
+          loads = await loadsOf(some.every(isFresh) ? names : await services.tables.classesOf(fensOf(lines))),
+          head = [...loads, ...before(carried)],
+          all = (await repliesTo([...head, ...linesOf(some)])).slice(head.length);
     let from = 0;
     for (const block of some) {
       const own = all.slice(from, from += block.length);

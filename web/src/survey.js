@@ -21,6 +21,7 @@ export const survey = man => work(async () => {
   const d = app.setup;
   if (!d || !d.men[man]) return;
   d.man = man;
+  await services.tables.loadFor([draftFen()]);
   const answer = await services.core.answer(`survey ${squareName(man)} ${d.aim} ${draftFen()}`, '', PAGES);
   const stands = readSurvey(answer.text);
   if (app.setup !== d || d.man !== man) return;
@@ -82,9 +83,9 @@ async function rows(d, man) {
   const {hero, goal} = readAim(d.aim), fen = draftFen(), spots = d.survey;
   const dots = (spots || []).filter(spot => spot.sign === 'dot');
   if (!dots.length || goal === 'mate' || hero !== sideOf(fen)) return;
-  await loadTables(fen);
   await forEach(d, spots, dots, async spot => {
     const moved = fenWith(fen, man, spot.to);
+    await loadTables(moved);
     let row = await rowAt(services.facts, goal, moved);
     // a draw is exceeded where the hero wins: there the moves count that alone win
     if (!row && goal === 'draw') row = await rowAt(services.facts, 'win', moved);
@@ -116,8 +117,8 @@ async function trees() {
   const first = (/** @type {Spot} */ spot) => Number(spot.sign !== 'dot');
   requested.add(spots);
   services.showJudged();
-  await loadTables(fen);
   await forEach(d, spots, [...spots].sort((x, y) => first(x) - first(y)), async spot => {
+    await loadTables(fen);
     spot.there = await treeAt(services.facts, fenWith(fen, man, spot.to), d.aim, tree);
     return true;
   });

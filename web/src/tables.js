@@ -5,6 +5,7 @@
 import {CLASSES} from './core_host.js';
 import {DIGESTS} from './digests.js';
 import {Stopped} from './engine.js';
+import {makeRoom} from './room.js';
 import {makeBuilds, readingOrder} from './schedule.js';
 import {reason} from './words.js';
 import {toText} from './script.js';
@@ -23,10 +24,10 @@ const STOPPED = 'Stopped. The tables that were built are kept';
 const sizeOf = name => (DIGESTS[name] ? DIGESTS[name][0] : 5000000);
 
 /**
- * @param {{core: Core, spawn: () => Core, readers: ReturnType<typeof import('./file_readers.js').makeReaders>,
+ * @param {{core: Core, facts: Core, spawn: () => Core, readers: ReturnType<typeof import('./file_readers.js').makeReaders>,
  *   store: ReturnType<typeof import('./store.js').makeStore>, report: (p: Progress | null) => void}} parts
  */
-export function makeTables({core, spawn, readers, store, report}) {
+export function makeTables({core, facts, spawn, readers, store, report}) {
   const known = /** @type {Map<string, string[]>} */ (new Map());
   const right =
     /** @type {Map<string, Blob>} */ (new Map());  // compared with the list in this visit: a blob never changes
@@ -124,16 +125,30 @@ export function makeTables({core, spawn, readers, store, report}) {
     if (bytes && !into.has(name)) await into.load(name, bytes);
     return bytes !== null;
   }
+  const room = makeRoom([core, facts], sizeOf, one => !one.waiting() && !(loading.get(one) || new Map()).size);
+  /** @type {WeakMap<Core, string[]>} */
+  const lately = new WeakMap();
   /**
-   * Puts into a core the tables that are kept, and returns those that are missing.
+   * Puts into a core the tables that are kept, and returns those that are missing. It may have lost what it held else.
    * @param {string[]} names
    * @param {Core} into
    */
   async function load(names, into = core) {
+    const ended = names.every(into.has) ? [] : await room.make(names, into);
+    lately.set(into, names);
     const wanted = readingOrder(names.filter(name => !into.has(name)), sizeOf, SMALL);
     const there = await Promise.all(wanted.map(name => loadOne(name, into))),
           lacking = wanted.filter((_, i) => !there[i]);
+    for (const other of ended) loadAgain(other);
     return names.filter(name => lacking.includes(name));
+  }
+  /**
+   * A core that was ended gets what was asked of it last, if there is room.
+   * @param {Core} into
+   */
+  function loadAgain(into) {
+    const names = lately.get(into) || [];
+    if (room.fits(names, into)) load(names, into).catch(() => {});
   }
   /**
    * @param {string[]} fens
@@ -141,17 +156,18 @@ export function makeTables({core, spawn, readers, store, report}) {
    */
   const loadFor = async (fens, into = core) => load(await classesOf(fens), into);
   /**
-   * The tables of these positions that are not there; those that are kept are in the core afterwards.
+   * The tables of these positions that are not there. Those that were not compared with the list yet are, and are in
+   * the core then.
    * @param {string[]} fens
    */
   async function lacking(fens) {
-    const missing = await loadFor(fens);
+    const missing = await load((await classesOf(fens)).filter(name => !right.has(name) && !core.has(name)));
     fetched.clear();
     return missing;
   }
   /**
-   * Afterwards all tables of these positions are in the core. What is there already is not waited for, whatever else is
-   * being built.
+   * Afterwards all tables of these positions are there. What is there already is not waited for, whatever else is being
+   * built.
    * @param {string[]} fens
    * @returns {Promise<void>}
    */
@@ -161,7 +177,6 @@ export function makeTables({core, spawn, readers, store, report}) {
     if (navigator.storage && navigator.storage.persist) navigator.storage.persist().catch(() => false);
     for (const name of missing) needs.set(name, names);
     await builds.want(missing);
-    await load(names);
   }
   const needs = /** @type {Map<string, string[]>} */ (new Map());
   const most = Math.max(1, Math.min(3, (navigator.hardwareConcurrency || 2) - 1)), waiting = makeWaiting(most, report),
@@ -190,7 +205,7 @@ export function makeTables({core, spawn, readers, store, report}) {
         throw new Error(`the table ${name} is not the one of the list; the browser or the machine is faulty`);
       right.set(name, blob);
       if (!await store.put(name, blob)) kept = false;
-      await core.load(name, file.bytes);
+      if (!room.isFull([name], core)) await core.load(name, file.bytes);
       return true;
     } catch (fault) {
       for (const other of builders) other.end();

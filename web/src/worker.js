@@ -23,6 +23,8 @@ function act(message) {
   if (!core) throw new Error('no core yet');
   if (message.kind === 'load') {
     core.load(message.name, new Uint8Array(message.bytes));
+    // The core has a copy: this one's memory is given back now, and not once the worker happens to look for it.
+    if (message.bytes.transfer) message.bytes.transfer(0);
     return {};
   }
   if (message.kind === 'drop') {

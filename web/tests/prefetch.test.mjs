@@ -33,7 +33,7 @@ function begin() {
   Object.assign(services, {
     core: made(requests, 'core'),
     facts: made(requests, 'facts'),
-    tables: {knownClasses: () => ['KPK'], classesOf: async () => ['KPK'], loadFor: async () => []}
+    tables: {knownClasses: () => ['KPK'], classesOf: async () => ['KPK'], load: async () => [], loadFor: async () => []}
   });
   Object.assign(app, {
     history: {now: {...assumeAccepted(lines), at: 0, path: 'root', name: ''}, past: [], future: []},

@@ -40,7 +40,7 @@ function begin() {
         return {text: run(lines).map(reply => reply + '\n').join(''), ended: 'done'};
       }
     },
-    tables: {classesOf: async () => ['KK']}
+    tables: {classesOf: async () => ['KK'], load: async () => []}
   });
 }
 /** Each line's reply by one run of the whole script. */

@@ -17,6 +17,8 @@ function made(kept = []) {
       return {text: [...new Set(all)].reverse().join('\n'), ended: 'done'};
     },
     has: name => loaded.has(name),
+    held: () => [...loaded],
+    waiting: () => 0,
     load: async name => {
       loaded.add(name);
     }
@@ -25,6 +27,7 @@ function made(kept = []) {
     let end = () => {};
     return {
       has: () => false,
+      held: () => [],
       load: async () => {},
       ask: () => new Promise((ok, no) => {
         end = no;
@@ -38,7 +41,7 @@ function made(kept = []) {
     remove: async () => {}
   };
   const readers = {start() {}, read: async () => ({bytes: new Uint8Array(1), digest: ''})};
-  const tables = makeTables({core, spawn, readers, store, report: p => reports.push(p)});
+  const tables = makeTables({core, facts: core, spawn, readers, store, report: p => reports.push(p)});
   return {tables, requests, loaded, reports};
 }
 test('a refused position of the same men takes no classes from a right one, in either order', async () => {
