@@ -35,15 +35,21 @@ import {counted} from './words.js';
  * @param {(Review | null)[]} reviews
  */
 export function summary(doc, reviews = []) {
-  const {studies} = doc, stamps = studies.map((s, i) => stampOf(doc, s, reviews[i] || null));
+  const {studies} = doc;
+  if (last.studies === studies && last.reviews === reviews) return last.made;
+  const stamps = studies.map((s, i) => stampOf(doc, s, reviews[i] || null));
   const counts =
     countsOf(stamps).filter(([kind]) => kind !== 'not judged').map(([kind, n]) => `${n} ${kindWords(kind)}`).join(', ');
-  return {
+  const made = {
     title: (studies[0] ? studyName(studies[0]) : '') +
       (studies.length > 1 ? ` and ${counted(studies.length - 1, 'more study', 'more studies')}` : ''),
     verdict: (stamps.length === 1 ? stamps[0].text : counts) || 'not judged'
   };
+  if (studies.length) last = {studies, reviews, made};
+  return made;
 }
+let last = /** @type {{studies: any, reviews: any, made: {title: string, verdict: string}}} */ (
+  {studies: null, reviews: null, made: {title: '', verdict: ''}});
 
 /** @param {any} list */
 export const texts = list => (Array.isArray(list) ? list.map(String) : []);

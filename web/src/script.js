@@ -5,6 +5,7 @@ import {aimWords} from './words.js';
 import {headOf, withRefusedTags} from './imported.js';
 import {leftOutBy} from './left_out.js';
 import {isOfImport} from './remarks.js';
+import {once} from './once.js';
 import {readStipulation} from './parse_answers.js';
 /** @typedef {import('./types.js').Script} Script @typedef {import('./types.js').Study} Study */
 /** @typedef {import('./types.js').Aim} Aim */
@@ -35,12 +36,10 @@ export const linesOf = text => {
   while (lines.length && lines[lines.length - 1] === '') lines.pop();
   return lines;
 };
-/**
- * The positions that lines name.
- * @param {string[]} lines
- */
-export const fensOf = lines =>
-  lines.filter(line => /^ *(position|shift) /.test(line)).map(line => line.trim().replace(/^\w+ +/, ''));
+/** The positions that lines name. */
+export const fensOf =
+  once((/** @type {string[]} */ lines) =>
+         lines.filter(line => /^ *(position|shift) /.test(line)).map(line => line.trim().replace(/^\w+ +/, '')));
 
 /** @param {string} line */
 export const isGame = line => /^ *pgn *$/.test(line);

@@ -24,11 +24,12 @@ const STOPPED = 'Stopped. The tables that were built are kept';
 const sizeOf = name => (DIGESTS[name] ? DIGESTS[name][0] : 5000000);
 
 /**
- * @param {{core: Core, facts: Core, spawn: () => Core, readers: ReturnType<typeof import('./file_readers.js').makeReaders>,
- *   store: ReturnType<typeof import('./store.js').makeStore>, report: (p: Progress | null) => void}} parts
+ * @param {{core: Core, facts: Core, spawn: () => Core,
+ *   readers: ReturnType<typeof import('./file_readers.js').makeReaders>, store: ReturnType<typeof import('./store.js').makeStore>,
+ *   report: (p: Progress | null) => void}} parts
  */
 export function makeTables({core, facts, spawn, readers, store, report}) {
-  const known = /** @type {Map<string, string[]>} */ (new Map());
+  const known = /** @type {Map<string, string[]>} */ (new Map()), groups = /** @type {typeof known} */ (new Map());
   const right =
     /** @type {Map<string, Blob>} */ (new Map());  // compared with the list in this visit: a blob never changes
   let builders = /** @type {Core[]} */ ([]), stops = 0, kept = true;
@@ -40,29 +41,29 @@ export function makeTables({core, facts, spawn, readers, store, report}) {
   }
   /**
    * The classes that positions need, in the order in which to build them. Each position is requested and kept by
-   * itself: one that is refused needs none, though another of the same men may.
+   * itself: one that is refused needs none, though another of the same men may. Of many those that are not known are
+   * requested together, since only all of them are wanted then.
    * @param {string[]} fens
    * @returns {Promise<string[]>}
    */
   async function classesOf(fens) {
-    const fresh = [...new Set(fens)].filter(fen => !known.has(fen)), together = toText(fresh);
+    const all = [...new Set(fens)], many = all.length > MANY,
+          fresh = all.filter(fen => !known.has(fen) && !(many && groups.has(fen)));
     if (fresh.length > MANY) {
-      if (!known.has(together)) known.set(together, await request(fresh));
-      return union([...fens, together]);
-    }
-    await Promise.all(fresh.map(async fen => known.set(fen, await request([fen]))));
-    return union(fens);
-  }
-  /** @param {string[]} keys */
-  function union(keys) {
-    const all = new Set(keys.flatMap(key => known.get(key) || []));
-    return CLASSES.filter(name => all.has(name));
+      const names = await request(fresh);
+      for (const fen of fresh) groups.set(fen, names);
+    } else await Promise.all(fresh.map(async fen => known.set(fen, await request([fen]))));
+    return knownClasses(fens);
   }
   /**
    * The classes that positions need, as far as they were requested before.
    * @param {string[]} fens
    */
-  const knownClasses = fens => union([...fens, toText([...new Set(fens)])]);
+  function knownClasses(fens) {
+    const lists = new Set(fens.map(fen => known.get(fen) || (fens.length > MANY && groups.get(fen)) || [])),
+          all = new Set([...lists].flat());
+    return CLASSES.filter(name => all.has(name));
+  }
   const fetched = /** @type {Map<string, Promise<Uint8Array | null>>} */ (new Map());
   /**
    * Tables that will be wanted are read, and compared with the list, while the program starts.

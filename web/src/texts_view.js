@@ -14,6 +14,7 @@ import {diagramView} from './diagram.js';
 import {isCutLine, whyLeftOut} from './left_out.js';
 import {openText} from './opening.js';
 import {counted, reason} from './words.js';
+import {once} from './once.js';
 /** @typedef {import('./types.js').Study} Study @typedef {import('./types.js').Refused} Refused */
 
 const open = {
@@ -38,6 +39,7 @@ const pgnView = s => h('details', {
   }
 },
   h('summary', {}, 'PGN'), h('textarea', {id: 'pgn', readonly: true, 'aria-label': 'The game as PGN'}, s.pgn));
+const textOf = once((/** @type {string[]} */ lines) => lines.join('\n'));
 /** A script with more letters is put into its field once that is opened. */
 const LONG = 100000;
 /** @param {Study | undefined} s */
@@ -50,7 +52,7 @@ function scriptView(s) {
       unrun = {text: script.value, lines: doc().lines};
     }
   });
-  const kept = unrun && unrun.lines === doc().lines ? unrun.text : doc().lines.join('\n');
+  const kept = unrun && unrun.lines === doc().lines ? unrun.text : textOf(doc().lines);
   const fill = () => {
     script.value = app.say && app.say.field === 'script' ? app.say.typed : kept;
   };
