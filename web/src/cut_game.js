@@ -1,10 +1,9 @@
 // @ts-check
-// A game of a PGN with a bad move, up to there: its text is kept in remarks, cut at the place that the program reports;
-// what stands before is read as a game, and a line that is refused says where it ends.
+// A game of a PGN with a bad move, which the program reads up to there: its text is kept in remarks, cut at the place
+// that the program reports, and a line that is refused stands for the bad move.
 import {leftOutBy} from './left_out.js';
 import {ownRemark, remarkOf} from './remarks.js';
-import {RESULT, TOKEN, isMoveText, looseMove, plain} from './notes.js';
-import {bareTree} from './unmarked.js';
+import {RESULT, TOKEN, isMoveText} from './notes.js';
 /**
  * The text of a game before the bad move, and from there on.
  * @typedef {{text: string, rest: string}} CutText
@@ -48,24 +47,22 @@ export function textIn(remarks) {
 }
 const NUMBER = /\d+\s*(?:\.+|\u2026)/;
 /**
- * Where the moves of a text end: the moves that lead there, those before the last one, how many brackets stand open,
- * and the last number there with the moves since.
+ * The last number before the end of a text and how many moves stand behind it there, in the same brackets.
  * @param {string} movetext
  */
 function endOfMoves(movetext) {
-  const outer = /** @type {any[]} */ ([]);
-  let here = {at: /** @type {string[]} */ ([]), before: /** @type {string[]} */ ([]), number: '', since: 0};
+  const outer = /** @type {{number: string, since: number}[]} */ ([]);
+  let here = {number: '', since: 0};
   for (const [, , , , bracket, , symbol = ''] of movetext.matchAll(TOKEN)) {
     if (bracket === '(') {
       outer.push(here);
-      here = {at: here.before, before: here.before, number: '', since: 0};
+      here = {number: '', since: 0};
     } else if (bracket === ')') here = outer.pop() || here;
     const number = /^\d+(?:\.+|\u2026)/.exec(symbol);
-    if (number) Object.assign(here, {number: number[0], since: 0});
-    if (symbol && !RESULT.test(symbol) && isMoveText(symbol))
-      here = {...here, at: [...here.at, plain(symbol)], before: here.at, since: here.since + 1};
+    if (number) here = {number: number[0], since: 0};
+    if (symbol && !RESULT.test(symbol) && isMoveText(symbol)) here = {...here, since: here.since + 1};
   }
-  return {...here, depth: outer.length};
+  return here;
 }
 /**
  * The number of the move that follows a number and moves, as far as these say it.
@@ -79,52 +76,31 @@ function nextNumber(number, since) {
 /** Where the moves of a game begin: behind its tags and the comments between them. */
 const HEADER = /^(?:\s|\{[^}]*\}|[;%][^\n]*(?:\n|$)|\[[ \t]*[A-Za-z]\w*[ \t]*"(?:\\.|[^\\\n])*?"[ \t]*\])*/;
 /**
- * A game up to the bad move, in brackets that are closed, with the result behind its moves; the bad move with its
- * number, and the moves that lead to it.
+ * The bad move with its number.
  * @param {CutText} game
  */
-export function upTo({text, rest}) {
+export function badMove({text, rest}) {
   const open = text.lastIndexOf('{') > text.lastIndexOf('}') ? text.lastIndexOf('{') : text.length,
         [tail] = /** @type {RegExpExecArray} */ (/(?:\s|\(|\d+\s*(?:\.+|\u2026))*$/.exec(text.slice(0, open))),
         read = text.slice(0, open - tail.length),
         end = endOfMoves(read.slice(/** @type {RegExpExecArray} */ (HEADER.exec(read))[0].length));
   const [, own = '', token = ''] = /^\s*(\d+\s*(?:\.+|\u2026)\s*)?(\{?[^\s(){};$!?]+|[^]?)/.exec(rest) || [];
-  const number = own.trim() || (NUMBER.exec(tail) || [''])[0] || nextNumber(end.number, end.since),
-        last = rest.trim().split(/\s+/).pop() || '';
-  return {
-    pgn: `${read}\n${')'.repeat(end.depth)} ${RESULT.test(last) ? last : '*'}\n`,
-    move: `${number} ${token}`.slice(0, 40),
-    moves: tail.includes('(') ? end.before : end.at
-  };
-}
-/**
- * The node of a tree that moves lead to; the start, if they are not in the tree.
- * @param {import('./unmarked.js').Bare} root
- * @param {string[]} moves
- */
-function pathOf(root, moves) {
-  let at = root;
-  for (const move of moves) {
-    const next = at.children.find(child => looseMove(plain(child.san)) === looseMove(move));
-    if (!next) return 'root';
-    at = next;
-  }
-  return at.path;
+  const number = own.trim() || (NUMBER.exec(tail) || [''])[0] || nextNumber(end.number, end.since);
+  return `${number} ${token}`.slice(0, 40);
 }
 /**
  * The lines of a study that is a game up to a bad move. A line that no program accepts, since it has a word too many,
- * stands where the bad move would stand.
+ * stands for the bad move.
  * @param {string[]} block      the lines of the part that was read
  * @param {import('./left_out.js').LeftOut} game
  * @param {CutText} cut
  */
 export function cutBlock(block, game, cut) {
-  const {move, moves} = upTo(cut), at = block.findIndex(line => line.startsWith('position ')),
-               end = block.lastIndexOf('pgn'), place = `line ${game.line}, column ${game.column}`;
+  const move = badMove(cut), at = block.findIndex(line => line.startsWith('position ')), end = block.lastIndexOf('pgn'),
+        place = `line ${game.line}, column ${game.column}`;
   return [
     ...block.slice(0, at), `#! up to ${move}, ${place}: ${game.why}${game.text && ` at ${game.text}`}`,
-    ...textRemarks(cut), ...block.slice(at, end), `insert ${pathOf(bareTree(block), moves)} ${move}`,
-    ...block.slice(end)
+    ...textRemarks(cut), ...block.slice(at, end), `insert root ${move}`, ...block.slice(end)
   ];
 }
 /**
@@ -152,12 +128,13 @@ export function cutOf(text, line, game, lettersIn) {
   return {text: before.join('\n'), rest: [(rows[row] || '').slice(at), ...rows.slice(row + 1)].join('\n')};
 }
 /**
- * The lines of an import of one game as those of a game of a file.
+ * The lines of an import of one game as those of a game of a file, which begins at a line of it.
  * @param {string[]} block
  * @param {number} game
  * @param {number} line
  */
 export const asGame = (block, game, line) => block.map(text => {
-  const remark = remarkOf(text);
-  return remark && remark.game === 1 ? text.replace(`game 1, line ${remark.line}`, `game ${game}, line ${line}`) : text;
+  const remark = remarkOf(text),
+        place = (/** @type {number} */ game, /** @type {number} */ at) => `game ${game}, line ${at}`;
+  return remark && remark.game === 1 ? text.replace(place(1, remark.line), place(game, remark.line + line - 1)) : text;
 });

@@ -1,6 +1,6 @@
 // @ts-check
 // The games of a PGN that were left out: what their remarks say, in words, with what to write instead.
-import {cutAt, ownRemark, remarkOf} from './remarks.js';
+import {cutAt, ownRemark, remarkOf, remarksOfKind} from './remarks.js';
 import {gameReason} from './wording.js';
 import {reason} from './words.js';
 /**
@@ -119,7 +119,8 @@ const OF_CUT = new Set(['up', 'text:', 'text+:', 'rest:', 'rest+:']);
  * The remarks above a position without what says that the game goes on.
  * @param {string[]} remarks
  */
-export const withoutCut = remarks => remarks.filter(line => !OF_CUT.has(ownRemark(line).word));
+export const withoutCut = remarks =>
+  remarks.filter(line => !OF_CUT.has(ownRemark(line).word) && !remarksOfKind([line], 'not-read').length);
 /**
  * Whether a line stands for the bad move.
  * @param {string} line

@@ -1,7 +1,7 @@
 // @ts-check
 // Games with a bad move: opened up to there, mended, and read again.
 import {change, track, work} from './actions.js';
-import {asGame, cutBlock, cutOf, leftOutText, textIn, upTo} from './cut_game.js';
+import {asGame, cutBlock, cutOf, leftOutText, textIn} from './cut_game.js';
 import {documentOf} from './imported.js';
 import {freshId} from './keep.js';
 import {canBeCut, isCutLine, leftOut, whyLeftOut, withoutCut} from './left_out.js';
@@ -16,22 +16,26 @@ import {aimWords} from './words.js';
  * @param {string} text
  * @param {{game: number, line: number}} place
  * @param {string} aim
+ * @param {boolean} [upToFaults]
  * @returns {Promise<{lines: string[], out: LeftOut | null}>}
  */
-async function read(text, {game, line}, aim) {
-  const bytes = new TextEncoder().encode(text), lines = await importPgn(bytes, aim), [out = null] = leftOut(lines);
+async function read(text, {game, line}, aim, upToFaults = false) {
+  const bytes = new TextEncoder().encode(text), lines = await importPgn(bytes, aim, upToFaults),
+        [out = null] = leftOut(lines);
   return {lines: asGame(withRemarks(documentOf(lines), bytes), game, line), out};
 }
 /**
- * The lines of a game up to its bad move; or why it has none.
+ * The lines of a game up to its bad move; or why it has none. A game that is left out for this move all the same has
+ * no stipulation before it.
  * @param {LeftOut} game
  * @param {import('./cut_game.js').CutText} cut
  * @param {string} aim
  */
 async function readUpTo(game, cut, aim) {
   const line = game.line - cut.text.split('\n').length + 1,
-        {lines, out} = await read(upTo(cut).pgn, {...game, line}, aim);
-  return {lines: out ? [] : cutBlock(lines, game, cut), out};
+        {lines, out} = await read(`${(cut.text + cut.rest).trimEnd()}\n`, {...game, line}, aim, true);
+  if (!out) return {lines: cutBlock(lines, game, cut), out};
+  return {lines: [], out: canBeCut(out) && !aim ? {...out, why: 'NoStipulation', text: ''} : out};
 }
 /**
  * The stipulation that was chosen for games which state none, if one was.

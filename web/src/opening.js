@@ -72,9 +72,11 @@ export function rawLines(bytes) {
  * The lines that the program makes of a PGN.
  * @param {Uint8Array} bytes
  * @param {string} aim      words of a stipulation for games that say none, or nothing
+ * @param {boolean} [upToFaults]      whether a game with a bad move is read up to there
  */
-export async function importPgn(bytes, aim) {
-  const answer = await services.core.ask(aim ? 'import ' + aim : 'import', bytes, 0);
+export async function importPgn(bytes, aim, upToFaults = false) {
+  const request = upToFaults ? 'import-up-to-faults' : 'import',
+        answer = await services.core.ask(`${request} ${aim}`.trim(), bytes, 0);
   if (answer.ended !== 'done') throw new Error(endedReason(answer.ended));
   const lines = rawLines(answer.bytes).map(decode);
   await learn(lines);

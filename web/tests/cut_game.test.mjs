@@ -2,7 +2,7 @@
 import './stand_in.mjs';
 import test from 'node:test';
 import assert from 'node:assert/strict';
-import {asGame, cutBlock, cutOf, leftOutText, textIn, textRemarks, upTo} from '../src/cut_game.js';
+import {asGame, badMove, cutBlock, cutOf, leftOutText, textIn, textRemarks} from '../src/cut_game.js';
 import {replacePosition, stipulate, tidy, withMoves} from '../src/edits.js';
 import {entriesOf} from '../src/entries.js';
 import {stampOf, unreadIn} from '../src/stamps.js';
@@ -29,31 +29,27 @@ test('a game is cut at the place that its remark gives', () => {
     assert.ok(!canBeCut(leftOutBy(`#! game 2, line 9: ${words}`)), words);
   assert.ok(!canBeCut(leftOutBy('#! game 2, line 9, column 1: TagForm')));
 });
-/** The text before a bad move, the rest, the game up to there, the move, and those before it; `/` is a line feed. */
+/** The text before a bad move, the rest, and the move with its number; `/` is a line feed. */
 const CASES = `
-1. Kg3 Kf5 2. Kf3 |Kh9 3. Ke3 1-0|1. Kg3 Kf5 2. Kf3/ 1-0/|2... Kh9|Kg3 Kf5 Kf3
-1. Kg3 Kf5 |Kz3 *|1. Kg3 Kf5/ */|2. Kz3|Kg3 Kf5
-1... Kg8 2.|Dg2+ Kf8 3.Th8 matt 1-0|1... Kg8/ 1-0/|2. Dg2+|Kg8
-1...Kg8 |Dg2+ 1-0|1...Kg8/ 1-0/|2. Dg2+|Kg8
-1. c8=R! (1. c8=Q? |stalemate) Ka6 1-0|1. c8=R! (1. c8=Q?/) 1-0/|1... stalemate|c8Q
-1. Kg3 Kf5 (1... |Kz5) *|1. Kg3 Kf5/ */|1... Kz5|Kg3
-1. Kg3 Kf5 |3. Kf3 *|1. Kg3 Kf5/ */|3. Kf3|Kg3 Kf5
-1. Kg3 Kf5 ; see 1./|Kh9 *|1. Kg3 Kf5 ; see/ */|1. Kh9|Kg3 Kf5
-1. Kg3 (1. Kg2 Kf4) |Kh9|1. Kg3 (1. Kg2 Kf4)/ */|1... Kh9|Kg3
-1. Kg3 1-0 2. |Kf3|1. Kg3 1-0/ */|2. Kf3|Kg3
-1. Kg3 {open| Kf5 1-0|1. Kg3/ 1-0/|1... Kf5|Kg3
-1. Kg3 |{open Kf5 1-0|1. Kg3/ 1-0/|1... {open|Kg3
-1. Kg3 |& Kf5 1-0|1. Kg3/ 1-0/|1... &|Kg3
+1. Kg3 Kf5 2. Kf3 |Kh9 3. Ke3 1-0|2... Kh9
+1. Kg3 Kf5 |Kz3 *|2. Kz3
+1... Kg8 2.|Dg2+ Kf8 3.Th8 matt 1-0|2. Dg2+
+1...Kg8 |Dg2+ 1-0|2. Dg2+
+1. c8=R! (1. c8=Q? |stalemate) Ka6 1-0|1... stalemate
+1. Kg3 Kf5 (1... |Kz5) *|1... Kz5
+1. Kg3 Kf5 |3. Kf3 *|3. Kf3
+1. Kg3 Kf5 ; see 1./|Kh9 *|1. Kh9
+1. Kg3 (1. Kg2 Kf4) |Kh9|1... Kh9
+1. Kg3 1-0 2. |Kf3|2. Kf3
+1. Kg3 {open| Kf5 1-0|1... Kf5
+1. Kg3 |{open Kf5 1-0|1... {open
+1. Kg3 |& Kf5 1-0|1... &
 `;
-test('the moves before the bad one are a game', () => {
-  assert.deepEqual(upTo(CUT), {
-    pgn: HEAD + MOVES.slice(0, -4) + '\n)) 1-0\n',
-    move: '7. b6',
-    moves: 'Kg3 Kf5 Kf3 Kg5 Ke4 Kf6 Kd5 Ke7 Kc6 Ke6 b4 Ke7'.split(' ')
-  });
+test('the bad move has its number', () => {
+  assert.equal(badMove(CUT), '7. b6');
   for (const row of CASES.trim().split('\n')) {
-    const [text, rest, pgn, move, moves] = row.split('|').map(part => part.replaceAll('/', '\n'));
-    assert.deepEqual(upTo({text, rest}), {pgn, move, moves: moves.split(' ')}, row);
+    const [text, rest, move] = row.split('|').map(part => part.replaceAll('/', '\n'));
+    assert.equal(badMove({text, rest}), move, row);
   }
 });
 test('its text is kept in remarks', () => {
@@ -70,8 +66,9 @@ test('its text is kept in remarks', () => {
   assert.deepEqual(leftOutText(lines, 1), {game: leftOutBy(lines[1]), cut: CUT, end: lines.length - 1});
 });
 const GAME = leftOutBy('#! game 6, line 79, column 98: NoSuchMove at b6'), BLOCK = [
-  '#! game 1, line 1: stipulated by its tag Result', '#! tag Result 1-0', 'position 8/8/8/6k1/8/8/1P5K/8 w - - 0 1',
-  'stipulate white win', 'tag White Smith, John', 'insert root Kg3', 'insert 0 Kf5', 'insert 0.0 Kf3', 'pgn'
+  '#! game 1, line 5, column 98: not read: NoSuchMove at b6', '#! game 1, line 1: stipulated by its tag Result',
+  '#! tag Result 1-0', 'position 8/8/8/6k1/8/8/1P5K/8 w - - 0 1', 'stipulate white win', 'tag White Smith, John',
+  'insert root Kg3', 'insert 0 Kf5', 'insert 0.0 Kf3', 'pgn'
 ];
 const SHORT = {
   text: '1. Kg3 Kf5 2. Kf3 ',
@@ -80,12 +77,12 @@ const SHORT = {
       STUDY = cutBlock(asGame(BLOCK, 6, 75), GAME, SHORT);
 test('a line that no program accepts stands for the bad move', () => {
   assert.deepEqual(STUDY, [
-    '#! game 6, line 75: stipulated by its tag Result', '#! tag Result 1-0',
-    '#! up to 2... Kh9, line 79, column 98: NoSuchMove at b6', '#! text: 1. Kg3 Kf5 2. Kf3 ', '#! rest+: Kh9 1-0',
-    ...BLOCK.slice(2, -1), 'insert 0.0.0 2... Kh9', 'pgn'
+    '#! game 6, line 79, column 98: not read: NoSuchMove at b6', '#! game 6, line 75: stipulated by its tag Result',
+    '#! tag Result 1-0', '#! up to 2... Kh9, line 79, column 98: NoSuchMove at b6', '#! text: 1. Kg3 Kf5 2. Kf3 ',
+    '#! rest+: Kh9 1-0', ...BLOCK.slice(3, -1), 'insert root 2... Kh9', 'pgn'
   ]);
   assert.deepEqual(cutIn(STUDY), {move: '2... Kh9', game: {...GAME, game: 0}});
-  assert.deepEqual(withoutCut(STUDY.slice(0, 6)), [STUDY[0], STUDY[1], STUDY[5]]);
+  assert.deepEqual(withoutCut(STUDY.slice(0, 7)), [STUDY[1], STUDY[2], STUDY[6]]);
   assert.equal(bareTree(STUDY).children[0].children[0].children[0].children.length, 0);
 });
 test('it is not read, whatever the verdict on its part', () => {
@@ -101,11 +98,11 @@ test('it is not read, whatever the verdict on its part', () => {
   assert.deepEqual(entriesOf({...script, at: 0}).map(row => [row.number, row.stamp]), [['6', 'not read: 2... Kh9']]);
   assert.equal(stampOf({...script, refused: []}, s, null).kind, 'not read');
   const root = {fen: s.fen, parent: null, children: []};
-  assert.ok(tidy(STUDY, s, root).lines.includes('insert 0.0.0 2... Kh9'));
-  assert.ok(stipulate(STUDY, s, 'white draw').lines.includes(STUDY[2]));
+  assert.ok(tidy(STUDY, s, root).lines.includes('insert root 2... Kh9'));
+  assert.ok(stipulate(STUDY, s, 'white draw').lines.includes(STUDY[3]));
   assert.equal(cutIn(replacePosition(STUDY, s, '8/8/8/6k1/8/8/1P5K/8 b - - 0 1', 'white win').lines), null);
   const moved = withMoves(STUDY, s, '8/8/8/1k6/8/8/K5P1/8 w - - 0 1', 'white win', ['insert root Kb3']).lines;
-  assert.deepEqual(moved.slice(-3), ['insert root Kb3', 'insert 0.0.0 2... Kh9', 'pgn']);
+  assert.deepEqual(moved.slice(-3), ['insert root Kb3', 'insert root 2... Kh9', 'pgn']);
   assert.deepEqual(cutIn(moved), cutIn(STUDY));
   assert.deepEqual(cutIn(copyStudy(STUDY, script.studies, 0).lines.slice(STUDY.length)), cutIn(STUDY));
 });
