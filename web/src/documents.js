@@ -50,10 +50,17 @@ export async function otherPages() {
                    .filter(name => name !== page));
 }
 
-/** Keeps the document and the set-up as they are. */
+/**
+ * Whether the document was only looked at so far.
+ * @param {any} draft
+ */
+const isLookedAt = draft =>
+  doc().id !== '' && doc().id === app.looked && !draft && !app.history.past.length && !app.history.future.length;
+/** Keeps the document and the set-up as they are; not a document that is only looked at. */
 export function keep() {
   const draft = draftKept(), own = ownDraft() === doc().id ? '' : ownDraft();
   let kept = true;
+  if (isLookedAt(draft)) return;
   if (doc().id) kept = keeper.keep(app.history, own ? null : draft, services.tables.knownClasses(fensOf(doc().lines)));
   if (own && draft) kept = keeper.keep(firstOf({...blank, id: own}), draft, []) && kept;
   else if (own && headAt(keeper.placeOf(own))) keeper.remove(keeper.placeOf(own));

@@ -1,9 +1,8 @@
 // @ts-check
-// What the tables know: the positions of a class that have a theme, found piece by piece in a core of their own.
-import {services, PAGES} from './state.js';
+// What the tables know: the positions of a class that have a theme, as they are wanted, found and opened.
 import {sideOf} from './fen.js';
-import {readValue, refusalIn} from './parse_answers.js';
-import {counted, reason, winner} from './words.js';
+import {readValue} from './parse_answers.js';
+import {counted, winner} from './words.js';
 /** @typedef {import('./types.js').Value} Value */
 /** @typedef {{fen: string, values: Value[], key: string}} Found      a zugzwang has two values, and no key move */
 /**
@@ -103,44 +102,6 @@ export function linesOf(found, theme, row) {
         insert = (/** @type {string} */ san, /** @type {number} */ i) =>
           `insert ${i ? Array(i).fill('0').join('.') : 'root'} ${san}`;
   return [`position ${fen}`, `stipulate ${hero} ${won ? 'win' : 'draw'}`, ...moves.map(insert)];
-}
-const PIECE = 1 << 14, ALIKE = 300;
-/**
- * Searches until it is stopped, all is looked at, or enough was found. Each piece takes about as long as another.
- * @param {{name: string, theme: string, filters: string, most: number}} wanted
- * @param {() => import('./engine.js').Core} spawn
- * @param {(search: Search) => boolean} report      whether to go on
- */
-export async function search({name, theme, filters, most}, spawn, report) {
-  const fens = placements(name), core = spawn(),
-        now = /** @type {Search} */ ({at: 0, of: 0, found: [], many: 0, ended: ''});
-  try {
-    await services.tables.ready(fens);
-    await services.tables.loadFor(fens, core);
-    for (let piece = PIECE; !now.ended;) {
-      const began = performance.now(),
-            request = ['find', name, theme, filters, now.at, now.at + piece].filter(word => word !== '').join(' ');
-      const answer = await core.answer(request, '', PAGES);
-      if (answer.ended !== 'done') throw new Error(reason(refusalIn(answer)));
-      addFound(now, answer.text.split('\n').filter(Boolean));
-      if (now.many > most || now.at < now.of && now.many === most) now.ended = 'enough';
-      else if (now.at >= now.of) now.ended = 'all';
-      now.found = now.found.slice(0, most);
-      if (!report(now)) now.ended = now.ended || 'stopped';
-      piece = Math.round(piece * Math.max(0.25, Math.min(4, ALIKE / (performance.now() - began + 1))));
-    }
-    return now;
-  } finally { core.end(); }
-}
-/**
- * @param {Search} now
- * @param {string[]} lines      the positions, and at the end how far it came
- */
-function addFound(now, lines) {
-  const [, at, of] = /^to (\d+) of (\d+)$/.exec(lines.pop() || '') || [];
-  if (!of) throw new Error('the answer has no end');
-  now.found.push(...lines.map(readFound));
-  [now.at, now.of, now.many] = [Number(at), Number(of), now.many + lines.length];
 }
 /**
  * How a search with more positions than are listed is narrowed down, in words.

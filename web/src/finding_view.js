@@ -2,14 +2,13 @@
 // The panel 'Find': a class, a theme and squares; what is found while it searches; a press opens one.
 import {$, button, h, put, smallButton, panelHead} from './dom.js';
 import {track} from './actions.js';
-import {rowAt} from './elsewhere.js';
 import {app, services} from './state.js';
 import {CLASSES} from './core_host.js';
 import {diagramOf} from './drawing.js';
 import {control, sideOf} from './fen.js';
-import {THEMES, linesOf, manMissing, narrowing, opened, rowSought, search, searchText} from './finding.js';
-import {openText} from './opening.js';
-import {toText} from './script.js';
+import {THEMES, manMissing, narrowing, searchText} from './finding.js';
+import {hitsHere, openAll, openHit} from './hits.js';
+import {search} from './searching.js';
 import {draftFen} from './setup.js';
 import {hearNew} from './voice.js';
 import {valueText, winner} from './words.js';
@@ -25,13 +24,13 @@ const form = {
   quiet: false
 };
 /**
- * @type {{spawn: () => import('./engine.js').Core, search: Search | null, going: boolean, fault: string,
+ * @type {{spawn: () => import('./engine.js').Core, search: Search | null, going: AbortController | null, fault: string,
  *   shown: string, theme: string, preview: string, advice: string, lacking: string, here: string, chosen: boolean}}
  */
 const state = {
   spawn: () => services.core,
   search: null,
-  going: false,
+  going: null,
   fault: '',
   shown: '',
   theme: '',
@@ -143,42 +142,36 @@ function find() {
   };
   const shown = [wanted.name, wanted.theme, wanted.filters].filter(Boolean).join(' '),
         lacking = manMissing(wanted.name, wanted.filters), advice = narrowing(form.theme, Number(form.n));
-  Object.assign(
-    state, {search: null, going: true, fault: '', shown, theme: wanted.theme, preview: '', advice, lacking});
+  const going = new AbortController();
+  Object.assign(state, {search: null, going, fault: '', shown, theme: wanted.theme, preview: '', advice, lacking});
   showFinding();
   const found = (/** @type {Search} */ now) => {
+    if (state.going !== going) return;
     state.search = now;
     showFinding();
-    return state.going;
   };
   const failed = (/** @type {Error} */ fault) => {
-    state.fault = fault.message;
+    if (state.going === going) state.fault = fault.message;
   };
   const ended = () => {
-    state.going = false;
+    if (state.going !== going) return;
+    state.going = null;
     showFinding();
   };
-  return track(search(wanted, state.spawn, found).catch(failed).finally(ended));
+  return track(search(wanted, state.spawn, found, going.signal).then(found).catch(failed).finally(ended));
 }
-function stop() { state.going = false; }
+/** Its workers end at once; what was found stays. */
+function stop() {
+  if (state.going) state.going.abort();
+}
 function soFar() {
   const now = state.search;
   if (state.fault) return `Not found: ${state.fault}.`;
   if (!now) return state.going ? 'Its tables are being read, or built …' : '';
   return `${state.shown}: ${now.found.length || !state.lacking ? searchText(now, state.advice) : `${state.lacking}.`}`;
 }
-/**
- * Opens a position as a study: with the row of only moves that its theme says, else with its key.
- * @param {Found} found
- * @param {string} theme      with its number
- */
-async function openFound(found, theme) {
-  close();
-  const goal = rowSought(theme), {fen} = opened(found);
-  if (goal) await services.tables.loadFor([fen], services.facts);
-  const row = goal ? await rowAt(services.facts, goal, fen) : null;
-  await openText(toText(linesOf(found, theme, row ? row.moves : [])), 'board');
-}
+/** What was found, for those who open it. */
+const hits = () => ({found: state.search ? state.search.found : [], theme: state.theme, words: state.shown});
 /**
  * The diagram of the position under the pointer or the focus, beside the list.
  * @param {string} fen
@@ -187,14 +180,23 @@ function preview(fen) {
   state.preview = fen;
   put('findPreview', diagramOf(fen, true));
 }
-/** @param {Found} found */
-function rowView(found) {
-  const mover = sideOf(found.fen), [first, second] = found.values;
+/**
+ * @param {Found} found
+ * @param {number} at      its place in the list
+ */
+function rowView(found, at) {
+  const mover = sideOf(found.fen), [first, second] = found.values, here = hitsHere();
   const words = second ? `White to move: ${valueText('White', first)}; Black to move: ${valueText('Black', second)}`
                        : valueText(mover, first);
-  return h('li', {}, button(control(found.fen), 'open it as a study', () => track(openFound(found, state.theme)), {
+  const open = () => {
+    const all = hits();
+    close();
+    openHit(all, at);
+  };
+  return h('li', {}, button(control(found.fen), 'look at it as a study', open, {
     class: 'link',
     'data-found': found.fen,
+    'aria-current': here && here.found[here.at] === found && 'true',
     onmouseenter: () => preview(found.fen),
     onfocus: () => preview(found.fen)
   }),
@@ -204,16 +206,26 @@ function rowView(found) {
 export function showFinding() {
   if (!state.going) hearNew('finding', soFar());
   if ($('finding').hidden) return;
-  const focus = document.activeElement, id = focus && $('finding').contains(focus) ? focus.id : '',
-        found = state.search ? state.search.found : [];
+  const focus = document.activeElement, inside = focus && $('finding').contains(focus) ? focus : null,
+        id = inside ? inside.id : '', hit = inside && inside.getAttribute('data-found'),
+        down = $('foundList') ? $('foundList').scrollTop : 0, found = state.search ? state.search.found : [];
+  const all = () => {
+    const list = hits();
+    close();
+    openAll(list);
+  };
   put('finding', panelHead('Find', close, 'closeFinding'),
     h('p', {class: 'note'},
       'All positions of these men that have the theme, each once up to symmetry, none missing: proved. ' +
-        'A press opens one as a study.'),
+        'A press shows one as a study, which is kept once you change it.'),
     formView(), h('p', {id: 'findState'}, soFar()),
+    !state.going && found.length > 0 &&
+      h('p', {class: 'row'},
+        button('Open all as a script', 'each position as a study of one script', all, {id: 'findAll'})),
     h('div', {class: 'finds'}, h('ol', {class: 'found', id: 'foundList'}, found.map(rowView)),
       h('div', {id: 'findPreview'}, found.length > 0 && state.preview && diagramOf(state.preview, true))));
-  const again = id && $(id);
+  $('foundList').scrollTop = down;
+  const again = id ? $(id) : hit && $('finding').querySelector(`[data-found="${hit}"]`);
   if (again) again.focus({preventScroll: true});
 }
 export async function openFinding() {
@@ -222,15 +234,17 @@ export async function openFinding() {
   panel.hidden = false;
   $('findButton').setAttribute('aria-expanded', 'true');
   showFinding();
-  $('findClass').focus();
+  const current = panel.querySelector('[aria-current]') || $('findClass');
+  current.focus();
   state.chosen = false;
   state.here = await classHere().catch(() => '');
   if (state.here && !state.chosen && !state.going && !state.search) form.name = state.here;
   showFinding();
 }
-/** Whether it was open. */
+/** A search ends with its panel. Whether it was open. */
 export function close() {
   const panel = $('finding'), open = !panel.hidden;
+  stop();
   panel.hidden = true;
   $('findButton').setAttribute('aria-expanded', 'false');
   if (open && panel.contains(document.activeElement)) $('findButton').focus();

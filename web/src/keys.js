@@ -8,6 +8,7 @@ import {closeChoice, setupKey} from './board_input.js';
 import {close} from './documents_view.js';
 import {close as closeEarlier} from './earlier_view.js';
 import {close as closeFinding} from './finding_view.js';
+import {hitsHere, stepHit} from './hits.js';
 import {endOf, remove} from './node_view.js';
 import {draftFen, stepDraft} from './setup.js';
 import {hideSurvey} from './survey.js';
@@ -17,6 +18,8 @@ function neighbour(d) {
   const n = node(), row = n && n.parent ? n.parent.children : [], m = n ? row[row.indexOf(n) + d] : null;
   if (m) go(m.path);
 }
+/** Whether what is shown is one study, of those that were found. */
+const isHit = () => hitsHere() !== null && doc().studies.length < 2;
 /** @type {Record<string, (n: import('./types.js').TreeNode) => any>} */
 const KEYS = {
   ArrowLeft: n => n.parent && go(n.parent.path),
@@ -27,8 +30,8 @@ const KEYS = {
   End: n => go(endOf(n).path),
   Delete: n => remove(n.path),
   m: () => $('san').focus(),
-  PageUp: () => goStudy(doc().at - 1),
-  PageDown: () => goStudy(doc().at + 1),
+  PageUp: () => (isHit() ? stepHit(-1) : goStudy(doc().at - 1)),
+  PageDown: () => (isHit() ? stepHit(1) : goStudy(doc().at + 1)),
 };
 /** Of a set-up that is open the men that were put down, else the document. */
 export const back = () => (app.setup ? stepDraft(true) : undo());
@@ -80,7 +83,7 @@ function onKey(e) {
     return flip();
   }
   if (e.key === 'Enter' && app.setup && !target.closest('button, summary, a')) return start(e);
-  if (app.setup || !n || !KEYS[e.key] || (/^Page/.test(e.key) && doc().studies.length < 2)) return;
+  if (app.setup || !n || !KEYS[e.key] || (/^Page/.test(e.key) && doc().studies.length < 2 && !isHit())) return;
   e.preventDefault();
   KEYS[e.key](n);
 }

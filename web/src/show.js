@@ -6,7 +6,9 @@ import {app, doc, node, study} from './state.js';
 import {showBoard} from './board.js';
 import {listView, showDocuments} from './documents_view.js';
 import {reviewView} from './review_view.js';
+import {openFinding} from './finding_view.js';
 import {headView, numberText, sameText} from './head_view.js';
+import {hitsView} from './hits.js';
 import {commentView} from './comments_view.js';
 import {hereView, navView} from './node_view.js';
 import {PAWN, SAAVEDRA} from './samples.js';
@@ -111,6 +113,7 @@ export function show() {
   else $('sayBoard').removeAttribute('role');
   $('sayBoard').textContent = said ? said.text : '';
   const anew = app.setup && app.setup.anew;
+  put('finds', !app.setup && hitsView(openFinding));
   put('import', importView(Boolean(anew)));
   put('setup', app.setup && setupView());
   put('nav', !app.setup && n && navView(n));

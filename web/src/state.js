@@ -24,7 +24,8 @@ export const blank = {
  * @type {{history: import('./history.js').History<Doc>, view: import('./types.js').View | null, counts: string,
  *   noView: string, review: import('./types.js').Review | null, noReview: string, say: Say | null,
  *   chosen: number | null, flip: boolean, setup: import('./setup.js').Draft | null,
- *   progress: import('./tables.js').Progress | null, stamp: number}}
+ *   progress: import('./tables.js').Progress | null, stamp: number, looked: string}}
+ *   `looked`: the document that is only looked at, which is kept once it is changed
  */
 export const app = {
   history: begin(blank),
@@ -38,7 +39,8 @@ export const app = {
   flip: false,
   setup: null,
   progress: null,
-  stamp: 0
+  stamp: 0,
+  looked: ''
 };
 /**
  * The services that main.js puts in.

@@ -24,8 +24,11 @@ const STOPPED = 'Stopped. The tables that were built are kept';
 const sizeOf = name => (DIGESTS[name] ? DIGESTS[name][0] : 5000000);
 
 /**
- * @param {{core: Core, facts: Core, spawn: () => Core,
- *   readers: ReturnType<typeof import('./file_readers.js').makeReaders>, store: ReturnType<typeof import('./store.js').makeStore>,
+ * @typedef {ReturnType<typeof import('./file_readers.js').makeReaders>} Readers
+ * @typedef {ReturnType<typeof import('./store.js').makeStore>} Store
+ */
+/**
+ * @param {{core: Core, facts: Core, spawn: () => Core, readers: Readers, store: Store,
  *   report: (p: Progress | null) => void}} parts
  */
 export function makeTables({core, facts, spawn, readers, store, report}) {

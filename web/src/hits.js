@@ -1,0 +1,84 @@
+// @ts-check
+// A position that was found is looked at as a study, which becomes a document once it is changed; the next one and the
+// one before; and all of them as a script.
+import {button, h} from './dom.js';
+import {change, track} from './actions.js';
+import {openKept} from './documents.js';
+import {rowAt} from './elsewhere.js';
+import {linesOf, opened, rowSought} from './finding.js';
+import {freshId} from './keep.js';
+import {openText} from './opening.js';
+import {toText} from './script.js';
+import {app, doc, services} from './state.js';
+/** @typedef {import('./finding.js').Found} Found */
+/**
+ * What was found, by the words of the search; which one is looked at, as which document, and the one before.
+ * @typedef {{found: Found[], theme: string, words: string, at: number, id: string, before: string}} Hits
+ */
+
+let hits = /** @type {Hits | null} */ (null);
+/** What was found, if one of it is what is shown. */
+export const hitsHere = () => (hits && hits.id === doc().id ? hits : null);
+/**
+ * The lines of a position as a study: with the row of only moves that its theme says, else with its key.
+ * @param {Found} found
+ * @param {string} theme      with its number
+ */
+async function studyOf(found, theme) {
+  const goal = rowSought(theme), {fen} = opened(found);
+  if (goal) await services.tables.loadFor([fen], services.facts);
+  const row = goal ? await rowAt(services.facts, goal, fen) : null;
+  return linesOf(found, theme, row ? row.moves : []);
+}
+/**
+ * Looks at one of the positions that were found.
+ * @param {{found: Found[], theme: string, words: string}} search
+ * @param {number} at
+ */
+export const openHit = ({found, theme, words}, at) => track((async () => {
+  if (!found[at]) return;
+  const lines = await studyOf(found[at], theme), here = hitsHere(), id = freshId(),
+        before = here    ? here.before
+    : doc().lines.length ? doc().id
+                         : '';
+  app.setup = null;
+  app.looked = id;
+  hits = {found, theme, words, at, id, before};
+  await change(() => ({lines, name: '', note: '', id, at: 0, path: 'root', lenient: true}));
+})());
+/**
+ * Looks at the next position, or at the one before.
+ * @param {number} by
+ */
+export const stepHit = by => hits && openHit(hits, hits.at + by);
+/**
+ * All positions as the studies of one script.
+ * @param {{found: Found[], theme: string, words: string}} search
+ */
+export const openAll = ({found, theme, words}) => track((async () => {
+  const lines = /** @type {string[]} */ ([]);
+  try {
+    for (const [at, one] of found.entries()) {
+      services.reading(at, found.length, 'Opening position');
+      const [position, stipulation, ...moves] = await studyOf(one, theme);
+      lines.push(position, stipulation, `tag Event ${words}, ${at + 1}`.slice(0, 70), ...moves, '');
+    }
+  } finally { services.reading(0, 0); }
+  await openText(toText(lines), 'board', `${words}.script`);
+})());
+/**
+ * Which position it is, with the ways to the others.
+ * @param {() => any} openList
+ */
+export function hitsView(openList) {
+  const here = hitsHere();
+  if (!here) return null;
+  const {found, words, at, before} = here;
+  return h('p', {class: 'row', role: 'group', 'aria-label': 'Positions that were found'},
+    h('b', {}, `${words}: ${at + 1} of ${found.length}`),
+    button('Previous', 'Page Up', () => stepHit(-1), {id: 'hitBefore', disabled: at === 0}),
+    button('Next', 'Page Down', () => stepHit(1), {id: 'hitNext', disabled: at + 1 === found.length}),
+    button('List', 'all that were found', openList, {id: 'hitList'}),
+    button('Open all as a script', 'each as a study', () => openAll(here), {id: 'hitsAll'}),
+    before && button('Back', 'the document before', () => openKept(before), {id: 'hitsBack'}));
+}

@@ -1,0 +1,145 @@
+"""Find, from the list to a study: looked at one after the other, kept once changed, all as a script; in headless
+Chromium.
+
+    finding.py TABLES [NAME ..]
+
+TABLES has those of two and three men at least.
+"""
+import os
+import re
+import sys
+
+from user import By, Keys, run
+
+TABLES = os.path.abspath(sys.argv[1])
+SMALL = "KK KQK KRK KBK KNK KPK".split()
+MINE = "position 8/8/8/6k1/8/8/1P5K/8 w - - 0 1\nstipulate white win\ninsert root Kg3\n"
+
+
+def script(user):
+    return user.promise("studyboard.script()")
+
+
+def documents(user):
+    """How many documents the browser keeps."""
+    return user.js("return Object.keys(localStorage).filter(key => key.startsWith('studyboard.head.')).length")
+
+
+def find(user, theme, n=""):
+    """A search in KPK to its end; the positions in the list."""
+    user.open_tables(TABLES, SMALL)
+    user.click("findButton")
+    user.choose("findClass", "KPK")
+    user.choose("findTheme", theme)
+    if n:
+        user.fill("findN", n)
+        user.js("document.getElementById('findN').dispatchEvent(new Event('input', {bubbles: true}))")
+    user.click("findGo")
+    user.until("/: all there are\\.$/.test(document.getElementById('findState').innerText)", 120)
+    return user.js("return [...document.querySelectorAll('[data-found]')].map(e => e.getAttribute('data-found'))")
+
+
+def position(user):
+    return script(user).split("\n")[0].replace("position ", "")
+
+
+def test_hits_are_looked_at_and_kept_once_changed(user):
+    user.promise("studyboard.open(a[0])", MINE)
+    fens = find(user, "win N", "6")
+    assert len(fens) == 15 and documents(user) == 1
+    user.d.find_element(By.CSS_SELECTOR, "[data-found]").click()
+    user.settle()
+    assert position(user) == fens[0] and user.text("finds").startswith("KPK win 6: 1 of 15"), user.text("finds")
+    assert user.by("hitBefore").get_attribute("disabled") and not user.text("sayBoard")
+    user.picture("hit", whole=False)
+    user.click("hitNext")
+    user.settle()
+    user.keys(Keys.PAGE_DOWN)
+    user.settle()
+    assert position(user) == fens[2] and user.text("stamp") == "sound", user.text("stamp")
+    user.keys(Keys.PAGE_UP)
+    user.settle()
+    assert position(user) == fens[1] and documents(user) == 1
+    assert user.js("return document.getElementById('undo').disabled")
+    user.fill("tagWhite", "A. Composer")
+    assert documents(user) == 2
+    kept = script(user)
+    user.click("hitNext")
+    user.settle()
+    assert position(user) == fens[2] and documents(user) == 2
+    user.click("hitList")
+    user.settle()
+    current = user.d.find_element(By.CSS_SELECTOR, "#foundList [aria-current]")
+    assert current.get_attribute("data-found") == fens[2]
+    assert user.js("return document.activeElement === arguments[0]", current)
+    assert user.d.find_elements(By.CSS_SELECTOR, "#findPreview svg")
+    user.click("closeFinding")
+    user.click("hitsBack")
+    user.settle()
+    assert script(user).strip() == MINE.strip() and not user.text("finds")
+    user.click("documentsButton")
+    user.settle()
+    user.d.find_element(By.XPATH, "//*[@data-kept][contains(., 'Composer')]").click()
+    user.settle()
+    assert script(user) == kept
+
+
+def test_a_reload_shows_the_document_before_a_look(user):
+    user.promise("studyboard.open(a[0])", MINE)
+    find(user, "win N", "6")
+    user.d.find_element(By.CSS_SELECTOR, "[data-found]").click()
+    user.settle()
+    user.d.refresh()
+    user.idle()
+    assert script(user).strip() == MINE.strip() and documents(user) == 1, script(user)
+
+
+def test_all_hits_as_a_script(user):
+    fens = find(user, "win N", "6")
+    user.click("findAll")
+    user.until("document.querySelectorAll('#studies option').length === 15", 120)
+    user.settle()
+    text = script(user)
+    assert re.findall(r"^position (.*)$", text, re.M) == fens and documents(user) == 1
+    assert re.findall(r"^tag Event (.*)$", text, re.M)[-1] == "KPK win 6, 15"
+    verdicts = user.promise("studyboard.run(a[0], 1000)", "".join(f"load {name}\n" for name in SMALL) + text + "pgn\n")
+    assert "error" not in verdicts
+    user.until("document.querySelector('#list [data-kind=sound]')", 60)
+    assert user.d.find_element(By.CSS_SELECTOR, "#list [data-kind=sound]").text.split()[0] == "15"
+
+
+def test_zugzwangs_as_a_script(user):
+    fens = find(user, "zugzwang")
+    user.click("findAll")
+    user.until(f"document.querySelectorAll('#studies option').length === {len(fens)}", 120)
+    user.settle()
+    assert len(fens) == 80 and script(user).count("stipulate") == 80
+
+
+def test_a_search_ends_with_its_panel(user):
+    """Three workers at most, and none once the panel is closed."""
+    user.js(
+        """const Own = window.Worker; window.alive = new Set(); window.most = 0;
+        window.Worker = class extends Own {
+            constructor(...all) { super(...all); alive.add(this); most = Math.max(most, alive.size); }
+            terminate() { alive.delete(this); super.terminate(); }
+        };"""
+    )
+    large = os.path.exists(os.path.join(TABLES, "KRKN.dtm"))
+    user.open_tables(TABLES, "KK KRK KNK KRKN".split() if large else SMALL)
+    user.until("alive.size === 0", 20)
+    user.js("most = 0")
+    user.click("findButton")
+    user.choose("findClass", "KRKN" if large else "KPK")
+    user.choose("findTheme", "win N")
+    user.js("document.getElementById('findGo').click()")
+    user.until("most > 0 && /looked at|all there/.test(document.getElementById('findState').innerText)", 60)
+    user.js("document.getElementById('closeFinding').click()")
+    user.until("alive.size === 0", 20)
+    assert 1 <= user.js("return most") <= 3 + 3, user.js("return most")
+    user.settle()
+    user.click("findButton")
+    assert user.has("findGo") and not user.has("findStop"), user.text("finding")
+
+
+run(globals(), sys.argv[2:])
