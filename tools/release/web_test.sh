@@ -46,6 +46,7 @@ else
     try "$python" entries.py "$tables"
     try "$python" judging.py "$tables"
     try "$python" composing.py "$tables"
+    try "$python" finding.py "$tables"
     try "$python" kept.py "$tables"
     try "$python" screen.py "$tables"
     try "$python" gallery.py "$tables"

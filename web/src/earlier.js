@@ -50,19 +50,19 @@ const samePosition = (one, other) => one.split(' ').slice(0, 4).join(' ') === ot
  * The moves that can have led to a position, those first that are the only ones to hold.
  * @param {string} fen
  * @param {string} aim      words of a stipulation
+ * @param {import('./engine.js').Core} [core]
  * @returns {Promise<{moves: Before[], lacking: string[]}>}      and the tables that promotions would need and that lack
  */
-export async function movesBefore(fen, aim) {
+export async function movesBefore(fen, aim, core = services.core) {
   const places = placesBefore(fen), texts = places.map(place => `position ${place.fen}\n`);
-  const {text} = await services.core.answer('run', toText(texts.map(line => line.trim())), 1),
-        replies = text.split('\n');
+  const {text} = await core.answer('run', toText(texts.map(line => line.trim())), 1), replies = text.split('\n');
   const found = /** @type {Before[]} */ ([]), lacking = /** @type {Set<string>} */ (new Set());
   for (const [i, place] of places.entries()) {
     if (!replies[i] || !replies[i].startsWith('position ')) continue;
-    const lacks = await services.tables.loadFor([place.fen]);
+    const lacks = await services.tables.loadFor([place.fen], core);
     for (const name of lacks) lacking.add(name);
     if (lacks.length) continue;
-    const {text: shown} = await services.core.answer('view root', `${texts[i]}stipulate ${aim}\n`, PAGES),
+    const {text: shown} = await core.answer('view root', `${texts[i]}stipulate ${aim}\n`, PAGES),
                  view = readView(shown);
     const move = view &&
       view.moves.find(

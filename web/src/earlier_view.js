@@ -4,26 +4,79 @@ import {$, button, h, put, smallButton, panelHead} from './dom.js';
 import {change, track} from './actions.js';
 import {app, doc, services, say, study} from './state.js';
 import {aimBefore, movesBefore} from './earlier.js';
+import {longest, ownMoves} from './introduction.js';
 import {withMoves} from './edits.js';
 import {control, other, sideOf, squareName} from './fen.js';
 import {notesMoved, plain} from './notes.js';
 import {bareOf, insertions} from './turning.js';
 import {hearNew} from './voice.js';
-import {markSign} from './words.js';
+import {counted, markSign} from './words.js';
 /** @typedef {import('./earlier.js').Before} Before */
 
 /** The moves chosen so far, the last one first; and those to choose from, or none while they are looked for. */
 let chosen = /** @type {Before[]} */ ([]), offered = /** @type {Before[] | null} */ (null), fault = '',
     lacks = /** @type {string[]} */ ([]);
 
+/** The search for the longest introduction, and what it has found. */
+let going = /** @type {AbortController | null} */ (null),
+    intro = /** @type {import('./introduction.js').Introduction | null} */ (null);
+/** Searches beside what the user does, in the worker of facts, until it is stopped or all is looked at. */
+function searchLongest() {
+  const s = study(), mine = doc().lines, mySearch = going = new AbortController();
+  if (!s || !s.aim) return;
+  const shown = (/** @type {typeof intro} */ now) => {
+    if (going !== mySearch) return;
+    if (doc().lines !== mine) return void close();
+    intro = now;
+    draw();
+  };
+  const ended = (/** @type {Error} */ why) => {
+    if (going === mySearch) fault = why.message;
+  };
+  longest(s.fen, s.aim, shown, mySearch.signal, (fen, aim) => movesBefore(fen, aim, services.facts))
+    .then(shown, ended)
+    .finally(() => {
+      if (going !== mySearch) return;
+      going = null;
+      draw();
+    });
+  draw();
+}
+/**
+ * How far the search has come, and what begins with its moves.
+ * @param {import('./types.js').Study} s
+ */
+function longestView(s) {
+  if (!intro && !going)
+    return h(
+      'p', {}, button('Longest introduction', 'search back as far as only moves go', searchLongest, {id: 'longest'}));
+  const hero = s.aim ? s.aim.hero : 'White', best = intro ? intro.best : [], own = ownMoves(best, hero),
+        seconds = intro ? Math.round((performance.now() - intro.began) / 1000) : 0,
+        looked = counted(intro ? intro.looked : 0, 'position');
+  const words = `${best.length ? `${counted(own, 'only move')} in front` : 'No only move in front'}${
+    going ? ' so far' : ''}; ${looked} looked at in ${seconds} s${intro && intro.ended ? ', all there are' : ''}.`;
+  const take = () => {
+    chosen = best;
+    begin();
+  };
+  return [
+    h('p', {id: 'longestState'}, words, ' ',
+      going && button('Stop', 'keep what was found', () => going && going.abort(), {id: 'longestStop'})),
+    best.length > 0 &&
+      h('p', {}, best.map(move => `${move.san}${markSign(move)} `),
+        button('Begin with these', 'put them in front of the study', take, {id: 'longestBegin'}))
+  ];
+}
 export function openEarlier() {
   $('earlier').hidden = false;
   chosen = [];
   return look(study().fen);
 }
-/** Whether it was open. */
+/** A search ends with its panel. Whether it was open. */
 export function close() {
   const open = !$('earlier').hidden;
+  if (going) going.abort();
+  [going, intro] = [null, null];
   $('earlier').hidden = true;
   return open;
 }
@@ -92,9 +145,10 @@ function draw() {
     h('p', {class: 'chips'}, (offered || []).map(moveView)),
     offered && lacks.length > 0 &&
       h('p', {class: 'note'}, `Promotions are left out, since these tables are not there: ${lacks.join(' ')}.`),
+    study() && longestView(study()),
     chosen.length > 0 &&
       h('p', {}, button(`Begin with ${chosen[0].san}`, 'one move earlier alone', begin, {id: 'beginOne'})));
-  if (!offered && !fault) return;
+  if ((!offered && !fault) || going || intro) return;
   const first = $('earlier').querySelector('[data-before]') || $('closeEarlier');
   first.focus({preventScroll: true});
 }

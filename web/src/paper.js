@@ -1,5 +1,6 @@
 // @ts-check
-// The study on paper: what the printed page of the report has, in its order, whatever node is shown on the screen.
+// The study on paper: what the printed page of the report has, in its order, whatever node is shown on the screen; of
+// several studies their list first, and at the end a line for the judge.
 import {$, h, put} from './dom.js';
 import {besideDiagram, diagramOf} from './drawing.js';
 import {isKnown} from './edits.js';
@@ -73,10 +74,12 @@ function dualsView(s, root) {
 function studyPaper(s) {
   const view = app.view, root = view ? view.root : null, aim = s.aim ? aimText(s.aim) : 'No stipulation',
         start = startView(root ? root.fen : s.fen, aim, sourceText(s.origin), app.counts);
+  const list = paperList();
   return [
-    headOf(s), h('div', {class: 'first'}, start, h('div', {}, verdictView(s), faultsView(s))), h('h2', {}, 'Solution'),
-    root ? treeView(s, root) : bareView(s), root && dualsView(s, root), reviewView(s, true), paperList(),
-    h('div', {class: 'meaning'}, keyView())
+    list && h('div', {class: 'listed'}, list), headOf(s),
+    h('div', {class: 'first'}, start, h('div', {}, verdictView(s), faultsView(s))), h('h2', {}, 'Solution'),
+    root ? treeView(s, root) : bareView(s), root && dualsView(s, root), reviewView(s, true),
+    h('p', {class: 'judges'}, 'Remarks of the judge:'), h('div', {class: 'meaning'}, keyView())
   ];
 }
 /** A set-up that is no study yet: its diagram. */

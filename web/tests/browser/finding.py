@@ -142,4 +142,29 @@ def test_a_search_ends_with_its_panel(user):
     assert user.has("findGo") and not user.has("findStop"), user.text("finding")
 
 
+def test_the_longest_introduction(user):
+    """Only moves of the hero are put in front; it is stopped, and ends with its panel."""
+    user.open_tables(TABLES, SMALL)
+    user.promise("studyboard.open(a[0])", "position 8/8/8/4k3/8/4K3/1P6/8 b - - 0 1\nstipulate white win\n")
+    user.settle()
+    user.click("beginEarlier")
+    user.until("document.getElementById('longest')", 60)
+    user.settle()
+    user.click("longest")
+    user.until("document.getElementById('longestBegin')", 120)
+    said = r"\d+ only moves? in front so far; [\d,]+ positions? looked at in \d+ s\."
+    assert re.match(said, user.text("longestState")), user.text("longestState")
+    user.picture("longest", whole=False)
+    user.js("document.getElementById('longestStop').click()")
+    user.until("!document.getElementById('longestStop')", 60)
+    user.click("longestBegin")
+    user.settle()
+    marks = user.js("return [...document.querySelectorAll('.tree [data-path]')].map(e => e.className)")
+    assert marks and user.text("stamp") == "sound", (marks, user.text("stamp"))
+    assert script(user).count("insert") == len(marks) and any("only" in mark for mark in marks), marks
+    user.control("z")
+    user.settle()
+    assert "insert" not in script(user)
+
+
 run(globals(), sys.argv[2:])

@@ -62,7 +62,7 @@ def pages(user, name):
 
 def test_paper(user):
     """Whatever node is shown, in light and in dark: the start with its men, its FEN and its code, and the facts in the
-    order of the report; and the page is as before once it is printed."""
+    order of the report, the list of all studies on a page before it; and the page is as before once it is printed."""
     opened(user)
     user.go("0.0")
     before = user.text("middle")
@@ -70,13 +70,16 @@ def test_paper(user):
         text = pages(user, name)
         if text is None:
             return
+        first, rest = text.split("\f", 1)
+        assert "Entries and verdicts" in first and "Two" in first and "Solution" not in first, first
         order = ["One", "White to win (from the Result)", "2 + 1, 0000.10 h2g5", "Kh2 Pb2 / Kg5", FEN, "Solution",
                  "Quiet.", "The only move", "Mutual zugzwangs", "Defences not given",
-                 "Best play after the last move given", "Entries and verdicts", "Two"]
-        flat = re.sub(r"\s+", " ", text)
+                 "Best play after the last move given", "Remarks of the judge:"]
+        flat = re.sub(r"\s+", " ", rest)
         places = [flat.find(words) for words in order]
         assert -1 not in places, [words for words, at in zip(order, places) if at < 0]
         assert places[5:] == sorted(places[5:]), list(zip(order, places))
+        assert "Entries and verdicts" not in flat
         assert "After 1... Kf5" not in flat and "Save report" not in flat and "accepted" not in flat
         user.click("theme")
     assert user.text("middle") == before and not user.js("return document.getElementById('paper').children.length")
