@@ -22,8 +22,8 @@ import {counted, moveName, reason} from './words.js';
  */
 export function sayOpened(before) {
   const refused = doc().refused.length,
-        place =
-          before.studies.length && before.id !== doc().id ? 'The document before is kept: Documents lists it.' : '';
+        isKept = before.studies.length > 0 && before.id !== doc().id && before.id !== app.looked,
+        place = isKept ? 'The document before is kept: Documents lists it.' : '';
   if (app.say || !(refused || place)) return;
   const were = refused === 1 ? 'was' : 'were';
   const lines = `${counted(refused, 'line')} of this script ${were} refused; they are listed below the study. `;

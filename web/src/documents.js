@@ -52,22 +52,25 @@ export async function otherPages() {
 
 /**
  * Whether the document was only looked at so far.
- * @param {any} draft
+ * @param {any} draft      of another position for it
  */
 const isLookedAt = draft =>
   doc().id !== '' && doc().id === app.looked && !draft && !app.history.past.length && !app.history.future.length;
-/** Keeps the document and the set-up as they are; not a document that is only looked at. */
+/**
+ * Keeps the document and the set-up as they are. A document that is only looked at is not kept: a reload shows the one
+ * before.
+ */
 export function keep() {
-  const draft = draftKept(), own = ownDraft() === doc().id ? '' : ownDraft();
+  const draft = draftKept(), own = ownDraft() === doc().id ? '' : ownDraft(), looked = isLookedAt(own ? null : draft);
   let kept = true;
-  if (isLookedAt(draft)) return;
-  if (doc().id) kept = keeper.keep(app.history, own ? null : draft, services.tables.knownClasses(fensOf(doc().lines)));
+  if (doc().id && !looked)
+    kept = keeper.keep(app.history, own ? null : draft, services.tables.knownClasses(fensOf(doc().lines)));
   if (own && draft) kept = keeper.keep(firstOf({...blank, id: own}), draft, []) && kept;
   else if (own && headAt(keeper.placeOf(own))) keeper.remove(keeper.placeOf(own));
   $('unkept').hidden = kept;
+  const before = looked ? (pointer() || {id: ''}).id : doc().id && keeper.placeOf(doc().id);
   try {
-    session.setItem(SESSION,
-      JSON.stringify({id: doc().id && keeper.placeOf(doc().id), draft: own && draft ? keeper.placeOf(own) : ''}));
+    session.setItem(SESSION, JSON.stringify({id: before, draft: own && draft ? keeper.placeOf(own) : ''}));
   } catch { /* a new page then */
   }
 }

@@ -61,6 +61,11 @@ def test_hits_are_looked_at_and_kept_once_changed(user):
     user.settle()
     assert position(user) == fens[1] and documents(user) == 1
     assert user.js("return document.getElementById('undo').disabled")
+    user.click("new")
+    user.settle()
+    user.click("cancel")
+    user.settle()
+    assert position(user) == fens[1] and documents(user) == 1
     user.fill("tagWhite", "A. Composer")
     assert documents(user) == 2
     kept = script(user)
@@ -101,6 +106,7 @@ def test_all_hits_as_a_script(user):
     user.settle()
     text = script(user)
     assert re.findall(r"^position (.*)$", text, re.M) == fens and documents(user) == 1
+    assert not user.text("sayBoard")
     assert re.findall(r"^tag Event (.*)$", text, re.M)[-1] == "KPK win 6, 15"
     verdicts = user.promise("studyboard.run(a[0], 1000)", "".join(f"load {name}\n" for name in SMALL) + text + "pgn\n")
     assert "error" not in verdicts
