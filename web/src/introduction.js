@@ -1,6 +1,6 @@
 // @ts-check
-// The longest introduction of a study: moves before its start of which the hero's are each the only one to work, and
-// the opponent's no mistake. The way that goes back farthest is followed first.
+// The longest introduction of a study: moves before its start. Each move of the hero is the only one to work, and no
+// move of the opponent is a mistake. The way that goes back farthest is followed first.
 import {aimBefore, movesBefore} from './earlier.js';
 import {other, sideOf} from './fen.js';
 /** @typedef {import('./earlier.js').Before} Before @typedef {import('./types.js').Aim} Aim */
