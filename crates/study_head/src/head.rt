@@ -5,8 +5,8 @@ ghost use Rattle.study_marks.specs.Study.{tag_of};
 ghost use Rattle.study_marks.specs.declared.tag.TagName.TheVariants as tag;
 ghost use Rattle.study_html.specs.Elements.{element_text};
 ghost use Rattle.study_html.specs.Escape.{escaped_text};
-ghost use Rattle.study_head.specs.Known.{known_words, date_words};
-ghost use Rattle.study_head.specs.Head.{title_words, behind, byline_item, round_words, byline, head, moves_first, men_words, caption, figure};
+ghost use Rattle.study_head.specs.Known.{known_words};
+ghost use Rattle.study_head.specs.Head.{title_words, behind, byline_item, round_words, head, moves_first, men_words, caption, figure};
 
 use crate::diagram::{add_control, draw_board};
 use crate::gbr_code::add_counts;

@@ -1,13 +1,10 @@
 //! What a judge asks of a solution beside the marks of its moves.
-ghost use Rattle.std.specs.Prelude.{◌≡◌, ◌-◌, ◌<◌, ◌≤◌, ◌^◌, ◌==◌, Some, length, take, nat_lt, is_some, option_copied, slice_get, if◌then◌else◌};
-ghost use Rattle.study_tree.specs.Tree.{spot_at};
-ghost use Rattle.study_marks.specs.Bench.{played_by};
+ghost use Rattle.std.specs.Prelude.{◌≡◌, ◌<◌, ◌≤◌, ◌^◌, length};
 ghost use Rattle.study_marks.specs.BenchState.{marked_study};
-ghost use Rattle.study_facts.specs.Order.{has_no_grandchild};
 ghost use Rattle.study_facts.specs.StudyNode.{IsStudyMove, IsStudyNode};
-ghost use Rattle.study_head.specs.Solution.{kind_at, is_first_move, dual_kind, one_more, counted, rank, after_turn, turn_depth, named_turn, turn_at};
+ghost use Rattle.study_head.specs.Solution.{kind_at, dual_kind, one_more, counted, rank, turn_depth, turn_at};
 ghost use Rattle.study_head.specs.Solution.{first_other, named_at, dual_at, is_worse, worse_of, with_dual, first_reply, with_mistake, lasts_as_long};
-ghost use Rattle.study_head.specs.Solution.{is_main_defence, main_defence, named_defence, with_missing, is_given_defence, no_counts, no_facts};
+ghost use Rattle.study_head.specs.Solution.{main_defence, named_defence, with_missing, is_given_defence, no_facts};
 ghost use Rattle.study_head.specs.MainLine.{is_main};
 
 use crate::mistake::NamedMove;

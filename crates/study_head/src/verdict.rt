@@ -1,7 +1,7 @@
 //! The verdict on a study, and its words.
 ghost use Rattle.std.specs.Prelude.{◌≡◌, IfSome};
 ghost use Rattle.study_marks.specs.BenchState.{marked_study};
-ghost use Rattle.study_head.specs.Verdict.{asks_too_little, excess_stamp, wrong_stamp, other_named, is_cook, cook_of, dual_stamp, solution_stamp};
+ghost use Rattle.study_head.specs.Verdict.{asks_too_little, excess_stamp, wrong_stamp, other_named, cook_of, dual_stamp, solution_stamp};
 ghost use Rattle.study_head.specs.Verdict.{stamp_of, IsLegalStamp, judgement_of, standing_stamp, is_whole, entry_judgement};
 
 use crate::mistake::{NamedMove, copy_of, first_mistake};

@@ -1,12 +1,12 @@
 //! The words of a verdict.
-ghost use Rattle.std.specs.Prelude.{◌≡◌, ◌++◌, ◌<◌, ◌^◌, OnOk};
+ghost use Rattle.std.specs.Prelude.{◌≡◌, ◌++◌, OnOk};
 ghost use Rattle.study_head.specs.Verdict.{IsLegalStamp, not_read, unread_words, goal_words, misses_words, wins_words, wrong, fails_at, legal_name};
 ghost use Rattle.study_head.specs.Verdict.{reply_words, fails_words, cook_words, duals_words, part_words, kinds_words, variations_words, last_words};
 ghost use Rattle.study_head.specs.Verdict.{duals_stamp, framed_name, missing_words, sound_words, stamp_words, wrong_sentence, full_stop, has_duals};
 ghost use Rattle.study_head.specs.Verdict.{duals_sentence, misses_sentence, has_mistake, fails_sentence, has_cook, cook_sentence};
 ghost use Rattle.study_head.specs.Verdict.{only_moves_sentence, missing_sentence, stamp_sentence, no_solution_words, sentence, at_start, start_words};
 ghost use Rattle.study_head.specs.Verdict.{verdict_words, more_words, san_of, others_words, waste_words, dual_words, first_fault};
-ghost use Rattle.study_head.specs.Mistake.{IsLegalMove, move_name};
+ghost use Rattle.study_head.specs.Mistake.{IsLegalMove};
 ghost use Rattle.study_pgn.specs.Values.{value_text};
 
 use crate::mistake::{NamedMove, add_move_name};

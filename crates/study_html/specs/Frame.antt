@@ -34,8 +34,8 @@ front =
     ++ (codes "999;padding-top:1mm;font-size:8.5pt;color:#333}\n@media print{body{padding:0}article+article{margin-top:0}a{color:inherit}.stamp,."
     ++ (codes "dk{print-color-adjust:exact}}\n@media screen and (max-width:700px){body{padding:4mm}.top,.cards{grid-template-columns:1fr}}\n.warn"
     ++ (codes "{color:#9c1119;font-style:italic}\n.keep{break-inside:avoid}\n.mini use{stroke-width:2.3}\n"
-    ++ (codes "@media print{body{display:flex;flex-direction:column}.sum{order:-1}article.sum:last-child{break-after:page}article~article>footer{display:none}\n"
-    ++ (codes "article:not(.sum)::after{content:\"Remarks:\";display:block;margin-top:6mm;padding-bottom:8mm;border-bottom:.5pt solid #999;"
+    ++ (codes "@media print{body{display:flex;flex-direction:column}.sum{order:-1}article.sum:last-child{break-after:page}article~article>footer"
+    ++ (codes "{display:none}\narticle:not(.sum)::after{content:\"Remarks:\";display:block;margin-top:6mm;padding-bottom:8mm;border-bottom:.5pt solid #999;"
     ++ codes "font-size:9pt;color:#333}}\n\n")))))))))))))))))))))))))))))))
 
 unfoldable pub back : List ℕ

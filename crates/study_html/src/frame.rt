@@ -1,5 +1,5 @@
 //! The texts before the first page and after the last.
-ghost use Rattle.std.specs.Prelude.{◌≡◌, ◌++◌, OnOk, OnErr};
+ghost use Rattle.std.specs.Prelude.{◌≡◌, OnOk, OnErr};
 ghost use Rattle.std.specs.Io.KnownBytes.{Appends};
 ghost use Rattle.study_text.specs.Taken.{TakesPrefix};
 ghost use Rattle.study_html.specs.Frame.{front, back, page_opening, sheet_style, sheet_opening, page_closing};

@@ -1,7 +1,7 @@
 //! What is written of defences that the tree lacks: those with one answer by this answer.
 ghost use Rattle.std.specs.Prelude.{◌≡◌, ◌++◌, ◌-◌, ◌<◌, ◌≤◌, ◌^◌, true, length, take, drop, OnOk, IfSome};
 ghost use Rattle.std.specs.List.{All, flat_map};
-ghost use Rattle.study_moves.specs.Rules.{is_legal, after};
+ghost use Rattle.study_moves.specs.Rules.{is_legal};
 ghost use Rattle.study_moves.specs.LegalList.{legal_list};
 ghost use Rattle.study_facts.specs.Play.{IsPlayed};
 ghost use Rattle.study_page.specs.Rows.{several_words, several_item, each_several, is_answer, has_answer, defence_item, with_answer};

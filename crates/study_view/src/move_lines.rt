@@ -1,5 +1,5 @@
 //! The mark of a move, by the values after all legal moves.
-ghost use Rattle.std.specs.Prelude.{◌≡◌, ◌+◌, ◌≤◌, ◌<◌, ◌^◌, ◌++◌, true, length, Some, OnOk};
+ghost use Rattle.std.specs.Prelude.{◌≡◌, ◌+◌, ◌≤◌, ◌<◌, ◌^◌, ◌++◌, true, length, OnOk};
 ghost use Rattle.std.specs.List.{All, flat_map};
 ghost use Rattle.study_moves.specs.Rules.{is_legal};
 ghost use Rattle.study_view.specs.Marking.{holding_count, line_of_move};

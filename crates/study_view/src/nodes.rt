@@ -1,5 +1,5 @@
 //! The lines of all nodes, in written order.
-ghost use Rattle.std.specs.Prelude.{◌≡◌, ◌++◌, ◌∷◌, [], Option, None, IsTrue, OnOk};
+ghost use Rattle.std.specs.Prelude.{◌≡◌, ◌++◌, ◌∷◌, [], Option, IsTrue, OnOk};
 ghost use Rattle.study_tree.specs.Tree.{has_spot};
 ghost use Rattle.study_marks.specs.BenchState.{marked_study};
 ghost use Rattle.study_marks.specs.FaultSums.{below_at};

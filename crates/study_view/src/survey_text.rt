@@ -1,5 +1,5 @@
 //! The text of a survey, and writing it.
-ghost use Rattle.std.specs.Prelude.{◌≡◌, ◌++◌, ◌↔◌, List, ℕ, true, None, OnOk, IfOk, Ok, Err, codes, decimal};
+ghost use Rattle.std.specs.Prelude.{◌≡◌, ◌++◌, ◌↔◌, List, ℕ, true, None, OnOk, IfOk, Err, codes, decimal};
 ghost use Rattle.std.specs.List.{All, flat_map};
 ghost use Rattle.std.specs.Io.KnownBytes.{Appends};
 ghost use Rattle.study_board.specs.Position.{man_at};
