@@ -1,9 +1,11 @@
 -- A study on a sheet of diagrams.
-use Rattle.std.specs.Prelude.{◌≡◌, ℕ, ◌==◌, List, [], ◌++◌, length, Option, Some, None, if◌then◌else◌, codes, decimal}
-use Rattle.study_moves.specs.declared.moves.Move.{Move}
+use Rattle.std.specs.Prelude.{◌≡◌, ℕ, ◌==◌, Bool, List, [], ◌++◌, length, if◌then◌else◌, codes, decimal}
+use Rattle.study_board.specs.Position.{Position}
+use Rattle.study_moves.specs.Rules.{after}
 use Rattle.study_notation.specs.declared.start.Start.{Start}
 use Rattle.study_tree.specs.Forest.{Forest, none, more}
 use Rattle.study_marks.specs.Edits.{PlainStudy}
+use Rattle.study_marks.specs.Goals.{aim_of}
 use Rattle.study_marks.specs.Study.{Study, tag_of}
 use Rattle.study_marks.specs.declared.stipulation.Stipulation.{Stipulation}
 use Rattle.study_marks.specs.declared.tag.TagName.TheVariants.{White}
@@ -26,27 +28,32 @@ number_words number stipulation = decimal number ++ (codes ". " ++ stipulation)
 abbrev pub author_line : List ℕ → List ℕ
 author_line author = if length author == 0 then [] else drawing_text Break ++ escaped_text author
 
--- `1. Ke8`: a move from the start, with its number
-abbrev pub key_words : Start → Option Move → List ℕ
-key_words start None = []
-key_words start (Some m) = label start 0 start.position m
-
 -- below a diagram: the number, the stipulation, who moves first if Black does, the author and the key
-unfoldable pub place_caption : ℕ → Stipulation → Start → List ℕ → Option Move → List ℕ
+unfoldable pub place_caption : ℕ → Stipulation → Start → List ℕ → List ℕ → List ℕ
 place_caption number stipulation start author key =
     element_text Caption (element_text Strong (escaped_text (number_words number (stipulation_text stipulation)))
-    ++ (escaped_text (moves_first start.position.to_move) ++ (author_line author ++ (drawing_text Break ++ escaped_text (key_words start key)))))
+    ++ (escaped_text (moves_first start.position.to_move) ++ (author_line author ++ (drawing_text Break ++ escaped_text key))))
 
 module _ {L : Type 0} where
-  -- the key: the first move of the solution, if there is one
-  abbrev pub key_of : Forest L → Option Move
-  key_of none = None
-  key_of (more m l below rest) = Some m
+  -- `1. Ke8`: of these moves from p at depth d the first, with its number, if there is one
+  abbrev pub first_words : Start → ℕ → Position → Forest L → List ℕ
+  first_words start d p none = []
+  first_words start d p (more m l below rest) = label start d p m
+
+  -- the same of the moves behind the first of these from the start
+  abbrev pub second_words : Start → Forest L → List ℕ
+  second_words start none = []
+  second_words start (more m l below rest) = first_words start 1 (after start.position m) below
+
+  -- the key: the hero's first move in the main line, whose second move it is if the opponent moves first
+  abbrev pub key_words : Start → Bool → Forest L → List ℕ
+  key_words start hero_first f = if hero_first then first_words start 0 start.position f else second_words start f
 
   -- a study on a sheet: the diagram of the start, with what is below it
   unfoldable pub place : Study L → ℕ → List ℕ
   place s number =
-      element_text Figure (board s.start.position ++ place_caption number s.stipulation s.start (known_words (tag_of s.tags White)) (key_of s.tree.below))
+      element_text Figure (board s.start.position ++ place_caption number s.stipulation s.start (known_words (tag_of s.tags White))
+      (key_words s.start (aim_of s).hero_first s.tree.below))
 
 -- the place of this study, with this number
 abbrev pub IsPlaceOf : PlainStudy → ℕ → List ℕ → Type 0

@@ -1,13 +1,16 @@
 //! A study on a sheet of diagrams.
-ghost use Rattle.std.specs.Prelude.{◌≡◌, ℕ, List, ◌++◌, OnOk, IfOk, Err};
+ghost use Rattle.std.specs.Prelude.{◌≡◌, ℕ, List, [], ◌∷◌, ◌++◌, Some, OnOk, IfOk, Err};
 ghost use Rattle.std.specs.Io.KnownBytes.{Appends};
 ghost use Rattle.study_text.specs.Taken.{TakesPrefix};
+ghost use Rattle.study_tree.specs.Tree.{spot_at};
+ghost use Rattle.study_marks.specs.Bench.{played_by};
 ghost use Rattle.study_marks.specs.BenchState.{marked_study};
+ghost use Rattle.study_marks.specs.Goals.{aim_of};
 ghost use Rattle.study_marks.specs.Study.{tag_of, plain_study};
 ghost use Rattle.study_marks.specs.declared.tag.TagName.TheVariants as tag;
 ghost use Rattle.study_head.specs.Known.{known_words};
 ghost use Rattle.study_pgn.specs.Pgn.{stipulation_text};
-ghost use Rattle.study_page.specs.Sheet.{number_words, author_line, key_words, key_of, place_caption, place, IsPlaceOf};
+ghost use Rattle.study_page.specs.Sheet.{number_words, author_line, first_words, second_words, key_words, place_caption, place, IsPlaceOf};
 
 use std::alloc::{AllocError, Allocator};
 use std::io::Write;
@@ -15,6 +18,7 @@ use study_facts::{WriteFault, move_to};
 use study_head::{add_label, draw_board, known_tag, moves_first};
 use study_html::{Drawing, Element, Html, put_words};
 use study_marks::{Bench, TagName};
+use study_moves::{Move, played};
 use study_pgn::add_stipulation;
 use study_text::{Text, write_text};
 
@@ -44,19 +48,69 @@ fn say_author<A: Allocator>(html: &mut Html<'_, A>, author: &[u8]) -> Result<(),
     html.say(author)
 }
 
-/// The first move of the solution, with its number.
-fn add_key<'b, A: Allocator, B: Allocator>(
+/// The hero's first move, with its number, where he moves first.
+fn add_first<'b, A: Allocator, B: Allocator>(
     text: &mut Text<'_, A>,
     bench: &Bench<'b, B>,
 ) -> Result<(), AllocError>
     ensures { OnOk result (text.new ≡ text.old
-        ++ key_words (marked_study bench.now).start (key_of (marked_study bench.now).tree.below)) }
+        ++ first_words (marked_study bench.now).start 0 (marked_study bench.now).start.position
+        (marked_study bench.now).tree.below) }
 {
     let first = bench.start();
     match move_to(bench, &[0]) {
         None => Ok(()),
         Some(m) => add_label(text, first, 0, &first.position, m),
     }
+}
+
+/// The hero's first move, with its number, after this move of the opponent.
+fn add_answer<'b, A: Allocator, B: Allocator>(
+    text: &mut Text<'_, A>,
+    bench: &Bench<'b, B>,
+    m: Move,
+) -> Result<(), AllocError>
+    requires { played_by (spot_at (marked_study bench.now).tree (0 ∷ [])) ≡ Some m }
+    ensures { OnOk result (text.new ≡ text.old
+        ++ second_words (marked_study bench.now).start (marked_study bench.now).tree.below) }
+{
+    let first = bench.start();
+    match move_to(bench, &[0, 0]) {
+        None => Ok(()),
+        Some(answer) => {
+            let next = played(&first.position, m);
+            add_label(text, first, 1, &next, answer)
+        }
+    }
+}
+
+/// The hero's first move, with its number, where the opponent moves first.
+fn add_second<'b, A: Allocator, B: Allocator>(
+    text: &mut Text<'_, A>,
+    bench: &Bench<'b, B>,
+) -> Result<(), AllocError>
+    ensures { OnOk result (text.new ≡ text.old
+        ++ second_words (marked_study bench.now).start (marked_study bench.now).tree.below) }
+{
+    match move_to(bench, &[0]) {
+        None => Ok(()),
+        Some(m) => add_answer(text, bench, m),
+    }
+}
+
+/// The hero's first move in the main line, with its number.
+fn add_key<'b, A: Allocator, B: Allocator>(
+    text: &mut Text<'_, A>,
+    bench: &Bench<'b, B>,
+) -> Result<(), AllocError>
+    ensures { OnOk result (text.new ≡ text.old
+        ++ key_words (marked_study bench.now).start (aim_of (marked_study bench.now)).hero_first
+        (marked_study bench.now).tree.below) }
+{
+    if bench.stipulation().hero == bench.start().position.to_move() {
+        return add_first(text, bench);
+    }
+    add_second(text, bench)
 }
 
 /// What is below the diagram.
@@ -69,7 +123,9 @@ fn put_place_caption<'a, 'b, A: Allocator, B: Allocator>(
 ) -> Result<(), AllocError>
     ensures { OnOk result (html.new ≡ html.old
         ++ place_caption number (marked_study bench.now).stipulation (marked_study bench.now).start
-        (known_words (tag_of (marked_study bench.now).tags tag.White)) (key_of (marked_study bench.now).tree.below)) }
+        (known_words (tag_of (marked_study bench.now).tags tag.White))
+        (key_words (marked_study bench.now).start (aim_of (marked_study bench.now)).hero_first
+        (marked_study bench.now).tree.below)) }
 {
     let mut within = Html::new(alloc);
     let mut numbered = Text::new(alloc);
@@ -115,7 +171,7 @@ fn plain_place_of<'a, 'b, A: Allocator, B: Allocator>(
 }
 
 /// Writes a study as a place on a sheet, twelve of which fill a page: the diagram of its start, with its number, what is to be done, its
-/// author and the first move of its solution below.
+/// author and the key below.
 pub fn write_place<'a, 'b, A: Allocator, B: Allocator, W: Write>(
     alloc: &'a A,
     bench: &Bench<'b, B>,

@@ -7,8 +7,8 @@ use study_script::{RunFault, Summary};
 use study_sheet::write_sheet;
 use study_text::{MemoryReader, MemoryWriter, WhenFull};
 
-/// Two studies, of which the second begins with a move of Black and has no author, one without a move, a refused line, and remarks of studyimport,
-/// which are not shown.
+/// Two studies, of which the second begins with a move of Black and has no author; one in which Black moves first and White is the hero, before White's
+/// first move is given and after it; a refused line, and remarks of studyimport, which are not shown.
 const SCRIPT: &str = "position k7/8/8/8/8/8/8/K7 w - - 0 1
 stipulate white draw
 tag White R & D
@@ -25,6 +25,10 @@ pgn
 position k7/8/8/8/8/8/8/K7 b - - 0 1
 #! White was: R
 stipulate white draw
+insert root Kb8
+pgn
+insert 0 Kb2
+insert 0.0 Ka7
 pgn
 #! game 3, line 31: left out: 7 men
 ";
@@ -43,7 +47,11 @@ const PLACES: &str =
 <figure><svg class=\"board\" role=\"img\" viewBox=\"-14 -3 377 380\"><title>White Ka1; Black Ka8; Black to move</title>\
 <use href=\"#board\"/><use href=\"#coordinates\"/><use class=\"w\" href=\"#mK\" x=\"0\" y=\"315\" width=\"45\" height=\"45\"/>\
 <use class=\"b\" href=\"#mK\" x=\"0\" y=\"0\" width=\"45\" height=\"45\"/></svg>\
-<figcaption><b>3. White to draw</b>, Black to move<br></figcaption></figure></body></html>\n";
+<figcaption><b>3. White to draw</b>, Black to move<br></figcaption></figure>\
+<figure><svg class=\"board\" role=\"img\" viewBox=\"-14 -3 377 380\"><title>White Ka1; Black Ka8; Black to move</title>\
+<use href=\"#board\"/><use href=\"#coordinates\"/><use class=\"w\" href=\"#mK\" x=\"0\" y=\"315\" width=\"45\" height=\"45\"/>\
+<use class=\"b\" href=\"#mK\" x=\"0\" y=\"0\" width=\"45\" height=\"45\"/></svg>\
+<figcaption><b>4. White to draw</b>, Black to move<br>2. Kb2</figcaption></figure></body></html>\n";
 
 /// The text that the sheet of a script over the table of two kings writes to this writer, and the result.
 pub fn sheet_to<'a>(
@@ -71,7 +79,7 @@ fn each_study_has_its_place(rt: HostRuntime) -> Result<(), Fail> {
     assert!(rt; head.contains("body>figure{display:inline-block;"));
     assert!(rt; places == PLACES);
     let wanted = Summary {
-        lines: 18,
+        lines: 22,
         refused: 1,
     };
     assert_eq!(rt; answer, Ok(wanted));

@@ -4,7 +4,7 @@ use Rattle.study_marks.specs.BenchState.{marked_study}
 use Rattle.study_marks.proofs.MovesToNode.{legal-last}
 use Rattle.study_head.specs.Words.{label}
 use Rattle.study_page.proofs.KeyMade.{key_none, key_some}
-use Rattle.study_page.proofs.sheet.add_key.Goals as goal
+use Rattle.study_page.proofs.sheet.add_first.Goals as goal
 
 pub add_label-requires : goal.add_label-requires
 add_label-requires g c =
