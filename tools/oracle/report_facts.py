@@ -407,13 +407,37 @@ def named(study, path, fact):
     return fact[1] + (f" ({cost[2:]})" if cost else "")
 
 
+def late(study, path):
+    """By how many of his moves the hero mates too late for `mate in k`, at a node: 0 where he does not."""
+    asked, value = re.fullmatch(r"(White|Black) to mate in (\d+)", study.asked), study.node[path].value
+    if not asked or moves_of(value) is None or not (value.startswith(asked.group(1)) or value == "mate" and not study.hero(path)):
+        return 0
+    return max(0, sum(study.hero(path[:n]) for n in range(len(path))) + moves_of(value) - int(asked.group(2)))
+
+
+def late_words(moves):
+    return "" if moves == 0 else ", one move too late" if moves == 1 else f", {moves} moves too late"
+
+
+def is_try(study, path):
+    """Whether the hero's move to a node is a mistake, or the first idle move on a path to which the solution leads."""
+    def idle(n):
+        return study.hero(path[:n]) and study.node[path[:n + 1]].mark is None
+
+    if not path or not study.hero(path[:-1]):
+        return False
+    mark, front = study.node[path].mark, range(len(path) - 1)
+    leads = all(path[n] == 0 or not study.hero(path[:n]) for n in front)
+    return mark == "mistake" or idle(len(path) - 1) and leads and not any(idle(n) for n in front)
+
+
 def faults(study):
     items = ""
     for fact in study.of("fault"):
         path = () if fact[0] == "root" else tuple(map(int, fact[0].split(".")))
         label = study.label(path)
         if fact[-1] == "mistake":
-            items += inside("li", say(f"{label} throws it away: {study.node[path].value}"))
+            items += inside("li", say(f"{label} throws it away: {study.node[path].value}{late_words(late(study, path))}"))
         else:
             others = [named(study, path, also) for also in study.of("also", path)]
             more = f" and {len(others) - 6} more" if len(others) > 6 else ""
@@ -622,14 +646,18 @@ def legal(study, path):
 
 def tries(study):
     rows = ""
-    for path, refuted in facts_about(study, "refuted"):
-        cell = ""
+    for path in study.order:
+        refuted, cell = study.of("refuted", path), ""
+        if is_try(study, path) and study.node[path].value == "mate":  # of which the lines have no refutation
+            cell = "mate" + late_words(late(study, path))
+        elif not refuted:
+            continue
         for fact in refuted:
             if fact[1:] == ["stalemate"]:
                 cell += "stalemate"
             else:
                 cell += inside("span", move_and_value(study, path, fact[1], " ".join(fact[2:])), 'class="nb"') + " "
-        if refuted[0][1:] != ["stalemate"]:
+        if refuted and refuted[0][1:] != ["stalemate"]:
             cell += inside("b", "only") if len(refuted) == 1 else inside("small", f"({len(refuted)} of {legal(study, path)})")
         rows += inside("tr", inside("td", say(study.label(path))) + inside("td", say(study.node[path].value)) + inside("td", cell))
     return table("Tries and their refutations", ("After", "Result", "Refuted by"), rows)

@@ -178,7 +178,7 @@ function mistakeView(s, n) {
   const better = n.parent ? n.parent.children.find(holds) : undefined, late = s.aim ? lateBy(s.aim, n) : 0;
   return [
     nodeLink(n), h('b', {}, wordOf('lets-go')), valueText(sideOf(n.fen), n.value),
-    late > 0 && `, ${counted(late, 'move')} too late`, ' ',
+    late > 0 && `, ${late === 1 ? 'one move' : `${late} moves`} too late`, ' ',
     better && [h('button', {class: 'chip act', onclick: () => promote(better, true)}, `Put ${better.san} first`), ' '],
     cut(n, 'Delete it')
   ];

@@ -1,5 +1,5 @@
 -- What the parts of a page have of one node.
-use Rattle.std.proofs.Common.{◌≡◌, ℕ, Bool, true, false, List, [], ◌++◌, Option, Some, None, length, Result, Ok, Err, OnOk, refl}
+use Rattle.std.proofs.Common.{◌≡◌, ◌≤◌, ℕ, Bool, true, false, arith, List, [], ◌∷◌, ◌++◌, Option, Some, None, length, Result, Ok, Err, OnOk, refl}
 use Rattle.std.proofs.Common.{sym, ap, subst, ◌∙◌}
 use Rattle.std.specs.Prelude.{MatchOption, if◌then◌else◌}
 use Rattle.study_notation.specs.declared.start.Start.{Start}
@@ -58,6 +58,12 @@ grew-to Lines old mid new e h = (h.0, h.1, e ∙ h.2)
 
 pub grew-from : (Lines : List ℕ → Type 0) (old mid new : List ℕ) → mid ≡ old → Grew Lines mid new → Grew Lines old new
 grew-from Lines old mid new e h = (h.0, h.1, h.2 ∙ ap (λ (t : List ℕ). t ++ h.0) e)
+
+-- the node before is no deeper
+pub before-shallow : (path : List ℕ) → length (parent_path path) ≤ length path
+before-shallow [] = omega arith
+before-shallow (k ∷ []) = omega arith
+before-shallow (k ∷ j ∷ js) = let less = before-shallow (j ∷ js) in omega (arith, less)
 
 -- of a dual with these others, where it is listed
 module _ (a : Aim) (d : ℕ) (line : List Position) (p : Position) (m : Move) (list : List Alternative) (are : AreTimedAlternatives a d line p m list) where
@@ -122,17 +128,19 @@ module _ (s : Study Mark) (x : StudyMove) (h : IsStudyMove s x) where
       listed false k = k
 
   pub mistake-listed : (start : Start) (old new : List ℕ) → Some Mistake ≡ x.mark.on_move → start ≡ s.start
-      → new ≡ old ++ (if x.solution then mistake_item start x.before.depth x.before.position.now x.played x.mark.value else [])
+      → new ≡ old ++ (if x.solution then mistake_item start x.before.aim.now x.before.depth x.before.position.now x.played x.mark.value
+      else [])
       → Grew (FaultItems s x.steps.now) old new
   mistake-listed start old new e st grew = fault-listed (Some Mistake) old new e (listed x.solution grew)
     where
-      listed : (b : Bool) → new ≡ old ++ (if b then mistake_item start x.before.depth x.before.position.now x.played x.mark.value else [])
+      listed : (b : Bool) → new ≡ old ++ (if b then mistake_item start x.before.aim.now x.before.depth x.before.position.now x.played
+          x.mark.value else [])
           → Grew (EmptyUnless b (IsFaultOf s.start x.before.aim.now x.before.depth x.line.now x.before.position.now x.played x.mark.value (Some Mistake))) old
           new
       listed true k = (
-        mistake_item s.start x.before.depth x.before.position.now x.played x.mark.value,
+        mistake_item s.start x.before.aim.now x.before.depth x.before.position.now x.played x.mark.value,
         refl,
-        k ∙ ap (λ (t : Start). old ++ mistake_item t x.before.depth x.before.position.now x.played x.mark.value) st,
+        k ∙ ap (λ (t : Start). old ++ mistake_item t x.before.aim.now x.before.depth x.before.position.now x.played x.mark.value) st,
       )
       listed false k = ([], refl, k)
 
@@ -207,15 +215,16 @@ module _ (s : Study Mark) (x : StudyNode) (h : IsStudyNode s x) where
 
   pub try-evaluated : (list : List EvaluatedMove) (old new : List ℕ) → x.tried ≡ true
       → AreRefutations x.node.aim.now x.node.depth x.node.position.now list
-      → new ≡ old ++ try_row (where_words s x.steps.now) x.node.position.now x.value list → Grew (TryRows s x.steps.now) old new
+      → new ≡ old ++ try_row (where_words s x.steps.now) x.node.aim.now x.node.depth x.node.position.now x.value list → Grew (TryRows s x.steps.now) old new
   try-evaluated list old new is k grew =
       are-there (is_try s here) _ old new (sym h.tried ∙ is) (
-        try_row (where_words s here) x.node.position.now x.value list,
+        try_row (where_words s here) x.node.aim.now x.node.depth x.node.position.now x.value list,
         (
           list,
           as-placed s x h (λ a d p. AreRefutations a d p list) k,
-          ap (λ (p : Position). try_row (where_words s here) p x.value list) h.node.position
-              ∙ ap (λ v. try_row (where_words s here) (position_at s here) v list) h.value,
+          as-placed s x h (λ a d p. try_row (where_words s here) x.node.aim.now x.node.depth x.node.position.now x.value list
+              ≡ try_row (where_words s here) a d p x.value list) refl
+              ∙ ap (λ v. try_row (where_words s here) (aim_of s) (length here) (position_at s here) v list) h.value,
         ),
         grew,
       )

@@ -66,7 +66,7 @@ module _ (law : EachHasAtMostOneValue) (s : Study Mark) (path : List ℕ) where
       (value_at s path) (mark_at s path))
 
   tries-once : One (TryRows s path)
-  tries-once = one-where (is_try s path) _ (λ t u h j. h.2 ∙ ap (try_row (where_words s path) (position_at s path) (value_at s path))
+  tries-once = one-where (is_try s path) _ (λ t u h j. h.2 ∙ ap (try_row (where_words s path) (aim_of s) (length path) (position_at s path) (value_at s path))
       (one-chosen law (λ v. not (holds (aim_of s) (length path + 1) v)) (position_at s path) (legal_list (position_at s path)) h.0 j.0 h.1 j.1) ∙ sym j.2)
 
   defences-once : One (DefenceRows s path)

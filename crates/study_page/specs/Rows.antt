@@ -1,6 +1,6 @@
 -- What the parts of a page have of one node.
-use Rattle.std.specs.Prelude.{◌≡◌, ◌==◌, nat_lt, ℕ, ◌+◌, ◌-◌, ◌/◌, Bool, true, false, ◌||◌, List, [], ◌∷◌, ◌++◌, length, take, drop, Option, Some, None}
-use Rattle.std.specs.Prelude.{MatchOption, if◌then◌else◌, codes, decimal}
+use Rattle.std.specs.Prelude.{◌≡◌, ◌==◌, nat_lt, ℕ, ◌+◌, ◌-◌, ◌/◌, Bool, true, false, ◌||◌, List, [], ◌∷◌, ◌++◌, length, take, drop}
+use Rattle.std.specs.Prelude.{Option, Some, None, MatchOption, if◌then◌else◌, codes, decimal}
 use Rattle.std.specs.List.{flat_map}
 use Rattle.std.specs.Str.{bytes_eq}
 use Rattle.study_board.specs.declared.men.Side.{Side}
@@ -19,10 +19,12 @@ use Rattle.study_marks.specs.declared.mark.Mark.{Mark}
 use Rattle.study_marks.specs.declared.mark.MoveMark.{MoveMark}
 use Rattle.study_marks.specs.declared.mark.MoveMark.TheVariants.{Only, Dual, Mistake, Idle, Reply}
 use Rattle.study_marks.specs.declared.mark_rules.Aim.{Aim}
+use Rattle.study_marks.specs.declared.stipulation.Goal.{Goal}
+use Rattle.study_marks.specs.declared.stipulation.Goal.TheVariants as goal
 use Rattle.study_marks.specs.Bench.{played_by}
 use Rattle.study_marks.specs.FaultSums.{below_at}
 use Rattle.study_marks.specs.Study.{Study, position_at}
-use Rattle.study_marks.specs.Goals.{aim_of}
+use Rattle.study_marks.specs.Goals.{aim_of, hero_moves, hero_mates, plies_of}
 use Rattle.study_pgn.specs.Values.{value_text}
 use Rattle.study_facts.specs.declared.continuation.EvaluatedMove.{EvaluatedMove}
 use Rattle.study_facts.specs.declared.time_loss.Alternative.{Alternative}
@@ -46,6 +48,29 @@ use Rattle.study_html.specs.Drawings.{drawing_text}
 use Rattle.study_head.specs.Diagram.{mini}
 use Rattle.study_head.specs.Words.{front_words, short_words, label}
 use Rattle.study_page.specs.Words.{where_words}
+
+-- ---- late mates
+
+-- by how many of the hero's moves a mate in so many plies from depth d comes behind the last that he has
+abbrev pub moves_late : ℕ → ℕ → Option ℕ → ℕ
+moves_late limit d None = 0
+moves_late limit d (Some n) = (d + n - limit) / 2
+
+abbrev pub late_for : Goal → Bool → ℕ → Bool → Value → ℕ
+late_for goal.Win first d hero v = 0
+late_for goal.Draw first d hero v = 0
+late_for (goal.MateIn k) first d hero v = moves_late (plies_of first k) d (hero_mates hero v)
+
+-- by how many moves the hero mates too late for `mate in k`, in a position at depth d with this value; 0 where he does not
+abbrev pub late_by : Aim → ℕ → Value → ℕ
+late_by a d v = late_for a.goal a.hero_first d (hero_moves a d) v
+
+unfoldable pub one_late : List ℕ
+one_late = codes ", one move too late"
+
+-- `, one move too late`, `, 2 moves too late`
+abbrev pub late_words : ℕ → List ℕ
+late_words k = if k == 0 then [] else (if k == 1 then one_late else (codes ", " ++ (decimal k ++ codes " moves too late")))
 
 -- ---- other moves
 
@@ -115,16 +140,18 @@ dual_item start d p m v list = element_text Item (escaped_text (label start d p 
 unfoldable pub gives_up_goal : List ℕ
 gives_up_goal = codes " throws it away: "
 
--- `3. Kb4 throws it away: draw`
-unfoldable pub mistake_item : Start → ℕ → Position → Move → Value → List ℕ
-mistake_item start d p m v = element_text Item (escaped_text (label start d p m ++ (gives_up_goal ++ value_text (other_side p.to_move) v)))
+-- `3. Kb4 throws it away: draw`, `1. Qg1 throws it away: White mates in 1, one move too late`
+unfoldable pub mistake_item : Start → Aim → ℕ → Position → Move → Value → List ℕ
+mistake_item start a d p m v =
+    element_text Item (escaped_text (label start d p m
+    ++ (gives_up_goal ++ (value_text (other_side p.to_move) v ++ late_words (late_by a (d + 1) v)))))
 
 -- of a move from p, the last of a line
 abbrev pub IsFaultOf : Start → Aim → ℕ → List Position → Position → Move → Value → Option MoveMark → List ℕ → Type 0
 IsFaultOf start a d line p m v None text = text ≡ []
 IsFaultOf start a d line p m v (Some (Dual k)) text =
     (list : List Alternative) × AreTimedAlternatives a d line p m list × (text ≡ dual_item start d p m v list)
-IsFaultOf start a d line p m v (Some Mistake) text = text ≡ mistake_item start d p m v
+IsFaultOf start a d line p m v (Some Mistake) text = text ≡ mistake_item start a d p m v
 IsFaultOf start a d line p m v (Some Only) text = text ≡ []
 IsFaultOf start a d line p m v (Some Idle) text = text ≡ []
 IsFaultOf start a d line p m v (Some Reply) text = text ≡ []
@@ -200,12 +227,12 @@ refuted_item p x = element_text Whole (move_and_value p x.played x.value) ++ esc
 unfoldable pub is_over : Position → Bool
 is_over p = length (legal_list p) == 0
 
--- a mate refutes a try, since it comes too late
-abbrev pub over_words : Position → List ℕ
-over_words p = if in_check p.men p.to_move then codes "mate, too late" else codes "stalemate"
+-- a mate refutes a try, since it comes so many moves too late
+abbrev pub over_words : Position → ℕ → List ℕ
+over_words p late = if in_check p.men p.to_move then codes "mate" ++ late_words late else codes "stalemate"
 
-abbrev pub refuted_items : Position → List EvaluatedMove → List ℕ
-refuted_items p list = if is_over p then escaped_text (over_words p) else flat_map (refuted_item p) list
+abbrev pub refuted_items : Position → ℕ → List EvaluatedMove → List ℕ
+refuted_items p late list = if is_over p then escaped_text (over_words p late) else flat_map (refuted_item p) list
 
 -- `(3 of 17)`
 unfoldable pub of_all : ℕ → ℕ → List ℕ
@@ -217,15 +244,17 @@ refuted_count p n =
     if is_over p then [] else (if n == 1 then element_text Strong (escaped_text (codes "only")) else element_text Small
     (escaped_text (of_all n (length (legal_list p)))))
 
-unfoldable pub try_row : List ℕ → Position → Value → List EvaluatedMove → List ℕ
-try_row node p v list = element_text Row (front_cells node p.to_move v ++ element_text Cell (refuted_items p list ++ refuted_count p (length list)))
+unfoldable pub try_row : List ℕ → Aim → ℕ → Position → Value → List EvaluatedMove → List ℕ
+try_row node a d p v list =
+    element_text Row (front_cells node p.to_move v
+    ++ element_text Cell (refuted_items p (late_by a d v) list ++ refuted_count p (length list)))
 
 -- a row for each try
 abbrev pub TryRows : Study Mark → List ℕ → List ℕ → Type 0
 TryRows s path text =
     EmptyUnless (is_try s path) (λ t. (list : List EvaluatedMove)
     × AreRefutations (aim_of s) (length path) (position_at s path) list
-    × (t ≡ try_row (where_words s path) (position_at s path) (value_at s path) list)) text
+    × (t ≡ try_row (where_words s path) (aim_of s) (length path) (position_at s path) (value_at s path) list)) text
 
 -- ---- mutual zugzwangs
 

@@ -1,5 +1,5 @@
 //! What is written of duals and tries.
-ghost use Rattle.std.specs.Prelude.{◌≡◌, ◌++◌, ◌<◌, ◌^◌, true, length, OnOk, codes, decimal};
+ghost use Rattle.std.specs.Prelude.{◌≡◌, ◌++◌, ◌<◌, ◌≤◌, ◌^◌, true, length, OnOk, codes, decimal};
 ghost use Rattle.std.specs.List.{All, flat_map};
 ghost use Rattle.study_moves.specs.Rules.{is_legal};
 ghost use Rattle.study_notation.specs.SanSpelling.{move_text};
@@ -14,9 +14,10 @@ ghost use Rattle.study_page.specs.Rows.{card_title, card_words, card, front_cell
 ghost use Rattle.study_page.specs.Rows.{of_all, refuted_count, try_row};
 ghost use Rattle.study_page.specs.Rows.{points_words, to_move_words, zugzwang_row};
 
+use crate::late_mate::{add_late, late_by};
 use std::alloc::{AllocError, Allocator};
 use study_board::{Position, Side};
-use study_facts::{Alternative, EvaluatedMove, Zugzwang};
+use study_facts::{Alternative, EvaluatedMove, StudyNode, Zugzwang};
 use study_head::{Ply, add_label, add_mate_distance, draw_mini};
 use study_html::{Element, Html, put_words};
 use study_moves::{Move, in_check, legal_moves};
@@ -388,27 +389,31 @@ fn is_over(p: &Position) -> bool
     legal_moves(p).is_empty()
 }
 
-fn over_words(p: &Position) -> &'static [u8]
-    ensures { result.now ≡ over_words p.now }
+/// That the try stalemates, or mates so many moves too late.
+fn add_over<A: Allocator>(text: &mut Text<'_, A>, p: &Position, late: u32) -> Result<(), AllocError>
+    ensures { OnOk result (text.new ≡ text.old ++ over_words p.now late) }
 {
-    if in_check(p) {
-        b"mate, too late"
-    } else {
-        b"stalemate"
+    if !in_check(p) {
+        return text.add(b"stalemate");
     }
+    text.add(b"mate")?;
+    add_late(text, late)
 }
 
 fn put_refutations<'a, A: Allocator>(
     alloc: &'a A,
     html: &mut Html<'_, A>,
     p: &Position,
+    late: u32,
     list: &[EvaluatedMove],
 ) -> Result<(), AllocError>
     requires { All (λ x. is_legal p.now x.played ≡ true) list.now }
-    ensures { OnOk result (html.new ≡ html.old ++ refuted_items p.now list.now) }
+    ensures { OnOk result (html.new ≡ html.old ++ refuted_items p.now late list.now) }
 {
     if is_over(p) {
-        return html.say(over_words(p));
+        let mut text = Text::new(alloc);
+        add_over(&mut text, p, late)?;
+        return html.say(text.as_slice());
     }
     put_each_refuted(alloc, html, p, list)
 }
@@ -450,19 +455,23 @@ fn put_refuted_count<'a, A: Allocator>(
 pub fn put_try<'a, A: Allocator>(
     alloc: &'a A,
     html: &mut Html<'_, A>,
-    node: &[u8],
-    p: &Position,
-    value: Value,
+    name: &[u8],
+    here: &StudyNode<'_>,
     list: &[EvaluatedMove],
 ) -> Result<(), AllocError>
+    requires shallow { here.now.node.depth ≤ 256 }
     requires few { length list.now < 2 ^ 32 }
-    requires legal { All (λ x. is_legal p.now x.played ≡ true) list.now }
-    ensures { OnOk result (html.new ≡ html.old ++ try_row node.now p.now value list.now) }
+    requires legal { All (λ x. is_legal here.now.node.position.now x.played ≡ true) list.now }
+    ensures { OnOk result (html.new ≡ html.old
+        ++ try_row name.now here.now.node.aim.now here.now.node.depth here.now.node.position.now
+        here.now.value list.now) }
 {
     let mut row = Html::new(alloc);
     let mut cell = Html::new(alloc);
-    put_node_cells(alloc, &mut row, node, p.to_move(), value)?;
-    put_refutations(alloc, &mut cell, p, list)?;
+    let p = here.node.position;
+    let late = late_by(here.node.aim, here.node.depth, here.value);
+    put_node_cells(alloc, &mut row, name, p.to_move(), here.value)?;
+    put_refutations(alloc, &mut cell, p, late, list)?;
     put_refuted_count(alloc, &mut cell, p, list.len() as u32)?;
     row.put(Element::Cell, &cell)?;
     html.put(Element::Row, &row)

@@ -1,16 +1,18 @@
 //! What is written of faults of the solution.
-ghost use Rattle.std.specs.Prelude.{◌≡◌, ◌++◌, ◌<◌, ◌^◌, true, length, take, drop, OnOk};
+ghost use Rattle.std.specs.Prelude.{◌≡◌, ◌++◌, ◌<◌, ◌≤◌, ◌^◌, true, length, take, drop, OnOk};
 ghost use Rattle.std.specs.List.{All, flat_map};
 ghost use Rattle.study_moves.specs.Rules.{is_legal};
 ghost use Rattle.study_page.specs.Rows.{lost_words, bracket_words, named_words, next_words, list_words, more_words, others_words, dual_item};
 ghost use Rattle.study_page.specs.Rows.{gives_up_goal, mistake_item};
 
 use crate::cards_and_tries::{add_difference, loses_time, wasted};
+use crate::late_mate::{add_late, late_by};
 use std::alloc::{AllocError, Allocator};
 use study_board::Position;
 use study_facts::{Alternative, EvaluatedMove};
 use study_head::{Ply, add_label};
 use study_html::{Element, Html, put_words};
+use study_marks::Aim;
 use study_moves::Move;
 use study_pgn::{add_san, add_value};
 use study_text::Text;
@@ -184,22 +186,25 @@ fn gives_up_goal() -> &'static [u8]
     b" throws it away: "
 }
 
-/// A mistake, with the value after it.
+/// A mistake, with the value after it, and, if the hero mates too late by it, by how many moves.
 #[tactic(auto, unfolding(crate::specs::Rows::mistake_item))]
 pub fn put_mistake<'a, A: Allocator>(
     alloc: &'a A,
     html: &mut Html<'_, A>,
+    aim: &Aim,
     ply: &Ply<'_>,
     m: Move,
     value: Value,
 ) -> Result<(), AllocError>
-    requires { is_legal ply.now.position.now m ≡ true }
-    ensures { OnOk result (html.new ≡ html.old
-        ++ mistake_item ply.now.start.now ply.now.depth ply.now.position.now m value) }
+    requires shallow { ply.now.depth ≤ 256 }
+    requires legal { is_legal ply.now.position.now m ≡ true }
+    ensures { OnOk result (html.new ≡ html.old ++ mistake_item ply.now.start.now aim.now
+        ply.now.depth ply.now.position.now m value) }
 {
     let mut text = Text::new(alloc);
     add_label(&mut text, ply.start, ply.depth, ply.position, m)?;
     text.add(gives_up_goal())?;
     add_value(&mut text, ply.position.to_move().other(), value)?;
+    add_late(&mut text, late_by(aim, ply.depth + 1, value))?;
     put_words(alloc, html, Element::Item, text.as_slice())
 }

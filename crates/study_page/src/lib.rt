@@ -9,6 +9,7 @@ mod csv;
 mod defence_groups;
 mod draft;
 mod fault_list;
+mod late_mate;
 mod laws;
 mod move_parts;
 mod node_rows;

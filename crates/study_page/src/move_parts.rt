@@ -1,5 +1,5 @@
 //! What the parts of a page have of one move: the item of a fault of the solution, and the card of a dual.
-ghost use Rattle.std.specs.Prelude.{◌≡◌, ◌++◌, ◌+◌, ◌^◌, ◌<◌, [], true, Some, length, OnOk, if◌then◌else◌};
+ghost use Rattle.std.specs.Prelude.{◌≡◌, ◌++◌, ◌+◌, ◌^◌, ◌<◌, ◌≤◌, [], true, Some, length, OnOk, if◌then◌else◌};
 ghost use Rattle.std.specs.List.{All};
 ghost use Rattle.study_moves.specs.Rules.{is_legal};
 ghost use Rattle.study_marks.specs.BenchState.{marked_study};
@@ -127,10 +127,12 @@ fn put_listed_mistake<'a, A: Allocator>(
     start: &Start,
     step: &StudyMove<'_>,
 ) -> Result<(), AllocError>
-    requires { is_legal step.now.before.position.now step.now.played ≡ true }
+    requires shallow { step.now.before.depth ≤ 256 }
+    requires legal { is_legal step.now.before.position.now step.now.played ≡ true }
     ensures { OnOk result (html.new ≡ html.old
-        ++ (if step.now.solution then mistake_item start.now step.now.before.depth
-        step.now.before.position.now step.now.played step.now.mark.value else [])) }
+        ++ (if step.now.solution then mistake_item start.now step.now.before.aim.now
+        step.now.before.depth step.now.before.position.now step.now.played step.now.mark.value
+        else [])) }
 {
     if !step.solution {
         return Ok(());
@@ -140,7 +142,14 @@ fn put_listed_mistake<'a, A: Allocator>(
         depth: step.before.depth,
         position: step.before.position,
     };
-    put_mistake(alloc, html, &ply, step.played, step.mark.value)
+    put_mistake(
+        alloc,
+        html,
+        step.before.aim,
+        &ply,
+        step.played,
+        step.mark.value,
+    )
 }
 
 /// What the parts have of a move: the item of a fault of the solution, and the card of a dual.

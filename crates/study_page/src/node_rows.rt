@@ -1,5 +1,5 @@
 //! The rows that the tables of a page have of one node: a try, a mutual zugzwang, missing defences, and the play after an end of the tree.
-ghost use Rattle.std.specs.Prelude.{◌≡◌, ◌++◌, ◌+◌, ◌^◌, ◌<◌, true, length, OnOk};
+ghost use Rattle.std.specs.Prelude.{◌≡◌, ◌++◌, ◌+◌, ◌^◌, ◌<◌, ◌≤◌, true, length, OnOk};
 ghost use Rattle.std.specs.List.{All};
 ghost use Rattle.study_moves.specs.Rules.{is_legal};
 ghost use Rattle.study_marks.specs.BenchState.{marked_study};
@@ -66,23 +66,17 @@ fn put_try_at<'a, 'b, A: Allocator, B: Allocator>(
     list: &[EvaluatedMove],
 ) -> Result<(), AllocError>
     requires node { IsPageNode (marked_study bench.now) node.now }
+    requires shallow { node.now.here.node.depth ≤ 256 }
     requires few { length list.now < 2 ^ 32 }
     requires legal { All (λ x. is_legal node.now.here.node.position.now x.played ≡ true) list.now }
     ensures { OnOk result (html.new ≡ html.old
         ++ try_row (where_words (marked_study bench.now) node.now.here.steps.now)
-        node.now.here.node.position.now node.now.here.value list.now) }
+        node.now.here.node.aim.now node.now.here.node.depth node.now.here.node.position.now
+        node.now.here.value list.now) }
 {
     let mut name = Text::new(alloc);
     add_node_name(&mut name, bench, node)?;
-    let here = &node.here;
-    put_try(
-        alloc,
-        html,
-        name.as_slice(),
-        here.node.position,
-        here.value,
-        list,
-    )
+    put_try(alloc, html, name.as_slice(), &node.here, list)
 }
 
 /// The row of a try.

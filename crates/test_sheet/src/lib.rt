@@ -7,6 +7,8 @@ mod entries;
 #[cfg(test)]
 mod kings;
 #[cfg(test)]
+mod late;
+#[cfg(test)]
 mod list;
 #[cfg(test)]
 mod numbers;

@@ -1,4 +1,4 @@
-use Rattle.std.proofs.Common.{Some, None, refl, sym, ap, subst, ◌∙◌}
+use Rattle.std.proofs.Common.{Some, None, arith, refl, sym, ap, subst, ◌∙◌}
 use Rattle.std.proofs.lemmas.Result.{on_ok_weaker}
 use Rattle.study_notation.specs.declared.start.Start.{Start}
 use Rattle.study_marks.specs.declared.mark.MoveMark.TheVariants as variant
@@ -7,7 +7,7 @@ use Rattle.study_facts.specs.Made.{Grew}
 use Rattle.study_facts.specs.Nodes.{EmptyUnless, parent_path}
 use Rattle.study_page.specs.Rows.{IsFaultOf, IsCardOf}
 use Rattle.study_facts.proofs.Within.{leads-at, asks-wider}
-use Rattle.study_page.proofs.MadeRows.{fault-listed, mistake-listed, fault-plain, card-made, nothing-grew}
+use Rattle.study_page.proofs.MadeRows.{before-shallow, fault-listed, mistake-listed, fault-plain, card-made, nothing-grew}
 use Rattle.study_page.proofs.move_parts.add_move.Goals as goal
 
 pub returns-in-Some-Dual-clause-faults : goal.returns-in-Some-Dual-clause-faults
@@ -41,6 +41,13 @@ returns-in-Some-Dual-clause-asked g c =
     asks-wider g.V.Values.source s.start.position step.before.position.now
     (leads-at s (parent_path step.steps.now) step.before.position.now c.start-first.ensures.study.playable c.requires.step.before.position)
     c.args.values.now c.add_dual.new.values c.add_dual.result c.add_dual.ensures.asked
+
+pub put_listed_mistake-requires-clause-shallow : goal.put_listed_mistake-requires-clause-shallow
+put_listed_mistake-requires-clause-shallow g c =
+    let less = before-shallow c.args.step.now.steps.now in
+    let few = c.requires.shallow in
+    let deep = c.requires.step.before.depth in
+    omega (arith, less, few, deep)
 
 pub returns-in_ok-put_listed_mistake-in-Some-Mistake-clause-faults : goal.returns-in_ok-put_listed_mistake-in-Some-Mistake-clause-faults
 returns-in_ok-put_listed_mistake-in-Some-Mistake-clause-faults g c h =

@@ -16,6 +16,13 @@ refutations-requires g c =
     let deep = c.requires.here.node.depth in
     record { depth = omega (arith, few, deep) }
 
+pub put_try_at-requires-clause-shallow : goal.put_try_at-requires-clause-shallow
+put_try_at-requires-clause-shallow g c =
+    let few = within-length 256 (marked_study c.args.bench.now).tree.below c.args.node.now.here.steps.now c.start-first.ensures.study.shallow
+    c.requires.here.there in
+    let deep = c.requires.here.node.depth in
+    omega (arith, few, deep)
+
 pub returns-in-Err-clause-asked : goal.returns-in-Err-clause-asked
 returns-in-Err-clause-asked g c =
     of-fault (within c.args.node.now.here.node.position.now g.V.Values.source) (Unit {0})
