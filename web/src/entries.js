@@ -56,6 +56,14 @@ function listedName(s, name) {
   const text = nameOf(s, name);
   return text && isCarried(s, name) ? text + CARRIED : text;
 }
+/**
+ * The title in the list, or the men; of a part of a game with more than four men also the move after which it begins.
+ * @param {Study} s
+ */
+function listedTitle(s) {
+  const title = listedName(s, 'Event') || control(s.fen), tail = s.origin && s.origin.tail;
+  return tail ? `${title} (after ${tail.after})` : title;
+}
 /** @param {string} line */
 const tagIn = line => /^ *tag +(\w+) +(.*?) *$/.exec(line);
 
@@ -156,7 +164,8 @@ const missing = (line, title, author, why) => ({
   faults: []
 });
 /**
- * The number of each study: that of its game in the PGN that was opened, and further ones for those that were added.
+ * The number of each study: that of its game in the PGN that was opened, `3.2` for its second tail, and further ones
+ * for those that were added.
  * In a script by hand the number of its game in the saved PGN and of its page in the report: `3`; `3\u20134` of a study
  * with two games, and nothing without a stipulation.
  * @param {{lines: string[], studies: Study[]}} doc
@@ -174,7 +183,7 @@ const numbered = /** @type {WeakMap<Study[], string[]>} */ (new WeakMap());
 function numbersIn(lines, studies) {
   let last = mostGames(lines);
   return studies.map(({aim, games, origin}) => {
-    if (origin && origin.game) return `${origin.game}`;
+    if (origin && origin.game) return `${origin.game}${origin.tail ? `.${origin.tail.number}` : ''}`;
     const first = last + 1, many = aim ? Math.max(games.length, 1) : 0;
     last += many;
     return many > 1 ? `${first}\u2013${last}` : many ? `${last}` : '';
@@ -221,7 +230,7 @@ export function entriesOf(doc, reviews = [], mainLines = []) {
             at,
             number: numbers[at],
             kind,
-            title: listedName(s, 'Event') || control(s.fen),
+            title: listedTitle(s),
             author: listedName(s, 'White'),
             fen: s.fen,
             aim: listedAim(s),

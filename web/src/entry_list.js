@@ -6,14 +6,16 @@ import {againstText} from './imported.js';
 import {wordOf} from './wording.js';
 /** @typedef {import('./entries.js').Entry} Entry */
 
-const KINDS =
-  ['sound', 'time', 'accepted', 'duals', 'mistake', 'wrong', 'correct', 'not read', 'left out', 'not judged'];
+const KINDS = [
+  'sound', 'time', 'accepted', 'duals', 'mistake', 'wrong', 'refuted', 'correct', 'not read', 'left out', 'not judged'
+];
 /** The words of kinds, where they are others than the kind itself. */
 const KIND_WORDS = /** @type {Record<string, () => string>} */ ({
   time: () => wordOf('time'),
   accepted: () => 'sound but for accepted duals',
   duals: () => 'with duals',
   mistake: () => 'whose own move fails',
+  refuted: () => 'refuted tries',
   correct: () => wordOf('correct')
 });
 /** @typedef {{kind: string, against?: string[], same?: string, faults?: string[]}} Kinds */

@@ -43,7 +43,7 @@ export function headView(s) {
           'Clear')),
     h('div', {class: 'row'}, aimView(s.aim, setAim, 'aim'), s.aim && !isAimCarried(s) && sourceView(s),
       h('span', {class: 'note'}, app.counts)),
-    s.aim && isAimCarried(s) && carriedAim(s.aim), againstView(s), sameView(), languageView(s),
+    s.aim && isAimCarried(s) && carriedAim(s.aim), againstView(s), sameView(), languageView(s), tailView(s),
     s.place.Date !== undefined && dateNote(t.Date), lettersNote(s), messageAt('head'),
     h('details', {
       id: 'tags',
@@ -83,6 +83,14 @@ const againstView = ({origin}) => origin && origin.against.length > 0 &&
  */
 const languageView = ({origin}) => origin && origin.letters !== '' &&
   h('p', {class: 'note', id: 'letters'}, `The file has its moves in ${origin.letters} letters.`);
+/**
+ * Of a part of a game with more than four men: which it is, and whether the solution leads to it.
+ * @param {Study} s
+ */
+const tailView = ({origin}) => origin && origin.tail &&
+  h('p', {class: 'note', id: 'tail'},
+    `Tail ${origin.tail.number} of game ${origin.tail.game}, after ${origin.tail.after}${
+      origin.tail.beside ? ', beside the solution: a try, which should fail' : ''}.`);
 /** @param {string} words */
 const setAim = words =>
   change(now => (now.studies[now.at] ? stipulate(now.lines, now.studies[now.at], words) : null), 'head');

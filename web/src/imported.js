@@ -124,10 +124,26 @@ export function documentOf(lines) {
 /**
  * Where a study comes from, as the remarks above its position say: the game of the file and its line, which source its
  * stipulation is from, such as `result-tag`, and what speaks against it, such as `result-differs`; where it ends, if a
- * bad move stands there in the file; the language of its letters, if that is not English.
+ * bad move stands there in the file; the language of its letters, if that is not English; of a game with more than four
+ * men, which tail it is.
  * @typedef {{game: number, line: number, source: string, against: string[], letters: string,
- *   cut: import('./left_out.js').Cut | null}} Origin
+ *   cut: import('./left_out.js').Cut | null, tail: Tail | null}} Origin
  */
+/**
+ * A part of a game with more than four men that begins where four are left: its number among these, after which move of
+ * the game it begins, and whether the solution leads elsewhere.
+ * @typedef {{game: number, number: number, after: string, beside: boolean}} Tail
+ */
+const TAIL = /^(\d+) of \d+ of game (\d+), node [^,]*, after ([^,]*)(, beside the solution)?/;
+/**
+ * The tail of which a remark is the heading.
+ * @param {string} row
+ * @returns {Tail | null}
+ */
+export function tailIn(row) {
+  const {word, rest} = ownRemark(row), found = word === 'tail' && TAIL.exec(rest);
+  return found ? {number: Number(found[1]), game: Number(found[2]), after: found[3], beside: Boolean(found[4])} : null;
+}
 /** What the page writes where the user states another stipulation. */
 const BY_HAND = 'stipulated by hand', HAND = 'hand';
 /**
@@ -152,10 +168,11 @@ export const isOfFile = ({source}) => source !== '' && source !== HAND && source
  * @returns {Origin}
  */
 export function originIn(remarks) {
-  const found = remarks.map(stipulatedBy).find(Boolean) || {game: 0, line: 0, source: ''},
+  const tail = remarks.map(tailIn).find(Boolean) || null,
+        found = remarks.map(stipulatedBy).find(Boolean) || {game: tail ? tail.game : 0, line: 0, source: ''},
         against = remarksOfKind(remarks, 'doubted').map(({said}) => said),
         letters = remarksOfKind(remarks, 'letters').map(({said}) => said).join('');
-  return {...found, against, letters, cut: cutIn(remarks)};
+  return {...found, against, letters, cut: cutIn(remarks), tail};
 }
 /**
  * The remarks above a position once the user states another stipulation, or sets up other men: what the file says of
@@ -183,7 +200,8 @@ function isOfBefore(line) {
  */
 export function isOfGame(line) {
   const remark = remarkOf(line);
-  return stipulatedBy(line) !== null || (remark !== null && (remark.game > 0 || remark.kind === 'doubted'));
+  return stipulatedBy(line) !== null || tailIn(line) !== null ||
+    (remark !== null && (remark.game > 0 || remark.kind === 'doubted'));
 }
 const SOURCES = /** @type {Record<string, string>} */ ({
   'comment': 'from its comment',

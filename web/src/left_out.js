@@ -62,9 +62,20 @@ const INSTEAD = /** @type {Record<string, string>} */ ({
   SideField: 'write w or b behind the men',
   OpponentInCheck: 'write the other side to move, or correct the men',
   EnPassantImpossible: 'write -',
-  'no tags': 'delete the text, or write tags above it',
-  'no FEN, so 32 men': 'write the position: [FEN "8/8/8/6k1/8/8/1P5K/8 w - - 0 1"]'
+  'no tags': 'delete the text, or write tags above it'
 });
+/** The same for reasons in words, by their form. */
+const INSTEAD_OF = /** @type {[RegExp, string][]} */ ([
+  [/^\d+ men$/, 'set up at most sixteen men of a side'],
+  [/^\d+ men, never four or fewer$/, 'go on with a line until four men are left'],
+  [
+    /^\d+ men, castling rights to the end$/,
+    'go on until a king or a rook has moved, or write - for castling in the FEN'
+  ],
+  [/^more than 255 endings$/, 'leave variations out']
+]);
+/** @param {string} why */
+const insteadOf = why => INSTEAD[why] || (INSTEAD_OF.find(([form]) => form.test(why)) || ['', ''])[1];
 /**
  * What stands where a move has to stand: a word, a move in letters of another language, or something else.
  * @param {string} text
@@ -81,8 +92,7 @@ export function whyLeftOut({why, text}) {
                                    : gameReason(why) || (/^[A-Z]\w+$/.test(why) ? reason('error ' + why) : why);
   const instead = kind === 'foreign' ? 'write the men with these letters, as a PGN has them'
     : kind === 'word'                ? `write words in braces: {${text}}`
-                   : /^\d+ men$/.test(why) ? 'write a position of two to four men, kings included'
-                                           : INSTEAD[why] || '';
+                                     : insteadOf(why);
   return (text ? `${text}: ${words}` : words) + (instead && !words.includes(': ') ? `: ${instead}` : '');
 }
 

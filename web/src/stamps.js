@@ -74,8 +74,10 @@ export function wrongText(aim, verdict, start, fen) {
   if (verdict !== 'wrong') return '';
   if (aim.goal === 'mate' && winner === aim.hero && Number(n) < aim.k)
     return wordOf('sooner').replace(wordOf('mates'), start);
-  return wordOf('misses').replace('win', aim.goal === 'mate' ? `mate in ${aim.k}` : aim.goal);
+  return missesText(aim);
 }
+/** @param {Aim} aim */
+const missesText = aim => wordOf('misses').replace('win', aim.goal === 'mate' ? `mate in ${aim.k}` : aim.goal);
 /**
  * What a solution with faults is called.
  * @param {Review} review
@@ -89,6 +91,17 @@ export function faultyStamp({faults, stamp}) {
                                               : 'duals',
     text: stamp
   };
+}
+/**
+ * What is called a part of a game to which the solution does not lead, as the printed page has it: refuted, if the hero
+ * does not reach his goal there.
+ * @param {Study} s
+ * @param {string} wrong      what is wrong with its stipulation
+ * @returns {{kind: string, text: string}}
+ */
+function tryStamp({aim, verdict}, wrong) {
+  const misses = verdict === 'wrong' && aim !== null && wrong === missesText(aim);
+  return misses ? {kind: 'refuted', text: wordOf('refuted')} : {kind: 'wrong', text: wordOf('second')};
 }
 /** @param {string} n */
 const faultsText = n => `${n} ${n === '1' ? 'fault' : 'faults'}`;
@@ -113,6 +126,7 @@ export function stampOf(doc, s, review) {
   if (s.origin && s.origin.cut) return {kind: 'not read', text: unreadIn(doc, s)};
   if (unread) return {kind: 'not read', text: `${unreadAt(unread)}, ${refusedText(unread)}`};
   if (!kind) return {kind: 'not judged', text: 'not judged'};
+  if (s.origin && s.origin.tail && s.origin.tail.beside) return tryStamp(s, wrong);
   if (wrong || kind === 'wrong') return {kind: 'wrong', text: wrong || kind};
   if (kind === 'sound')
     return hasSolution(doc.lines, s, review) ? {kind, text: (review && review.stamp) || kind}

@@ -16,7 +16,7 @@ const FEN = '7K/8/k1P5/7p/8/8/8/8 w - - 0 1',
 const LINES = [
   'position ' + FEN, 'stipulate white win', 'tag Event A, "first"', 'tag White Reti', 'insert root Kg7', 'pgn', '',
   'position ' + FEN, 'tag Event B', 'pgn', '', 'position x', 'tag White Kasparyan, G.', '',
-  '#! game 9, line 3: left out: 7 men', '', 'position ' + FEN, 'insert root Kz9', 'pgn'
+  '#! game 9, line 3: left out: 7 men, never four or fewer', '', 'position ' + FEN, 'insert root Kz9', 'pgn'
 ];
 function doc(verdicts) {
   const sent = LINES.map((text, line) => ({text, line})), left = [...verdicts];
@@ -41,7 +41,7 @@ test('each entry has a row and a stamp', () => {
     ['left out', '', 'Kasparyan, G.', 'left out: not six fields, and not four'],
     [
       'left out', 'line 3 of the PGN', '',
-      'left out: 7 men: write a position of two to four men, kings included (line 3)'
+      'left out: 7 men, never four or fewer: go on with a line until four men are left (line 3)'
     ],
     ['not read', 'Kh8 Pc6 / Ka6 Ph5', '', 'not read: line 18, Kz9']
   ]);
@@ -53,14 +53,16 @@ test('each entry has a row and a stamp', () => {
 });
 test('a game that was left out has its title and its author, where remarks behind it have them', () => {
   const lines = [
-    '#! game 2, line 9: left out: 7 men', '#! Event was: A "prize"', '#! White was: Kasparyan, G.', '',
-    '#! game 3, line 20, column 8: NoSuchMove at Kh9', '#! White was: Réti', '#! game 4, line 31: left out: 6 men',
-    '#! game 5, line 40 (Kasparyan, G.; "A prize"): left out: 5 men', '#! game 6, line 49 ("B"): left out: 6 men',
-    '#! game 7, line 58 (Kubbel, L.): left out: 6 men'
+    '#! game 2, line 9: left out: 7 men, never four or fewer', '#! Event was: A "prize"', '#! White was: Kasparyan, G.',
+    '', '#! game 3, line 20, column 8: NoSuchMove at Kh9', '#! White was: Réti',
+    '#! game 4, line 31: left out: 6 men, never four or fewer',
+    '#! game 5, line 40 (Kasparyan, G.; "A prize"): left out: 5 men, never four or fewer',
+    '#! game 6, line 49 ("B"): left out: 6 men, never four or fewer',
+    '#! game 7, line 58 (Kubbel, L.): left out: 6 men, never four or fewer'
   ];
   const rows =
     entriesOf({...readScript(lines, [], []), at: 0, path: 'root', name: '', id: 'x', note: '', judged: true});
-  const men = 'men: write a position of two to four men, kings included',
+  const men = 'men, never four or fewer: go on with a line until four men are left',
         move = 'Kh9: no legal move of this position: write a legal move; perhaps a move before it is missing or wrong';
   assert.deepEqual(rows.map(r => [r.number, r.title, r.author, r.stamp]), [
     ['2', 'A "prize"', 'Kasparyan, G.', `left out: 7 ${men} (line 9)`],
@@ -89,8 +91,26 @@ const ENTRIES = [
   '#! the stipulation differs from its tag Result', '#! the stipulation differs from its result', 'position ' + FEN,
   'stipulate white win', 'tag Event Entry 6', 'pgn', '', 'position ' + FEN, 'stipulate white draw', 'tag Event New',
   'pgn', '', '#! game 11, line 120: stipulated by its result', '#! the stipulation of its comment is not understood',
-  'position ' + FEN, 'stipulate white win', 'tag Event Entry 11', 'pgn', '', '#! game 12, line 129: left out: 5 men'
+  'position ' + FEN, 'stipulate white win', 'tag Event Entry 11', 'pgn', '',
+  '#! game 12, line 129: left out: 5 men, never four or fewer'
 ];
+/** A game of five men, and the two parts of it that begin with four: the second is a try. */
+const TAILS = [
+  '#! game 3, line 20: stipulated by its comment', '#> position 8/8/8/8/8/8/8/k1K1Q1R1 w - - 0 1', '',
+  '#! tail 1 of 2 of game 3, node 0.0, after 2... Kxe1', 'position ' + FEN, 'stipulate white win', 'tag Event Five men',
+  'pgn', '', '#! tail 2 of 2 of game 3, node 1.0, after 2... Kxg1, beside the solution', 'position ' + FEN,
+  'stipulate white win', 'tag Event Five men', 'pgn'
+];
+test('a part of a game with more than four men has its number in the game, and a try is refuted', () => {
+  const d = {...assumeAccepted(TAILS), at: 0, path: 'root', name: '', id: 'x', note: '', judged: true},
+        rows = entriesOf(d);
+  assert.deepEqual(rows.map(row => row.number), ['3.1', '3.2']);
+  assert.deepEqual(rows.map(row => row.title), ['Five men (after 2... Kxe1)', 'Five men (after 2... Kxg1)']);
+  const stamp = (at, verdict) => stampOf(d, {...d.studies[at], verdict, start: 'draw'}, null);
+  assert.deepEqual(stamp(0, 'wrong'), {kind: 'wrong', text: 'does not win'});
+  assert.deepEqual(stamp(1, 'wrong'), {kind: 'refuted', text: 'refuted'});
+  assert.deepEqual(stamp(1, 'sound'), {kind: 'wrong', text: 'a second solution'});
+});
 test('an entry stays an entry: its number is its place in the file, and its stipulation has a source', () => {
   const d = {...assumeAccepted(ENTRIES), at: 0, path: 'root', name: '', id: 'x', note: '', judged: true},
         rows = entriesOf(d);

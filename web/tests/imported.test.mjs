@@ -23,8 +23,8 @@ const LINES = [
   '#! game 1, line 1: stipulated by its comment',
   '#! not taken over: comments 9, NAGs 4, tags 1, repeated 1, moves behind 2', '#! White was: Троицкий',
   'position 7K/8/8/8/8/8/8/k7 w - - 0 1', 'stipulate white draw', 'tag White Troickij', 'pgn', '',
-  '#! game 2, line 14: left out: 7 men', '', '#! game 3, line 31, column 17: NoSuchMove at Kb6', '',
-  '#! game 4, line 40: NoStipulation', '', '#! game 5, line 52: stipulated by its tag Result',
+  '#! game 2, line 14: left out: 7 men, never four or fewer', '', '#! game 3, line 31, column 17: NoSuchMove at Kb6',
+  '', '#! game 4, line 40: NoStipulation', '', '#! game 5, line 52: stipulated by its tag Result',
   '#! not taken over: comments 1', 'position 7K/8/8/8/8/8/8/k7 w - - 0 1', 'stipulate white draw', 'tag White ?', 'pgn',
   '', '#! games 5, studies 2'
 ];
@@ -49,10 +49,10 @@ test('a file is UTF-8, else Latin 1', () => {
   assert.equal(decode(Uint8Array.from([82, 0xe9, 116, 105])), 'Réti');
 });
 test('games that were left out, and why', () => {
-  const men = 'write a position of two to four men, kings included',
+  const men = 'go on with a line until four men are left',
         legal = 'no legal move of this position: write a legal move; perhaps a move before it is missing or wrong',
         aim = 'it does not say what is to be done: write {White to win} before the first move';
-  assert.deepEqual(leftOut(LINES).map(whyLeftOut), [`7 men: ${men}`, `Kb6: ${legal}`, aim]);
+  assert.deepEqual(leftOut(LINES).map(whyLeftOut), [`7 men, never four or fewer: ${men}`, `Kb6: ${legal}`, aim]);
   assert.deepEqual(leftOut(LINES)[1], {game: 3, line: 31, column: 17, author: '', why: 'NoSuchMove', text: 'Kb6'});
   const named = '#! game 5, line 40, column 4 (Kasparyan, G.): NoSuchMove at Kb6';
   assert.deepEqual(
@@ -62,7 +62,7 @@ test('games that were left out, and why', () => {
   assert.equal(withoutAim(LINES), 1);
   assert.equal(importNote(LINES), '5 games, 2 studies. Left out: 3 games, each with its reason in the list.');
   assert.equal(importNote([...LINES.filter(line => !/^#! games/.test(line)), '#! games 3, studies 0']),
-    `3 games, 0 studies. Left out: game 2, line 14: 7 men: ${men}; game 3, line 31, column 17: Kb6: ${legal}; ` +
+    `3 games, 0 studies. Left out: game 2, line 14: 7 men, never four or fewer: ${men}; game 3, line 31, column 17: Kb6: ${legal}; ` +
       `game 4, line 40: ${aim}.`);
   assert.equal(
     importNote(['#! game 1, line 1: stipulated by its result', '', '#! games 1, studies 1']), '1 game, 1 study.');
@@ -83,8 +83,9 @@ test('each reason says what to write instead', () => {
     '3: a move number that does not fit: write the move that is missing before it, or the right number');
   assert.equal(why('StipulationUnread at its comment'),
     'its comment: a stipulation that is not understood: write {White to win}, {White to draw} or {White to mate in 3}');
-  assert.equal(why('left out: no FEN, so 32 men'),
-    'no FEN, so 32 men: write the position: [FEN "8/8/8/6k1/8/8/1P5K/8 w - - 0 1"]');
+  assert.equal(why('left out: 17 men'), '17 men: set up at most sixteen men of a side');
+  assert.equal(why('left out: 7 men, never four or fewer'),
+    '7 men, never four or fewer: go on with a line until four men are left');
   assert.equal(why('OpponentInCheck'),
     'the side that is not to move is in check: write the other side to move, or correct the men');
   for (const name of gameFaults()) assert.match(why(name), /: \S/, name);

@@ -68,14 +68,18 @@ some_of t h = ap (λ (x : List ℕ). length x == 0) h.begins ∙ ne_eqb (length 
 pub reported_again : (t : List ℕ) → IsTrimmed t → text_parsed (32 ∷ t) ≡ Some t
 reported_again t h = rw (trimmed_again t h, some_of t h) refl
 
-fen_trimmed : (t : List ℕ) → IsFen t → IsTrimmed t
-fen_trimmed t h = record {
-  first = h.first;
-  rest = h.rest;
-  begins = h.begins;
-  inked = no_space h.first h.no_space;
-  ends = ap trim_end h.ends ∙ trim_end-behind h.front h.last (ink_not_spaces h.last h.inked h.some) (trim_end-ink h.last h.inked) ∙ sym h.ends;
+-- a text that begins and ends with ink
+pub inked_ends : (t front last bs : List ℕ) (b : ℕ) → t ≡ b ∷ bs → 32 < b → t ≡ front ++ last → Ink last → 0 < length last → IsTrimmed t
+inked_ends t front last bs b begins low ends ink some = record {
+  first = b;
+  rest = bs;
+  begins = begins;
+  inked = no_space b low;
+  ends = ap trim_end ends ∙ trim_end-behind front last (ink_not_spaces last ink some) (trim_end-ink last ink) ∙ sym ends;
 }
+
+fen_trimmed : (t : List ℕ) → IsFen t → IsTrimmed t
+fen_trimmed t h = inked_ends t h.front h.last h.rest h.first h.begins h.no_space h.ends h.inked h.some
 
 -- ---- a keyword
 
@@ -94,15 +98,19 @@ position_word = refl
 position_ink : Ink (codes "position")
 position_ink = ink_of (codes "position") refl
 
+fen_prints : (t : List ℕ) → Print t → Print (codes "position" ++ (32 ∷ t))
+fen_prints t h = print_append (codes "position") (32 ∷ t) (ink_prints (codes "position") position_ink) (omega arith, omega arith, h)
+
 pub position_prints : (t : List ℕ) → IsFen t → Print (codes "position" ++ (32 ∷ t))
-position_prints t h = print_append (codes "position") (32 ∷ t) (ink_prints (codes "position") position_ink) (omega arith, omega arith, h.prints)
+position_prints t h = fen_prints t h.prints
+
+pub position_read : (t : List ℕ) → IsTrimmed t → Print t → ◌≡◌ {A = Asks} (command_of (codes "position" ++ (32 ∷ t))) (Ok (Some (fen_command Position t)))
+unfolding word_asked
+position_read t h p =
+    keyword_asked (codes "position") t (FromFen Position) position_ink (omega arith) refl position_word (fen_prints t p) ∙ rw (reported_again t h) refl
 
 pub position_asked : (t : List ℕ) → IsFen t → ◌≡◌ {A = Asks} (command_of (codes "position" ++ (32 ∷ t))) (Ok (Some (fen_command Position t)))
-unfolding word_asked
-position_asked t h =
-    keyword_asked (codes "position") t (FromFen Position) position_ink (omega arith) refl position_word
-    (position_prints t h)
-    ∙ rw (reported_again t (fen_trimmed t h)) refl
+position_asked t h = position_read t (fen_trimmed t h) h.prints
 
 -- ---- stipulate
 

@@ -30,7 +30,7 @@ use Rattle.study_games.specs.Games.{Game, Begun, with_byte, lines_behind, begins
 use Rattle.study_games.specs.Games.{kind_of, begins_game, seen_then, with_bytes, with_line, begun_by, first_line, one_more, without_mark}
 use Rattle.study_games.specs.Games.{taken_to, game_at_hand, games_from, games_of}
 use Rattle.study_import.specs.Imported.{all_games}
-use Rattle.study_import.specs.Meant.{study_of_game}
+use Rattle.study_import.specs.Meant.{studies_of_game}
 use Rattle.study_import.specs.Written.{CanBeMade, unmarked_study, AreFilesReadBack}
 use Rattle.study_import.proofs.Ink.{all_print}
 use Rattle.study_import.proofs.Spelling.{fen_is}
@@ -571,18 +571,18 @@ texts_cut ss h = all_cut ss 1 h (omega arith)
 
 -- the study of each text
 studies_of : (ss : List (Study Mark)) → AllByRecursion CanBeMade ss
-    → map (study_of_game (all_games None)) (map (λ s. Some (pgn_text s)) ss) ≡ map (λ s. Some (unmarked_study s)) ss
+    → map (studies_of_game (all_games None)) (map (λ s. Some (pgn_text s)) ss) ≡ map (λ s. Some (unmarked_study s) ∷ []) ss
 studies_of [] h = refl
 studies_of (s ∷ ss) h =
-    ap (λ (o : Option PlainStudy). o ∷ map (study_of_game (all_games None)) (map (λ t. Some (pgn_text t)) ss)) (read_back s h.0)
-    ∙ ap (λ (os : List (Option PlainStudy)). Some (unmarked_study s) ∷ os) (studies_of ss h.1)
+    ap (λ (o : List (Option PlainStudy)). o ∷ map (studies_of_game (all_games None)) (map (λ t. Some (pgn_text t)) ss)) (read_back s h.0)
+    ∙ ap (λ (os : List (List (Option PlainStudy))). (Some (unmarked_study s) ∷ []) ∷ os) (studies_of ss h.1)
 
-of_texts : (gs : List Game) → map (λ g. study_of_game (all_games None) g.text) gs ≡ map (study_of_game (all_games None)) (map text_of gs)
+of_texts : (gs : List Game) → map (λ g. studies_of_game (all_games None) g.text) gs ≡ map (studies_of_game (all_games None)) (map text_of gs)
 of_texts [] = refl
-of_texts (g ∷ gs) = ap (λ (os : List (Option PlainStudy)). study_of_game (all_games None) g.text ∷ os) (of_texts gs)
+of_texts (g ∷ gs) = ap (λ (os : List (List (Option PlainStudy))). studies_of_game (all_games None) g.text ∷ os) (of_texts gs)
 
 pub files_back : AreFilesReadBack
 files_back ss h = record {
   texts = texts_cut ss h;
-  studies = of_texts (games_of (flat_map pgn_text ss)) ∙ ap (map (study_of_game (all_games None))) (texts_cut ss h) ∙ studies_of ss h;
+  studies = of_texts (games_of (flat_map pgn_text ss)) ∙ ap (map (studies_of_game (all_games None))) (texts_cut ss h) ∙ studies_of ss h;
 }

@@ -2,7 +2,7 @@
 use Rattle.std.proofs.Common.{◌≡◌, ℕ, zero, suc, ◌+◌, ◌<◌, ◌≤◌, Bool, true, false, cond, eqb, List, [], ◌∷◌, ◌++◌, length, get_or, drop, Option, Some}
 use Rattle.std.proofs.Common.{None, refl, sym, ap, ◌∙◌, subst, inl, inr, arith, add-zero}
 use Rattle.std.specs.Prelude.{filter}
-use Rattle.std.specs.List.{flat_map, range_with_len}
+use Rattle.std.specs.List.{All, flat_map, range_with_len}
 use Rattle.std.specs.Option.{option_map_or}
 use Rattle.std.proofs.lemmas.Bool.{cases_Bool, false≢true, eqb-true, ne_eqb}
 use Rattle.std.proofs.lemmas.List.{drop_more, drop_all}
@@ -129,10 +129,10 @@ module _ (p : Position) (man : Man) (here : man_at p.men man.at ≡ Some man) wh
 
 -- ---- all squares
 
-abbrev mass : Side → Man → ℕ
+abbrev pub mass : Side → Man → ℕ
 mass side m = cond (same_side m.side side) (most_moves m.kind) 0
 
-abbrev masses : Side → List Man → ℕ
+abbrev pub masses : Side → List Man → ℕ
 masses side [] = 0
 masses side (m ∷ men) = mass side m + masses side men
 
@@ -195,10 +195,11 @@ masses-le side men (suc n) i e =
           omega (arith, w, g, whole, next)
     ]
 
-five : (a b c d e : ℕ) → a ≡ b → b ≤ c → c ≤ d → d ≤ e → e ≤ 62 → a ≤ 62
-five a b c d e h i j k l = omega arith
+three : (a b c d : ℕ) → a ≡ b → b ≤ c → c ≤ d → a ≤ d
+three a b c d h i j = omega arith
 
-module _ (p : Position) (valid : IsValid p) where
+-- on a board, whatever else holds: as many as the men of the side to move can have at most
+module _ (p : Position) (on_board : All (λ m. m.at < 64) p.men) where
   no_man : (a x : ℕ) (q : Option Kind) → man_at p.men a ≡ None → bit (is_legal p (record { origin = a; target = x; promoted = q })) ≡ 0
   no_man a x q none =
       bit-none (is_legal p (record { origin = a; target = x; promoted = q }))
@@ -211,7 +212,7 @@ module _ (p : Position) (valid : IsValid p) where
   some_from : (a : ℕ) (man : Man) → man_at p.men a ≡ Some man → passing (is_legal p) (moves_from a) ≤ mass p.to_move man
   some_from a man e =
       let f = found_among p.men a man e in
-      let on : man.at < 64 = All-among (λ m. m.at < 64) p.men man valid.on_board f.0 in
+      let on : man.at < 64 = All-among (λ m. m.at < 64) p.men man on_board f.0 in
       let here : man_at p.men man.at ≡ Some man = subst (λ (x : ℕ). man_at p.men x ≡ Some man) (sym f.1) e in
       subst (λ (x : ℕ). passing (is_legal p) (moves_from x) ≤ mass p.to_move man) f.1
       (elim (cases_Bool (same_side man.side p.to_move)) [
@@ -230,10 +231,16 @@ module _ (p : Position) (valid : IsValid p) where
   unfolding all_moves
   all_few = all_from 0 64
 
-  pub few_legal : length (legal_list p) ≤ 62
+  pub legal_few : length (legal_list p) ≤ masses p.to_move p.men
   unfolding legal_list
-  few_legal =
-      five (length (filter (is_legal p) all_moves)) (passing (is_legal p) all_moves) (weights p.to_move p.men 0 64) (masses p.to_move p.men)
-      (most_of p.to_move p.men)
-      (length-filter (is_legal p) all_moves) all_few (weights-le p.to_move p.men 0 64) (masses-le p.to_move p.men (length p.men) 0 (omega arith))
-      (most_of-valid p valid)
+  legal_few =
+      three (length (filter (is_legal p) all_moves)) (passing (is_legal p) all_moves) (weights p.to_move p.men 0 64) (masses p.to_move p.men)
+      (length-filter (is_legal p) all_moves) all_few (weights-le p.to_move p.men 0 64)
+
+chained : (a b c : ℕ) → a ≤ b → b ≤ c → c ≤ 62 → a ≤ 62
+chained a b c h i j = omega arith
+
+pub few_legal : (p : Position) → IsValid p → length (legal_list p) ≤ 62
+few_legal p valid =
+    chained (length (legal_list p)) (masses p.to_move p.men) (most_of p.to_move p.men) (legal_few p valid.on_board)
+    (masses-le p.to_move p.men (length p.men) 0 (omega arith)) (most_of-valid p valid)

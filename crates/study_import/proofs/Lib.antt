@@ -9,7 +9,7 @@ pub mod Made
 pub mod Printed
 pub mod TextAgain
 pub mod TagTexts
-mod TagsTaken
+pub mod TagsTaken
 mod Alike
 mod FewLegal
 mod Ink
@@ -23,6 +23,7 @@ mod Kept
 mod Openings
 mod TagsTrimmed
 mod Soundness
+mod GamesRead
 mod Placed
 mod Whole
 pub mod Numbers
@@ -40,3 +41,17 @@ mod RoundTrip
 mod PlainText
 mod CutOut
 pub mod StoppedBlock
+mod ReadKept
+mod WideGathered
+mod WideSound
+mod TailRead
+mod WidePaths
+mod WideTexts
+mod WideLines
+mod TailBlocks
+mod WideReads
+pub mod WideReading
+pub mod WideSpelt
+mod WideFew
+mod WideRebuilt
+mod WideReadBack

@@ -37,22 +37,22 @@ turned m n = go (same_move m n) (same_move n m) refl refl
     go false true e f = let one : n ≡ m = same_move-one n m f in sym (ap (λ x. same_move x n) one) ∙ ap (λ x. same_move n x) one
     go false false e f = e ∙ sym f
 
-laws : IsEquivalence same_move
+pub laws : IsEquivalence same_move
 laws = record {
   refl = same_move-refl;
   symm = turned;
   congr = λ x y z e. ap (λ w. same_move w z) (same_move-one x y e);
 }
 
-decides : (m n : Move) → Decides (same_move m n) (m ≡ n)
+pub decides : (m n : Move) → Decides (same_move m n) (m ≡ n)
 decides m n = (same_move-one m n, λ e. subst (λ (x : Move). same_move m x ≡ true) e (same_move-refl m))
 
 -- the moves of nodes side by side
-moves_in : Plain → List Move
+unfoldable pub moves_in : Plain → List Move
 moves_in none = []
 moves_in (more m l b r) = m ∷ moves_in r
 
-width_is : (f : Plain) → width f ≡ length (moves_in f)
+pub width_is : (f : Plain) → width f ≡ length (moves_in f)
 unfolding moves_in
 width_is none = refl
 width_is (more m l b r) = omega (arith, width_is r)
@@ -62,7 +62,7 @@ unfolding moves_in
 others m none h = tt
 others m (more n l b r) h = (false_from_ne_true (same_move m n) (λ e. h.0 (same_move-one m n e)), others m r h.1)
 
-distinct : (f : Plain) → AreDistinct f → IsDistinct same_move (moves_in f)
+pub distinct : (f : Plain) → AreDistinct f → IsDistinct same_move (moves_in f)
 unfolding moves_in IsDistinct
 distinct none h = tt
 distinct (more m l b r) h = IsDistinct-cons same_move m (moves_in r) (others m r h.0) (distinct r h.2)

@@ -68,17 +68,17 @@ uncut : (ds : List ℕ) → Digits ds → slice_split is_point ds ≡ ds ∷ []
 uncut [] h = refl
 uncut (c ∷ ds) h = let low = h.0 in rw (ne_eqb c 46 (λ e. omega arith)) (ap (onto_first c) (uncut ds h.2))
 
-places_cut : (k : ℕ) (ks : List ℕ) → k < 62 → AllBelow 62 ks → slice_split is_point (decimal k ++ more_places ks) ≡ map decimal (k ∷ ks)
+places_cut : (k : ℕ) (ks : List ℕ) → k < 1000 → AllBelow 1000 ks → slice_split is_point (decimal k ++ more_places ks) ≡ map decimal (k ∷ ks)
 places_cut k [] lt h = ap (slice_split is_point) (append-nil (decimal k)) ∙ uncut (decimal k) (number k (omega arith)).digits
 places_cut k (j ∷ js) lt h =
     cut_at (decimal k) (decimal j ++ more_places js) (number k (omega arith)).digits
     ∙ ap (λ (ws : List (List ℕ)). decimal k ∷ ws) (places_cut j js h.0 h.1)
 
-all_places : (ks : List ℕ) → AllBelow 62 ks → list_all is_place (map decimal ks) ≡ true
+all_places : (ks : List ℕ) → AllBelow 1000 ks → list_all is_place (map decimal ks) ≡ true
 all_places [] h = refl
 all_places (k ∷ ks) h = let lt = h.0 in rw (place_is k (number k (omega arith))) (all_places ks h.1)
 
-values : (ks : List ℕ) → AllBelow 62 ks → map (digits_value 10) (map decimal ks) ≡ ks
+values : (ks : List ℕ) → AllBelow 1000 ks → map (digits_value 10) (map decimal ks) ≡ ks
 values [] h = refl
 values (k ∷ ks) h = let lt = h.0 in rw ((number k (omega arith)).value) (ap (λ (t : List ℕ). k ∷ t) (values ks h.1))
 
@@ -86,7 +86,11 @@ no_root : (ds r : List ℕ) → Digits ds → 0 < length ds → bytes_eq (ds ++ 
 no_root [] r h some = absurd (omega arith)
 no_root (c ∷ ds) r h some = let high = h.1 in rw (ne_eqb c 114 (λ e. omega arith)) refl
 
-pub path_again : (ks : List ℕ) → AllBelow 62 ks → path_of (path_text ks) ≡ Some ks
+pub below_more : (m n : ℕ) (ks : List ℕ) → m ≤ n → AllBelow m ks → AllBelow n ks
+below_more m n [] le h = tt
+below_more m n (k ∷ ks) le h = let low = h.0 in (omega arith, below_more m n ks le h.1)
+
+pub path_again : (ks : List ℕ) → AllBelow 1000 ks → path_of (path_text ks) ≡ Some ks
 unfolding path_text is_path_word is_path steps_of
 path_again [] h = refl
 path_again (k ∷ ks) h =

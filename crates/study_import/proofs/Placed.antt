@@ -37,7 +37,7 @@ use Rattle.study_reading.specs.Notes.{said_misplaced, misplaced, placed_or}
 use Rattle.study_import.specs.Blocks.{no_moves, game_read}
 use Rattle.study_import.specs.Laws.{IsListed, AreListed}
 use Rattle.study_reading.specs.Reading.{after_move as after_move_by, symbol_played as symbol_played_by}
-use Rattle.study_import.specs.FewMen.{Reading, gone_on, read_on, after_move, symbol_played, Taken, taken_symbol, after_token, GameRead, GameTaken}
+use Rattle.study_import.specs.FewMen.{few_men, Reading, gone_on, read_on, after_move, symbol_played, Taken, taken_symbol, after_token, GameRead, GameTaken}
 use Rattle.study_import.specs.FewMen.{game_taken, signs_noted, read_moves}
 use Rattle.study_import.proofs.Kept.{stops}
 use Rattle.study_reading.proofs.NoneBehind.{stops_at_end}
@@ -392,4 +392,4 @@ pub listed : AreListed
 unfolding game_read
 listed text start fault e =
     stops_at_end IsListed tt (read_moves (length text) true text (no_moves start)) fault
-    (λ f is. stops Placed (λ g s h. h) step IsListed tt (λ why. tt) tt taking (length text) true text (no_moves start) f (at_root start) is) e
+    (λ f is. stops few_men Placed (λ g s h. h) step IsListed tt (λ why. tt) tt taking (length text) true text (no_moves start) f (at_root start) is) e

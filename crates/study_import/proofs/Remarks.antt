@@ -115,7 +115,7 @@ joined m n xs ys h k = record { shown = shown_append xs ys h.shown k.shown; few 
 pub wider : (m n : ℕ) (t : List ℕ) → m ≤ n → IsPart m t → IsPart n t
 wider m n t le h = record { shown = h.shown; few = omega (arith, h.few) }
 
-shown_ink : (xs : List ℕ) → Ink xs → list_all shows xs ≡ true
+pub shown_ink : (xs : List ℕ) → Ink xs → list_all shows xs ≡ true
 shown_ink [] h = refl
 shown_ink (x ∷ xs) h = let low = h.0 in rw (le-leb 32 x (omega arith)) (shown_ink xs h.2)
 
@@ -136,7 +136,7 @@ remark_is t h =
     (remark_line _ (joined 2 998 (codes "! ") (told.remark_words t) (record { shown = refl; few = omega arith }) h))
 
 -- a text with a number behind it
-numbered : (k n : ℕ) (word rest : List ℕ) (number : ℕ) → IsPart k word → IsPart n rest → IsPart (k + (64 + n)) (word ++ (decimal number ++ rest))
+pub numbered : (k n : ℕ) (word rest : List ℕ) (number : ℕ) → IsPart k word → IsPart n rest → IsPart (k + (64 + n)) (word ++ (decimal number ++ rest))
 numbered k n word rest number w h = joined k (64 + n) word (decimal number ++ rest) w (joined 64 n (decimal number) rest (number_part number) h)
 
 -- ---- the game of a remark
@@ -410,18 +410,19 @@ names_part tags =
     let title = value_of (tag_name named.Event) tags in
     both_part (name_of author) (name_of title) (length (name_of author) == 0) (length (name_of title) == 0) (known_part author) (known_part title)
 
-told_is : (number line : ℕ) (column : Option ℕ) (author words : List ℕ) → IsPart 124 author → IsPart 100 words
+told_is : (number line : ℕ) (column : Option ℕ) (author words : List ℕ) → IsPart 124 author → IsPart 200 words
     → AreLines IsRemark (told_words number line column author words)
 unfolding told_words
 told_is number line column author words h k =
-    with_empty _ (remark_is _ (wider (342 + 100) 998 _ (omega arith)
-    (joined 342 100 (told.subject_words (record { game = number; line = line; column = column; author = author })) words (subject_part _ h) k)))
+    with_empty _ (remark_is _ (wider (342 + 200) 998 _ (omega arith)
+    (joined 342 200 (told.subject_words (record { game = number; line = line; column = column; author = author })) words (subject_part _ h) k)))
 
-pub left_out_is : (e : Entry) (words : List ℕ) → IsPart 100 words → AreLines IsRemark (left_out e words)
+pub left_out_is : (e : Entry) (words : List ℕ) → IsPart 200 words → AreLines IsRemark (left_out e words)
 left_out_is e words h = told_is e.number e.line None (entry_names (tags_of e.text)) words (names_part (tags_of e.text)) h
 
 pub fault_words_are : (e : Entry) (p : Place) (words : List ℕ) → IsPart 100 words → AreLines IsRemark (fault_words e p words)
-fault_words_are e p words h = told_is e.number p.line (Some p.column) (entry_names (tags_of e.text)) words (names_part (tags_of e.text)) h
+fault_words_are e p words h =
+    told_is e.number p.line (Some p.column) (entry_names (tags_of e.text)) words (names_part (tags_of e.text)) (wider 100 200 words (omega arith) h)
 
 -- ---- names of faults
 
@@ -589,7 +590,7 @@ tail_is skipped =
 
 pub unaimed_is : (e : Entry) (s : Sources) → AreLines IsRemark (left_out e (unaimed_words s))
 unfolding unaimed_words
-unaimed_is e s = left_out_is e _ (by s.comment_unread s.tag_unread)
+unaimed_is e s = left_out_is e _ (wider 100 200 _ (omega arith) (by s.comment_unread s.tag_unread))
   where
     by : (comment tag : Bool)
         → IsPart 100 (if comment then codes "StipulationUnread at its comment"
@@ -619,5 +620,5 @@ pub repeated_is : (e : Entry) (tags : List Pair) (name : List ℕ) → repeated_
     → AreLines IsRemark (left_out e (repeated_words name))
 unfolding repeated_words
 repeated_is e tags name is =
-    left_out_is e _ (wider (12 + 6) 100 _ (omega arith)
+    left_out_is e _ (wider (12 + 6) 200 _ (omega arith)
     (joined 12 6 (codes "TagTwice at ") name (record { shown = refl; few = omega arith }) (repeated_part tags name is)))

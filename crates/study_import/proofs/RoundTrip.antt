@@ -61,7 +61,8 @@ use Rattle.study_reading.specs.Behind.{moves_or, moves_left, moves_in, ended_unl
 use Rattle.study_import.specs.Blocks.{no_moves, game_read, fen_in, printable_byte, tag_text, tag_value_text, text_or_unknown as import_text, sources_of, aim_of_game}
 use Rattle.study_import.specs.Blocks.{repeated_name, language_by, language_of, text_in}
 use Rattle.study_import.specs.Imported.{all_games}
-use Rattle.study_import.specs.Meant.{tag_texts, study_aimed, study_of_moves, study_read, study_begun, study_unless_repeated, study_behind_header, study_in}
+use Rattle.study_import.specs.Meant.{tag_texts, study_aimed, study_of_moves, study_read, studies_begun, studies_unless_repeated}
+use Rattle.study_import.specs.Meant.{studies_behind_header, studies_in}
 use Rattle.study_import.specs.Laws.{IsCounted}
 use Rattle.study_import.specs.Written.{without_marks, IsTagged, CanBeMade, unmarked_study, AreReadBack}
 use Rattle.study_import.proofs.Ink.{Ink, ink_of, all_print, decimal_ink}
@@ -628,7 +629,7 @@ fen_again s c = ap (map printable_byte) (value_again (fen_text s.start))
     ∙ printed_same (fen_text s.start) (all_print (fen_text s.start) (fen_is s.start (start_read s c)).prints)
 
 pub read_back : AreReadBack
-unfolding study_in tags_of header_fault game_read language_of
+unfolding studies_in tags_of header_fault game_read language_of
 read_back s c =
     let whole = all_games None in
     let lines = lines_read (header_of s) (text_behind s) true (no_moves s.start) (header_named s c) in
@@ -644,15 +645,17 @@ read_back s c =
     let english : language_of (pgn_text s) s.start ≡ None = ap (language_by (pgn_text s) s.start) read in
     let start : start_of (fen_in (flat_map with_backslash (fen_text s.start))) ≡ Ok s.start = ap start_of (fen_again s c)
     ∙ start_again s.start c.valid c.clock c.positive c.number in
-    ap (study_behind_header whole (pgn_text s)) fault
-    ∙ ap (λ (ps : List Pair). study_unless_repeated whole (pgn_text s) ps (repeated_name ps)) tags
-    ∙ ap (study_unless_repeated whole (pgn_text s) all) (repeated_none s)
-    ∙ ap (study_begun whole (pgn_text s)) start
-    ∙ ap (λ (o : Option Language). study_read whole (pgn_text s) s.start (game_read (text_in o (pgn_text s)) s.start)) english
+    let fen = fen_in (flat_map with_backslash (fen_text s.start)) in
+    ap (studies_behind_header whole (pgn_text s)) fault
+    ∙ ap (λ (ps : List Pair). if length ps == 0 then None ∷ [] else studies_unless_repeated whole (pgn_text s) ps (repeated_name ps)) tags
+    ∙ ap (studies_unless_repeated whole (pgn_text s) all) (repeated_none s)
+    ∙ ap (studies_begun whole (pgn_text s) fen) start
+    ∙ ap (λ (o : Option PlainStudy). o ∷ [])
+    (ap (λ (o : Option Language). study_read whole (pgn_text s) s.start (game_read (text_in o (pgn_text s)) s.start)) english
     ∙ ap (study_read whole (pgn_text s) s.start) read
     ∙ ap (λ (ps : List Pair). study_of_moves None ps s.start (Ok moves.ended_by)) tags
     ∙ ap (study_aimed s.start all moves.ended_by) (by_comment s all s.start.position.to_move moves.ended_by.game.notes moves.opening)
     ∙ ap (λ (ts : List (Option (List ℕ))). Some
     (record { start = s.start; stipulation = s.stipulation; tags = ts; tree = moves.ended_by.game.reading.study.tree }))
     (tags_again s c [])
-    ∙ ap (λ (p : PlainStudy). Some (record { start = s.start; stipulation = s.stipulation; tags = (unmarked_study s).tags; tree = p.tree })) moves.study
+    ∙ ap (λ (p : PlainStudy). Some (record { start = s.start; stipulation = s.stipulation; tags = (unmarked_study s).tags; tree = p.tree })) moves.study)

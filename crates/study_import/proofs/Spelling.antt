@@ -37,7 +37,7 @@ pub record IsShort (n : ℕ) (w : List ℕ) : Type 0 where
 -- ---- moves
 
 -- a text of at most so many bytes, then a word
-both : (m n : ℕ) (xs ys : List ℕ) → IsShort m xs → IsShort n ys → IsShort (m + n) (xs ++ ys)
+pub both : (m n : ℕ) (xs ys : List ℕ) → IsShort m xs → IsShort n ys → IsShort (m + n) (xs ++ ys)
 both m n xs ys h k = record { ink = ink_append xs ys h.ink k.ink; few = omega (arith, length-append xs ys, h.few, k.few) }
 
 kind_short : (k : Kind) → IsShort 1 (kind_text k)
@@ -77,11 +77,11 @@ check_short p = elim (cases_Bool (is_mate p)) [
   ]
 ]
 
-some_below : (b : Bool) (n k : ℕ) → n < k → IfSome (if b then Some n else None) (λ f. f < k)
+pub some_below : (b : Bool) (n k : ℕ) → n < k → IfSome (if b then Some n else None) (λ f. f < k)
 some_below true n k lt = lt
 some_below false n k lt = tt
 
-san_short : (s : San) → IfSome s.file (λ f. f < 8) → IfSome s.rank (λ r. r < 8) → s.target < 64 → IsShort 8 (san_text s true)
+pub san_short : (s : San) → IfSome s.file (λ f. f < 8) → IfSome s.rank (λ r. r < 8) → s.target < 64 → IsShort 8 (san_text s true)
 san_short s file rank target =
     both 1 7 (kind_text s.kind) _ (kind_short s.kind)
     (both 1 6 (file_text s.file) _ (file_short s.file file)
@@ -107,7 +107,7 @@ move_short p m valid e =
     subst (λ (t : List ℕ). IsShort 9 t) (sym (text_of p m h.man h.here))
     (both 8 1 (san_text (san_for p h.man m) true) (check_text (after p m)) (written p h.man m at h.moves.target) (check_short (after p m)))
 
-square_some : (s : San) → 0 < length (san_text s true)
+pub square_some : (s : San) → 0 < length (san_text s true)
 square_some s =
     let a = length-append (kind_text s.kind) (file_text s.file
     ++ (rank_text s.rank ++ (takes_text s.is_capture ++ (square_text s.target ++ promotion_text true s.promoted)))) in
@@ -165,19 +165,19 @@ ranks_some : (men : List Man) (k : ℕ) → 0 < length (ranks_text men (suc k))
 unfolding ranks_text
 ranks_some men k = omega (arith, length-append (rank_field men (suc k)) (47 ∷ ranks_text men k))
 
-placement_ink : (men : List Man) → Ink (placement_text men) × (0 < length (placement_text men))
+pub placement_ink : (men : List Man) → Ink (placement_text men) × (0 < length (placement_text men))
 unfolding placement_text
 placement_ink men = (ranks_ink men 7, ranks_some men 6)
 
-passed_in : (p : Option ℕ) → IfSome p (λ at. at < 64) → Ink (passed_text p)
+pub passed_in : (p : Option ℕ) → IfSome p (λ at. at < 64) → Ink (passed_text p)
 passed_in None h = (omega arith, omega arith, tt)
 passed_in (Some at) h = (omega arith, omega arith, (omega arith, omega arith, tt))
 
-side_ink : (s : Side) → Ink (side_text s)
+pub side_ink : (s : Side) → Ink (side_text s)
 side_ink White = (omega arith, omega arith, tt)
 side_ink Black = (omega arith, omega arith, tt)
 
-passed_on : (men : List Man) (s : Side) (q : Option ℕ) → passed_possible men s q ≡ true → IfSome q (λ at. at < 64)
+pub passed_on : (men : List Man) (s : Side) (q : Option ℕ) → passed_possible men s q ≡ true → IfSome q (λ at. at < 64)
 unfolding could_be_passed
 passed_on men s None e = tt
 passed_on men White (Some x) e =
@@ -191,7 +191,7 @@ counted : (n : ℕ) → n ≤ 9999 → IsShort 4 (decimal n)
 counted n le = record { ink = decimal_ink n; few = length-decimal-le 4 n (omega arith) (omega arith) (omega arith) }
 
 -- two words
-spaced : (xs ys : List ℕ) → Ink xs → Print ys → Print (xs ++ (32 ∷ ys))
+pub spaced : (xs ys : List ℕ) → Ink xs → Print ys → Print (xs ++ (32 ∷ ys))
 spaced xs ys h k = print_append xs (32 ∷ ys) (ink_prints xs h) (omega arith, omega arith, k)
 
 -- the text of a start: printable words, the last of which is the number
@@ -208,23 +208,23 @@ pub record IsFen (t : List ℕ) : Type 0 where
   pub prints : Print t
   pub few : length t ≤ 60
 
-first_of : (xs : List ℕ) → Ink xs → 0 < length xs → (b : ℕ) × (bs : List ℕ) × (xs ≡ b ∷ bs) × (32 < b)
+pub first_of : (xs : List ℕ) → Ink xs → 0 < length xs → (b : ℕ) × (bs : List ℕ) × (xs ≡ b ∷ bs) × (32 < b)
 first_of [] h some = absurd (omega arith)
 first_of (b ∷ bs) h some = (b, bs, refl, h.0)
 
-regrouped : (a b c d e f : List ℕ) → a ++ (32 ∷ (b ++ (32 ∷ (c ++ (32 ∷ (d ++ (32 ∷ (e ++ (32 ∷ f)))))))))
+pub regrouped : (a b c d e f : List ℕ) → a ++ (32 ∷ (b ++ (32 ∷ (c ++ (32 ∷ (d ++ (32 ∷ (e ++ (32 ∷ f)))))))))
     ≡ (a ++ (32 ∷ (b ++ (32 ∷ (c ++ (32 ∷ (d ++ (32 ∷ (e ++ 32 ∷ []))))))))) ++ f
 regrouped a b c d e f = simp append_assoc
 
-longs : (a b c d e f : List ℕ) → length (a ++ (32 ∷ (b ++ (32 ∷ (c ++ (32 ∷ (d ++ (32 ∷ (e ++ (32 ∷ f))))))))))
+pub longs : (a b c d e f : List ℕ) → length (a ++ (32 ∷ (b ++ (32 ∷ (c ++ (32 ∷ (d ++ (32 ∷ (e ++ (32 ∷ f))))))))))
     ≡ length a + length b + length c + length d + length e + length f + 5
 longs a b c d e f = simp length-append (omega arith)
 
-side_few : (s : Side) → length (side_text s) ≤ 1
+pub side_few : (s : Side) → length (side_text s) ≤ 1
 side_few White = omega arith
 side_few Black = omega arith
 
-passed_few : (q : Option ℕ) → length (passed_text q) ≤ 2
+pub passed_few : (q : Option ℕ) → length (passed_text q) ≤ 2
 passed_few None = omega arith
 passed_few (Some at) = omega arith
 
@@ -300,7 +300,7 @@ path_short (k ∷ ks) h =
       few = omega (arith, length-append (decimal k) (more_places ks), p.few, q.few);
     }
 
-pub path_some : (ks : List ℕ) → AllBelow 62 ks → 0 < length (path_text ks)
+pub path_some : (n : ℕ) (ks : List ℕ) → n ≤ 1000 → AllBelow n ks → 0 < length (path_text ks)
 unfolding path_text
-path_some [] h = omega arith
-path_some (k ∷ ks) h = let lt = h.0 in omega (arith, length-append (decimal k) (more_places ks), decimal_nonempty k (omega arith))
+path_some n [] le h = omega arith
+path_some n (k ∷ ks) le h = let lt = h.0 in omega (arith, length-append (decimal k) (more_places ks), decimal_nonempty k (omega arith))

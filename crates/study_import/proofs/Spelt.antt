@@ -1,5 +1,5 @@
 -- The block of a game, by the language of its letters.
-use Rattle.std.proofs.Common.{◌≡◌, List, ℕ, Bool, Option, Some, None, Result, Ok, Err, sym, ap, subst, ◌∙◌}
+use Rattle.std.proofs.Common.{◌≡◌, List, ℕ, Option, Some, None, Result, Ok, Err, sym, ap, subst, ◌∙◌}
 use Rattle.study_notation.specs.declared.start.Start.{Start}
 use Rattle.study_import.specs.declared.importer.Choice.{Choice}
 use Rattle.study_games.specs.declared.language.Language.{Language}
@@ -8,7 +8,7 @@ use Rattle.study_import.specs.FewMen.{Ended}
 use Rattle.study_import.specs.Blocks.{Entry, faulty_block, read_block, game_read, language_by, language_of, moves_block}
 use Rattle.study_import.specs.BlocksRead.{Adds}
 
-module _ {E : Type 0} (r : Result Bool E) (old new : List ℕ) (c : Choice) (e : Entry) (start : Start) where
+module _ {E : Type 0} (r : Result ℕ E) (old new : List ℕ) (c : Choice) (e : Entry) (start : Start) where
   abbrev Added : Option Language → Type 0
   Added l = Adds {E = E} r old new (moves_block c e start l)
 

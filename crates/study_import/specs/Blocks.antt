@@ -1,7 +1,7 @@
 -- The text written for a game.
 use Rattle.std.specs.Prelude.{ℕ, ◌+◌, ◌-◌, ◌^◌, min, Bool, true, false, not, ◌&&◌, ◌||◌, ◌==◌, nat_le, List, [], ◌∷◌, ◌++◌, length, take, drop, map}
 use Rattle.std.specs.Prelude.{codes, decimal, count_by}
-use Rattle.std.specs.Prelude.{Option, Some, None, Result, Ok, Err, if◌then◌else◌}
+use Rattle.std.specs.Prelude.{Option, Some, None, Result, Ok, Err, is_ok, if◌then◌else◌}
 use Rattle.std.specs.List.{flat_map}
 use Rattle.std.specs.Str.{bytes_eq}
 use Rattle.study_board.specs.declared.men.Side.{Side}
@@ -64,6 +64,14 @@ use Rattle.study_reading.specs.Notes.{none_yet}
 use Rattle.study_reading.specs.Taken.{reading_of}
 use Rattle.study_import.specs.FewMen.{GameRead, Ended, read_moves}
 use Rattle.study_reading.specs.Behind.{to_the_end}
+use Rattle.study_reading.specs.Movetext as movetext
+use Rattle.study_wide_text.specs.declared.start.WideStart.{WideStart}
+use Rattle.study_wide_text.specs.Fen.{wide_start_of}
+use Rattle.study_tails.specs.declared.blocks.GameLeftOut.{GameLeftOut}
+use Rattle.study_tails.specs.Study.{WideStudy, with_wide_stipulation, with_wide_tag}
+use Rattle.study_tails.specs.Followed.{wide_men, no_wide_moves}
+use Rattle.study_tails.specs.Tails.{tails, tail}
+use Rattle.study_tails.specs.Blocks.{wide_text, game_reason, game_words}
 use Rattle.study_import.specs.Tails.{Tail, position_text, tail_in}
 
 -- ---- places
@@ -185,13 +193,17 @@ left_out e words = told_words e.number e.line None (entry_names (tags_of e.text)
 abbrev pub fault_words : Entry → Place → List ℕ → List ℕ
 fault_words e p words = told_words e.number p.line (Some p.column) (entry_names (tags_of e.text)) words
 
--- the text written for a game, and whether it is a study
+-- the text written for a game, and the number of studies in it
 pub record Block : Type 0 where
   pub text : List ℕ
-  pub is_study : Bool
+  pub studies : ℕ
 
 abbrev pub no_study : List ℕ → Block
-no_study text = record { text = text; is_study = false }
+no_study text = record { text = text; studies = 0 }
+
+-- below a remark
+abbrev pub under_remark : List ℕ → Block → Block
+under_remark remark block = record { text = remark ++ block.text; studies = block.studies }
 
 -- ---- counts
 
@@ -410,7 +422,7 @@ aim_of_game given tags to_move n = aim_by_sources (sources_of given tags to_move
 -- a game that states no stipulation is left out, with the source that is not understood
 abbrev pub aimed_block : Entry → Start → Reported → Sources → Option Aim → Block
 aimed_block e start t s None = no_study (left_out e (unaimed_words s))
-aimed_block e start t s (Some aim) = record { text = block_lines e start aim t; is_study = true }
+aimed_block e start t s (Some aim) = record { text = block_lines e start aim t; studies = 1 }
 
 abbrev pub sourced_block : Entry → Start → Reported → Sources → Block
 sourced_block e start t s = aimed_block e start t s (aim_by_sources s)
@@ -458,7 +470,7 @@ reported_up_to x = record (reported_of None x) { behind = [] }
 -- without a stipulation it is left out for its fault
 abbrev pub aimed_up_to : Entry → Start → MovesFault → Reported → Option Aim → Block
 aimed_up_to e start fault t None = stopped_block e fault
-aimed_up_to e start fault t (Some aim) = record { text = fault_line e (Some fault) ++ block_lines e start aim t; is_study = true }
+aimed_up_to e start fault t (Some aim) = record { text = fault_line e (Some fault) ++ block_lines e start aim t; studies = 1 }
 
 abbrev pub block_up_to : Option Stipulation → Entry → Start → MovesFault → Result Ended MovesFault → Block
 block_up_to given e start fault (Err other) = stopped_block e fault
@@ -518,7 +530,120 @@ abbrev pub fen_words : List ℕ → FenFault → List ℕ
 fen_words text fen.TooManyMen = codes "left out: " ++ (decimal (at_most (men_in (first_word text))) ++ codes " men")
 fen_words text fault = fen_name fault
 
+-- ---- a game whose start has more than four men, or a right to castle
+
+-- what was read of it: the study, the notes, and the text behind the result
+pub record WideRead : Type 0 where
+  pub study : WideStudy
+  pub notes : Notes
+  pub behind : List ℕ
+
+abbrev pub wide_ended : Result (movetext.Ended WideStudy) MovesFault → Result WideRead MovesFault
+wide_ended (Err fault) = Err fault
+wide_ended (Ok x) = Ok (record { study = x.game.reading.study; notes = x.game.notes; behind = x.behind })
+
+-- up to the result, behind which there are no moves. The stipulation has no effect here
+unfoldable pub wide_read : List ℕ → WideStart → Result WideRead MovesFault
+wide_read text start =
+    wide_ended (to_the_end (movetext.read_moves wide_men (length text) true text (no_wide_moves start (record { hero = White; goal = Win }))))
+
+-- with these tags of the game
+abbrev pub with_tags : List Pair → List TagName → WideStudy → WideStudy
+with_tags tags [] s = s
+with_tags tags (name ∷ names) s = with_tags tags names (with_wide_tag s name (tag_value_text name (value_of (tag_name name) tags)))
+
+-- with its stipulation and its six tags
+unfoldable pub wide_study : List Pair → Stipulation → WideStudy → WideStudy
+wide_study tags stipulation s = with_tags tags six_names (with_wide_stipulation s stipulation)
+
+abbrev pub wide_reported : Option Language → WideRead → Reported
+wide_reported language x = record {
+  language = language;
+  notes = x.notes;
+  repeated = x.notes.moves - (size_of x.study.tree - 1);
+  behind = x.behind;
+  inserts = [];
+}
+
+-- how many of its tails are studies
+abbrev pub studies_among : WideStudy → List (List ℕ) → ℕ
+studies_among s paths = count_by (λ path. is_ok (tail s path)) paths
+
+-- the study in remarks and the blocks of its tails
+unfoldable pub tails_block : Entry → Aim → Reported → WideStudy → Block
+tails_block e aim t s = record { text = head_line e aim ++ (remark_lines e t ++ wide_text s e.number); studies = studies_among s (tails s) }
+
+abbrev pub no_tails_words : WideStudy → GameLeftOut → List ℕ
+no_tails_words s why = codes "left out: " ++ game_words (length s.start.position.board.men) why
+
+-- a game without a tail, or with too many, is left out
+abbrev pub tailed_block : Entry → Aim → Reported → WideStudy → Option GameLeftOut → Block
+tailed_block e aim t s (Some why) = no_study (left_out e (no_tails_words s why))
+tailed_block e aim t s None = tails_block e aim t s
+
+abbrev pub followed_block : Entry → Aim → Reported → WideStudy → Block
+followed_block e aim t s = tailed_block e aim t s (game_reason s)
+
+abbrev pub wide_aimed : Entry → Reported → WideStudy → Sources → Option Aim → Block
+wide_aimed e t study s None = no_study (left_out e (unaimed_words s))
+wide_aimed e t study s (Some aim) = followed_block e aim t (wide_study (tags_of e.text) aim.stipulation study)
+
+abbrev pub wide_sourced : Entry → Reported → WideStudy → Sources → Block
+wide_sourced e t study s = wide_aimed e t study s (aim_by_sources s)
+
+-- up to a fault: without a stipulation, or without a tail before the fault, the game is left out for the fault
+abbrev pub tailed_up_to : Entry → MovesFault → Aim → Reported → WideStudy → Option GameLeftOut → Block
+tailed_up_to e fault aim t s (Some why) = stopped_block e fault
+tailed_up_to e fault aim t s None = under_remark (fault_line e (Some fault)) (tails_block e aim t s)
+
+abbrev pub followed_up_to : Entry → MovesFault → Aim → Reported → WideStudy → Block
+followed_up_to e fault aim t s = tailed_up_to e fault aim t s (game_reason s)
+
+abbrev pub wide_aimed_up_to : Entry → MovesFault → WideRead → Option Aim → Block
+wide_aimed_up_to e fault x None = stopped_block e fault
+wide_aimed_up_to e fault x (Some aim) =
+    followed_up_to e fault aim (record (wide_reported None x) { behind = [] }) (wide_study (tags_of e.text) aim.stipulation x.study)
+
+abbrev pub wide_up_to : Option Stipulation → Entry → WideStart → MovesFault → Result WideRead MovesFault → Block
+wide_up_to given e start fault (Err other) = stopped_block e fault
+wide_up_to given e start fault (Ok x) =
+    wide_aimed_up_to e fault x (aim_of_game given (tags_of e.text) start.position.board.to_move x.notes)
+
+unfoldable pub wide_faulty : Choice → Entry → WideStart → MovesFault → Block
+wide_faulty c e start fault =
+    if c.up_to_faults then wide_up_to c.given e start fault (wide_read (text_up_to e.text fault.left) start) else stopped_block e fault
+
+abbrev pub wide_read_block : Choice → Entry → WideStart → Option Language → Result WideRead MovesFault → Block
+wide_read_block c e start language (Err fault) = wide_faulty c e start fault
+wide_read_block c e start language (Ok x) =
+    wide_sourced e (wide_reported language x) x.study (sources_of c.given (tags_of e.text) start.position.board.to_move x.notes)
+
+-- the first of these languages in whose letters the moves are read to the end
+abbrev pub first_wide_readable : List Language → List ℕ → WideStart → Option Language
+first_wide_readable [] text start = None
+first_wide_readable (l ∷ ls) text start = if is_ok (wide_read (in_english l text) start) then Some l else first_wide_readable ls text start
+
+abbrev pub wide_language_by : List ℕ → WideStart → Result WideRead MovesFault → Option Language
+wide_language_by text start (Ok x) = None
+wide_language_by text start (Err fault) = if is_unknown_move fault.why then first_wide_readable languages text start else None
+
+-- the language of its letters, if it is read in them and not in English
+unfoldable pub wide_language_of : List ℕ → WideStart → Option Language
+wide_language_of text start = wide_language_by text start (wide_read text start)
+
+abbrev pub wide_moves_block : Choice → Entry → WideStart → Option Language → Block
+wide_moves_block c e start language = wide_read_block c e start language (wide_read (text_in language e.text) start)
+
+abbrev pub wide_block : Choice → Entry → List ℕ → Result WideStart FenFault → Block
+wide_block c e text (Err fault) = no_study (left_out e (fen_words text fault))
+wide_block c e text (Ok start) = wide_moves_block c e start (wide_language_of e.text start)
+
+-- ---- a game by its start
+
+-- with more men, or with rights to castle, it is read by the rules for any number of men
 abbrev pub start_block : Choice → Entry → List ℕ → Result Start FenFault → Block
+start_block c e text (Err fen.TooManyMen) = wide_block c e text (wide_start_of text)
+start_block c e text (Err fen.Castling) = wide_block c e text (wide_start_of text)
 start_block c e text (Err fault) = no_study (left_out e (fen_words text fault))
 start_block c e text (Ok start) = moves_block c e start (language_of e.text start)
 
@@ -529,8 +654,13 @@ printable_byte b = if is_printable b then b else 63
 abbrev pub fen_in : List ℕ → List ℕ
 fen_in value = map printable_byte (unescape value)
 
+-- the initial position of a game
+abbrev pub initial_fen : List ℕ
+initial_fen = codes "rnbqkbnr/pppppppp/8/8/8/8/PPPPPPPP/RNBQKBNR w KQkq - 0 1"
+
+-- a game without a FEN begins from the initial position
 abbrev pub fen_block : Choice → Entry → Option (List ℕ) → Block
-fen_block c e None = no_study (left_out e (codes "left out: no FEN, so 32 men"))
+fen_block c e None = wide_block c e initial_fen (wide_start_of initial_fen)
 fen_block c e (Some value) = start_block c e (fen_in value) (start_of (fen_in value))
 
 -- two games that run together have a second tag of a name that each game has once
@@ -561,11 +691,11 @@ sized_block c number line None =
 sized_block c number line (Some text) =
     header_block c (record { number = number; line = line; text = text }) (header_fault text)
 
--- the text written for the game with this number, which begins with at most four men
+-- the text written for the game with this number, from its own start
 unfoldable pub block_of : Choice → ℕ → Game → Block
 block_of c number game = sized_block c number game.line game.text
 
--- ---- a game with more men, from a position on that a comment states
+-- ---- a game with more men, from a position on that a comment states, if that is chosen
 
 abbrev pub has_more : Result Start FenFault → Bool
 has_more (Err fen.TooManyMen) = true
@@ -589,9 +719,6 @@ tail_of tails text = None
 abbrev pub tail_line : ℕ → List ℕ
 tail_line skipped = told.remark_text (told.tail skipped)
 
-abbrev pub under_remark : List ℕ → Block → Block
-under_remark remark block = record { text = remark ++ block.text; is_study = block.is_study }
-
 -- the block of the tail, as for a game that begins there
 abbrev pub tail_block : Choice → ℕ → ℕ → Tail → Block
 tail_block c number line t =
@@ -612,16 +739,17 @@ abbrev pub last_line : ℕ → ℕ → List ℕ
 last_line games studies = told.remark_text (told.total games studies)
 
 abbrev pub one_if : Bool → ℕ → ℕ
-one_if is_study n = if is_study then one_more n else n
+one_if counts n = if counts then one_more n else n
 
 -- the games with these numbers are written
 abbrev pub is_chosen : Choice → ℕ → Bool
 is_chosen c number = nat_le c.from number && nat_le number c.to
 
--- the numbers of games so far, of those written, and of studies among these
+-- the numbers of games so far, of those written, of those among these that have a study, and of their studies
 pub record Tally : Type 0 where
   pub met : ℕ
   pub reported : ℕ
+  pub with_study : ℕ
   pub studies : ℕ
 
 -- with the next game
@@ -631,9 +759,10 @@ tally_with_game c t g =
     then record {
       met = one_more t.met;
       reported = one_more t.reported;
-      studies = one_if (block_by c (one_more t.met) g).is_study t.studies;
+      with_study = one_if (not ((block_by c (one_more t.met) g).studies == 0)) t.with_study;
+      studies = at_most (t.studies + (block_by c (one_more t.met) g).studies);
     }
-    else record { met = one_more t.met; reported = t.reported; studies = t.studies }
+    else record { met = one_more t.met; reported = t.reported; with_study = t.with_study; studies = t.studies }
 
 -- the text written for it
 abbrev pub reported_text : Choice → Tally → Game → List ℕ

@@ -14,6 +14,6 @@ is_of_memory (stop.Taking (reason.Line line_fault.OutOfMemory)) = true
 is_of_memory other = false
 
 -- the block was added, unless there was no memory
-abbrev pub Adds : {E : Type 0} → Result Bool E → List ℕ → List ℕ → Block → Type 0
-Adds (Ok is_study) old new block = (new ≡ old ++ block.text) × (is_study ≡ block.is_study)
+abbrev pub Adds : {E : Type 0} → Result ℕ E → List ℕ → List ℕ → Block → Type 0
+Adds (Ok studies) old new block = (new ≡ old ++ block.text) × (studies ≡ block.studies)
 Adds (Err error) old new block = Unit {0}

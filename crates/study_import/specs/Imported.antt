@@ -6,7 +6,7 @@ use Rattle.study_import.specs.declared.importer.Choice.{Choice}
 use Rattle.study_import.specs.Blocks.{Tally, tally_with_game, reported_text, blocks}
 
 abbrev pub no_game : Tally
-no_game = record { met = 0; reported = 0; studies = 0 }
+no_game = record { met = 0; reported = 0; with_study = 0; studies = 0 }
 
 -- the script of a PGN file
 unfoldable pub script_of : Choice → List ℕ → List ℕ
@@ -17,7 +17,7 @@ abbrev pub tally_behind : Choice → Tally → List Game → Tally
 tally_behind c t [] = t
 tally_behind c t (g ∷ gs) = tally_behind c (tally_with_game c t g) gs
 
--- the number of games of a file that were written, and of studies among them
+-- the numbers of games of a file that were written and that have a study, and of their studies
 unfoldable pub tally_of : Choice → List ℕ → Tally
 tally_of c text = tally_behind c no_game (games_of text)
 

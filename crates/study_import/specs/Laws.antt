@@ -1,10 +1,19 @@
 -- Laws of an import.
-use Rattle.std.specs.Prelude.{◌≡◌, ℕ, ◌≤◌, Bool, List, [], ◌∷◌, ◌++◌, length, codes, Option, Some, None, is_some, Ok, Err, true, false, if◌then◌else◌}
+use Rattle.std.specs.Prelude.{◌≡◌, ℕ, ◌≤◌, Bool, List, [], ◌∷◌, ◌++◌, length, codes, count_by, Option, Some, None, is_some, is_none, Result, Ok, Err}
+use Rattle.std.specs.Prelude.{true, false, not, ◌&&◌, ◌==◌, if◌then◌else◌}
 use Rattle.std.specs.List.{AllByRecursion}
 use Rattle.study_board.specs.Position.{IsValid}
+use Rattle.study_board.specs.declared.men.Side.TheVariants.{White}
 use Rattle.study_notation.specs.declared.start.Start.{Start}
+use Rattle.study_notation.specs.declared.fault.FenFault.{FenFault}
+use Rattle.study_notation.specs.declared.fault.FenFault.TheVariants as fen
+use Rattle.study_notation.specs.Fen.{start_of}
+use Rattle.study_wide_text.specs.declared.start.WideStart.{WideStart}
+use Rattle.study_tails.specs.Study.{WideStudy}
+use Rattle.study_tails.specs.Followed.{wide_men, no_wide_moves}
+use Rattle.study_reading.specs.Movetext as movetext
 use Rattle.study_marks.specs.declared.stipulation.Goal.{Goal}
-use Rattle.study_marks.specs.declared.stipulation.Goal.TheVariants.{MateIn}
+use Rattle.study_marks.specs.declared.stipulation.Goal.TheVariants.{Win, MateIn}
 use Rattle.study_marks.specs.declared.stipulation.Stipulation.{Stipulation}
 use Rattle.study_marks.specs.declared.tag.TagName.{TagName}
 use Rattle.study_marks.specs.Study.{tag_name}
@@ -18,7 +27,7 @@ use Rattle.study_games.specs.Laws.{number_behind, EndsWithMoves, BeginsWithTag, 
 use Rattle.study_import.specs.declared.importer.Choice.{Choice}
 use Rattle.study_import.specs.Blocks.{Tally, is_chosen, tally_with_game, reported_text, blocks, no_moves, game_read, tag_value_text, Entry, Reported}
 use Rattle.study_import.specs.Blocks.{Block, block_lines, fault_line}
-use Rattle.study_import.specs.Blocks.{tail_of, tail_line, under_remark, block_by}
+use Rattle.study_import.specs.Blocks.{tail_of, tail_line, under_remark, block_by, fen_in, repeated_name, WideRead, wide_ended, wide_read, tails_block}
 use Rattle.study_import.specs.Insertions.{Leads, AllReadAgain}
 use Rattle.study_reading.specs.declared.aims.Aim.{Aim}
 use Rattle.study_reading.specs.declared.lines.LineFault.TheVariants as line_fault
@@ -30,8 +39,8 @@ use Rattle.study_reading.specs.declared.movetext.Stop.TheVariants as stop
 use Rattle.study_import.specs.FewMen.{Ended, read_moves}
 use Rattle.study_reading.specs.Behind.{moves_left, moves_in, to_the_end}
 use Rattle.study_import.specs.Imported.{no_game, script_of, tally_of}
-use Rattle.study_import.specs.Tails.{Tail, tail_from, not_begun, tail_in}
-use Rattle.study_import.specs.Meant.{study_by}
+use Rattle.study_import.specs.Tails.{Tail, position_text, tail_from, not_begun, tail_in}
+use Rattle.study_import.specs.Meant.{studies_by}
 
 -- the blocks of these games after a tally, without the last line
 abbrev pub reported_texts : Choice → Tally → List Game → List ℕ
@@ -71,17 +80,47 @@ text_read text (Some t) = t.text
 
 -- the block of a game that leads to a study, below the line of its fault, if it has one
 abbrev pub study_block : Entry → Start → Aim → Reported → Option MovesFault → Block
-study_block e start aim reported fault = record { text = fault_line e fault ++ block_lines e start aim reported; is_study = true }
+study_block e start aim reported fault = record { text = fault_line e fault ++ block_lines e start aim reported; studies = 1 }
 
--- a game leads to the same study under every number and at every line: its start, its stipulation and its moves are those of its text; if it is read only
--- up to its first fault, as the choice allows, the fault is the same
+-- whether the moves of a game are read by the rules for any number of men: its FEN has more than four men or a right to castle, or it has none
+abbrev pub is_beyond : Result Start FenFault → Bool
+is_beyond (Err fen.TooManyMen) = true
+is_beyond (Err fen.Castling) = true
+is_beyond other = false
+
+abbrev pub has_wide_fen : Option (List ℕ) → Bool
+has_wide_fen None = true
+has_wide_fen (Some value) = is_beyond (start_of (fen_in value))
+
+-- of a game that may have too many bytes, and that may begin where a comment states its position
+abbrev pub is_wide_by : Option (List ℕ) → Option Tail → Bool
+is_wide_by text (Some t) = is_beyond (start_of (position_text t.position))
+is_wide_by None None = false
+is_wide_by (Some text) None =
+    is_none (header_fault text)
+    && (not (length (tags_of text) == 0) && (is_none (repeated_name (tags_of text)) && has_wide_fen (value_of (codes "FEN") (tags_of text))))
+
+abbrev pub is_wide_game : Choice → Option (List ℕ) → Bool
+is_wide_game c text = is_wide_by text (tail_of c.tails text)
+
+-- blocks that are, under every number and at every line, those of one start, stipulation and moves, or of one study and its tails, of the same text; if the
+-- text is read only up to its first fault, as the choice allows, the fault is the same
+abbrev pub Alike : Bool → Choice → List ℕ → Option Tail → (ℕ → ℕ → Block) → Type 0
+Alike false c text above make =
+    (start : Start) × (aim : Aim) × (reported : Reported) × (fault : Option MovesFault)
+    × (c.up_to_faults ≡ false → fault ≡ None) × ((number line : ℕ) → make number line
+    ≡ under_remark (remark_above above) (study_block (entry_of number line (text_read text above)) start aim reported fault))
+Alike true c text above make =
+    (study : WideStudy) × (aim : Aim) × (reported : Reported) × (fault : Option MovesFault)
+    × (c.up_to_faults ≡ false → fault ≡ None) × ((number line : ℕ) → make number line
+    ≡ under_remark (remark_above above) (under_remark (fault_line (entry_of number line (text_read text above)) fault)
+    (tails_block (entry_of number line (text_read text above)) aim reported study)))
+
+-- a game leads to the same studies under every number and at every line
 abbrev pub AreAlike : Type 0
 AreAlike =
-    (c : Choice) → (text : List ℕ) → (m k : ℕ) → (block_by c m (record { line = k; text = Some text })).is_study ≡ true
-    → (start : Start) × (aim : Aim) × (reported : Reported) × (fault : Option MovesFault)
-    × (c.up_to_faults ≡ false → fault ≡ None) × ((number line : ℕ) → block_by c number (record { line = line; text = Some text })
-    ≡ under_remark (remark_above (tail_of c.tails (Some text)))
-    (study_block (entry_of number line (text_read text (tail_of c.tails (Some text)))) start aim reported fault))
+    (c : Choice) → (text : List ℕ) → (m k : ℕ) → 1 ≤ (block_by c m (record { line = k; text = Some text })).studies
+    → Alike (is_wide_game c (Some text)) c text (tail_of c.tails (Some text)) (λ number line. block_by c number (record { line = line; text = Some text }))
 
 -- a mate within 1 to 127 moves
 abbrev pub IsCounted : Goal → Type 0
@@ -97,9 +136,11 @@ abbrev pub HasSixTags : Document → Type 0
 HasSixTags (composed s) = length s.tags ≡ 6
 HasSixTags other = Unit {0}
 
-abbrev pub document_then : Document → Option PlainStudy → Document
-document_then d None = d
-document_then d (Some s) = composed s
+-- after these studies, one after the other; where there is none, the document stays
+abbrev pub document_then : Document → List (Option PlainStudy) → Document
+document_then d [] = d
+document_then d (None ∷ os) = document_then d os
+document_then d (Some s ∷ os) = document_then (composed s) os
 
 -- a line that a script can have
 abbrev pub IsShort : List ℕ → Type 0
@@ -113,19 +154,36 @@ asks_pgn other = false
 abbrev pub IsNoPgn : List ℕ → Type 0
 IsNoPgn line = asks_pgn (command_of line) ≡ false
 
--- the lines of a study end with the one that requests its PGN, and an empty one; those of another block do not request it
-abbrev pub IsWritten : Bool → List (List ℕ) → Type 0
-IsWritten true lines = (front : List (List ℕ)) × (lines ≡ front ++ (codes "pgn" ∷ [] ∷ [])) × AllByRecursion IsNoPgn front
-IsWritten false lines = AllByRecursion IsNoPgn lines
+-- a line without a command
+abbrev pub IsSilent : List ℕ → Type 0
+IsSilent line = ◌≡◌ {A = Asks} (command_of line) (Ok None)
 
--- the block of a game, as its bytes are, reads line by line as a script that no rule refuses, whatever document is before it: if the game or its tail leads
--- to a study, that study is the document after it, and else the document is unchanged; apart from tables and memory
+-- the part of a block with a study: its lines lead to it, whatever document is before them, and none of them requests a PGN; then the line that does follows,
+-- and an empty one
+pub record IsStudyIn (s : PlainStudy) (lines : List (List ℕ)) : Type 0 where
+  pub front : List (List ℕ)
+  pub cut : lines ≡ front ++ (codes "pgn" ∷ [] ∷ [])
+  pub before : AllByRecursion IsNoPgn front
+  pub leads : (d : Document) → HasSixTags d → after_lines (Some d) front ≡ Some (composed s)
+
+-- where a game or a tail is left out, no line has a command
+abbrev pub IsPart : Option PlainStudy → List (List ℕ) → Type 0
+IsPart None lines = AllByRecursion IsSilent lines
+IsPart (Some s) lines = IsStudyIn s lines
+
+-- lines that are the parts for these studies, one after the other, and nothing more
+abbrev pub AreParts : List (Option PlainStudy) → List (List ℕ) → Type 0
+AreParts [] lines = lines ≡ []
+AreParts (o ∷ os) lines = (first rest : List (List ℕ)) × (lines ≡ first ++ rest) × IsPart o first × AreParts os rest
+
+-- the block of a game, as its bytes are, reads line by line as a script that no rule refuses, whatever document is before it: it is the parts for the
+-- studies that the game or its tails lead to, and the last of these is the document after it; apart from tables and memory
 pub record IsRead (c : Choice) (number : ℕ) (game : Game) : Type 0 where
-  pub is_study : (block_by c number game).is_study ≡ is_some (study_by c game.text)
+  pub studies : (block_by c number game).studies ≡ count_by is_some (studies_by c game.text)
   pub short : AllByRecursion IsShort (script_lines (block_by c number game).text)
-  pub written : IsWritten (block_by c number game).is_study (script_lines (block_by c number game).text)
+  pub parts : AreParts (studies_by c game.text) (script_lines (block_by c number game).text)
   pub study : (d : Document) → HasSixTags d
-      → after_lines (Some d) (script_lines (block_by c number game).text) ≡ Some (document_then d (study_by c game.text))
+      → after_lines (Some d) (script_lines (block_by c number game).text) ≡ Some (document_then d (studies_by c game.text))
 
 abbrev pub AreRead : Type 0
 AreRead = (c : Choice) → IsGiven c.given → (number : ℕ) → (game : Game) → IsRead c number game
@@ -134,7 +192,7 @@ AreRead = (c : Choice) → IsGiven c.given → (number : ℕ) → (game : Game) 
 abbrev pub document_behind : Choice → ℕ → Document → List Game → Document
 document_behind c met d [] = d
 document_behind c met d (g ∷ gs) =
-    document_behind c (one_more met) (if is_chosen c (one_more met) then document_then d (study_by c g.text) else d) gs
+    document_behind c (one_more met) (if is_chosen c (one_more met) then document_then d (studies_by c g.text) else d) gs
 
 -- the same for the whole script
 pub record IsScriptRead (c : Choice) (text : List ℕ) : Type 0 where
@@ -160,6 +218,9 @@ pub record IsWhole (text : List ℕ) (n : ℕ) : Type 0 where
   pub moves : (start : Start) → to_the_end (read_moves n true text (no_moves start)) ≡ game_read text start
   pub behind : moves_left n false text ≡ moves_in text
   pub ended : (start : Start) → (x : Ended) → game_read text start ≡ Ok x → moves_in x.behind ≡ None
+  pub wide_moves : (start : WideStart)
+      → wide_ended (to_the_end (movetext.read_moves wide_men n true text (no_wide_moves start (record { hero = White; goal = Win })))) ≡ wide_read text start
+  pub wide_behind : (start : WideStart) → (x : WideRead) → wide_read text start ≡ Ok x → moves_in x.behind ≡ None
   pub tail : tail_from n true text (not_begun []) ≡ tail_in text
   pub tags : tags_in n true text ≡ tags_of text
   pub fault : fault_in n true text ≡ header_fault text

@@ -10,3 +10,4 @@ pub mod Laws
 pub mod Insertions
 pub mod Meant
 pub mod Written
+pub mod ReadBack

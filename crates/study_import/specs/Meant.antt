@@ -1,7 +1,8 @@
--- The study of a game.
-use Rattle.std.specs.Prelude.{ℕ, List, map, codes, Option, Some, None, Result, Ok, Err, if◌then◌else◌}
+-- The studies of a game.
+use Rattle.std.specs.Prelude.{ℕ, ◌==◌, List, [], ◌∷◌, length, map, codes, Option, Some, None, Result, Ok, Err, if◌then◌else◌}
 use Rattle.study_notation.specs.declared.start.Start.{Start}
 use Rattle.study_notation.specs.declared.fault.FenFault.{FenFault}
+use Rattle.study_notation.specs.declared.fault.FenFault.TheVariants as fault
 use Rattle.study_notation.specs.Fen.{start_of}
 use Rattle.study_marks.specs.declared.stipulation.Stipulation.{Stipulation}
 use Rattle.study_marks.specs.Study.{tag_name}
@@ -10,10 +11,18 @@ use Rattle.study_games.specs.Header.{Pair, tags_of, header_fault, value_of}
 use Rattle.study_games.specs.declared.header.HeaderFault.{HeaderFault}
 use Rattle.study_reading.specs.declared.aims.Aim.{Aim}
 use Rattle.study_reading.specs.declared.movetext.MovesFault.{MovesFault}
+use Rattle.study_wide_text.specs.declared.start.WideStart.{WideStart}
+use Rattle.study_wide_text.specs.Fen.{wide_start_of}
+use Rattle.study_tails.specs.declared.tails.LeftOut.{LeftOut}
+use Rattle.study_tails.specs.declared.blocks.GameLeftOut.{GameLeftOut}
+use Rattle.study_tails.specs.Study.{WideStudy}
+use Rattle.study_tails.specs.Tails.{tails, tail}
+use Rattle.study_tails.specs.Blocks.{game_reason}
 use Rattle.study_import.specs.FewMen.{Ended}
 use Rattle.study_import.specs.declared.importer.Choice.{Choice}
 use Rattle.study_import.specs.Tails.{Tail, position_text}
 use Rattle.study_import.specs.Blocks.{six_names, tag_value_text, aim_of_game, repeated_name, game_read, text_up_to, language_of, text_in, fen_in, tail_of}
+use Rattle.study_import.specs.Blocks.{WideRead, wide_read, wide_study, wide_language_of, initial_fen}
 
 -- the texts of the six tags; each is known, if only as `?`
 abbrev pub tag_texts : List Pair → List (Option (List ℕ))
@@ -37,35 +46,73 @@ abbrev pub study_read : Choice → List ℕ → Start → Result Ended MovesFaul
 study_read c text start (Err fault) = study_up_to c text start fault
 study_read c text start (Ok x) = study_of_moves c.given (tags_of text) start (Ok x)
 
-abbrev pub study_begun : Choice → List ℕ → Result Start FenFault → Option PlainStudy
-study_begun c text (Err fault) = None
-study_begun c text (Ok start) = study_read c text start (game_read (text_in (language_of text start) text) start)
+-- ---- a game with more men, or with rights to castle
 
-abbrev pub study_with_fen : Choice → List ℕ → Option (List ℕ) → Option PlainStudy
-study_with_fen c text None = None
-study_with_fen c text (Some value) = study_begun c text (start_of (fen_in value))
+-- the study of a tail, if it has one
+abbrev pub tail_study : Result PlainStudy LeftOut → Option PlainStudy
+tail_study (Ok u) = Some u
+tail_study (Err why) = None
 
-abbrev pub study_unless_repeated : Choice → List ℕ → List Pair → Option (List ℕ) → Option PlainStudy
-study_unless_repeated c text tags (Some name) = None
-study_unless_repeated c text tags None = study_with_fen c text (value_of (codes "FEN") tags)
+-- one for each tail; `None` for a tail that is left out, and once for a game that is
+abbrev pub tail_studies : WideStudy → Option GameLeftOut → List (Option PlainStudy)
+tail_studies s (Some why) = None ∷ []
+tail_studies s None = map (λ path. tail_study (tail s path)) (tails s)
 
-abbrev pub study_behind_header : Choice → List ℕ → Option HeaderFault → Option PlainStudy
-study_behind_header c text (Some fault) = None
-study_behind_header c text None = study_unless_repeated c text (tags_of text) (repeated_name (tags_of text))
+abbrev pub wide_studies_aimed : List Pair → WideStudy → Option Aim → List (Option PlainStudy)
+wide_studies_aimed tags s None = None ∷ []
+wide_studies_aimed tags s (Some aim) = tail_studies (wide_study tags aim.stipulation s) (game_reason (wide_study tags aim.stipulation s))
 
--- the start of its FEN, its stipulation, its tags and its tree; `None` if the game is left out
-unfoldable pub study_in : Choice → List ℕ → Option PlainStudy
-study_in c text = study_behind_header c text (header_fault text)
+abbrev pub wide_studies_of_moves : Option Stipulation → List Pair → WideStart → Result WideRead MovesFault → List (Option PlainStudy)
+wide_studies_of_moves given tags start (Err fault) = None ∷ []
+wide_studies_of_moves given tags start (Ok x) = wide_studies_aimed tags x.study (aim_of_game given tags start.position.board.to_move x.notes)
+
+unfoldable pub wide_studies_up_to : Choice → List ℕ → WideStart → MovesFault → List (Option PlainStudy)
+wide_studies_up_to c text start fault =
+    if c.up_to_faults then wide_studies_of_moves c.given (tags_of text) start (wide_read (text_up_to text fault.left) start) else None ∷ []
+
+abbrev pub wide_studies_read : Choice → List ℕ → WideStart → Result WideRead MovesFault → List (Option PlainStudy)
+wide_studies_read c text start (Err fault) = wide_studies_up_to c text start fault
+wide_studies_read c text start (Ok x) = wide_studies_of_moves c.given (tags_of text) start (Ok x)
+
+abbrev pub wide_studies_begun : Choice → List ℕ → Result WideStart FenFault → List (Option PlainStudy)
+wide_studies_begun c text (Err fault) = None ∷ []
+wide_studies_begun c text (Ok start) = wide_studies_read c text start (wide_read (text_in (wide_language_of text start) text) start)
+
+-- ---- a game
+
+abbrev pub studies_begun : Choice → List ℕ → List ℕ → Result Start FenFault → List (Option PlainStudy)
+studies_begun c text fen (Err fault.TooManyMen) = wide_studies_begun c text (wide_start_of fen)
+studies_begun c text fen (Err fault.Castling) = wide_studies_begun c text (wide_start_of fen)
+studies_begun c text fen (Err other) = None ∷ []
+studies_begun c text fen (Ok start) = study_read c text start (game_read (text_in (language_of text start) text) start) ∷ []
+
+abbrev pub studies_with_fen : Choice → List ℕ → Option (List ℕ) → List (Option PlainStudy)
+studies_with_fen c text None = wide_studies_begun c text (wide_start_of initial_fen)
+studies_with_fen c text (Some value) = studies_begun c text (fen_in value) (start_of (fen_in value))
+
+abbrev pub studies_unless_repeated : Choice → List ℕ → List Pair → Option (List ℕ) → List (Option PlainStudy)
+studies_unless_repeated c text tags (Some name) = None ∷ []
+studies_unless_repeated c text tags None = studies_with_fen c text (value_of (codes "FEN") tags)
+
+abbrev pub studies_behind_header : Choice → List ℕ → Option HeaderFault → List (Option PlainStudy)
+studies_behind_header c text (Some fault) = None ∷ []
+studies_behind_header c text None =
+    if length (tags_of text) == 0 then None ∷ [] else studies_unless_repeated c text (tags_of text) (repeated_name (tags_of text))
+
+-- of a game with at most four men one study: the start of its FEN, its stipulation, its tags and its tree; of one with more one for each tail, in order;
+-- `None` for a tail that is left out, and once for a game that is
+unfoldable pub studies_in : Choice → List ℕ → List (Option PlainStudy)
+studies_in c text = studies_behind_header c text (header_fault text)
 
 -- the same for a game that may have too many bytes
-abbrev pub study_of_game : Choice → Option (List ℕ) → Option PlainStudy
-study_of_game c None = None
-study_of_game c (Some text) = study_in c text
+abbrev pub studies_of_game : Choice → Option (List ℕ) → List (Option PlainStudy)
+studies_of_game c None = None ∷ []
+studies_of_game c (Some text) = studies_in c text
 
--- the same for a tail, except for its start
-abbrev pub study_of_tail : Choice → Option (List ℕ) → Option Tail → Option PlainStudy
-study_of_tail c text None = study_of_game c text
-study_of_tail c text (Some t) = study_begun c t.text (start_of (position_text t.position))
+-- the same for a game that begins where a comment states its position
+abbrev pub studies_of_tail : Choice → Option (List ℕ) → Option Tail → List (Option PlainStudy)
+studies_of_tail c text None = studies_of_game c text
+studies_of_tail c text (Some t) = studies_begun c t.text (position_text t.position) (start_of (position_text t.position))
 
-abbrev pub study_by : Choice → Option (List ℕ) → Option PlainStudy
-study_by c text = study_of_tail c text (tail_of c.tails text)
+abbrev pub studies_by : Choice → Option (List ℕ) → List (Option PlainStudy)
+studies_by c text = studies_of_tail c text (tail_of c.tails text)

@@ -1,5 +1,5 @@
 -- Studies that were written as PGN.
-use Rattle.std.specs.Prelude.{◌≡◌, ◌+◌, ◌≤◌, ℕ, true, List, map, Option, Some, None}
+use Rattle.std.specs.Prelude.{◌≡◌, ◌+◌, ◌≤◌, ℕ, true, List, [], ◌∷◌, map, Option, Some, None}
 use Rattle.std.specs.List.{flat_map, AllByRecursion}
 use Rattle.study_board.specs.Position.{IsValid}
 use Rattle.study_tree.specs.Forest.{Forest, nodes_in}
@@ -14,7 +14,7 @@ use Rattle.study_pgn.specs.Pgn.{pgn_text}
 use Rattle.study_games.specs.Games.{games_of}
 use Rattle.study_import.specs.Blocks.{six_names}
 use Rattle.study_import.specs.Imported.{all_games}
-use Rattle.study_import.specs.Meant.{study_in, study_of_game}
+use Rattle.study_import.specs.Meant.{studies_in, studies_of_game}
 use Rattle.study_import.specs.Laws.{IsCounted}
 
 -- the nodes without their marks
@@ -51,12 +51,12 @@ unmarked_study s = record {
 
 -- the PGN of a study reads back as that study: its start, stipulation, tags and tree, in order
 abbrev pub AreReadBack : Type 0
-AreReadBack = (s : Study Mark) → CanBeMade s → study_in (all_games None) (pgn_text s) ≡ Some (unmarked_study s)
+AreReadBack = (s : Study Mark) → CanBeMade s → studies_in (all_games None) (pgn_text s) ≡ Some (unmarked_study s) ∷ []
 
 -- a file of such studies, one after the other, is cut into their texts again, in order, and each reads back as its study
 pub record IsFileReadBack (ss : List (Study Mark)) : Type 0 where
   pub texts : map (λ g. g.text) (games_of (flat_map pgn_text ss)) ≡ map (λ s. Some (pgn_text s)) ss
-  pub studies : map (λ g. study_of_game (all_games None) g.text) (games_of (flat_map pgn_text ss)) ≡ map (λ s. Some (unmarked_study s)) ss
+  pub studies : map (λ g. studies_of_game (all_games None) g.text) (games_of (flat_map pgn_text ss)) ≡ map (λ s. Some (unmarked_study s) ∷ []) ss
 
 abbrev pub AreFilesReadBack : Type 0
 AreFilesReadBack = (ss : List (Study Mark)) → AllByRecursion CanBeMade ss → IsFileReadBack ss

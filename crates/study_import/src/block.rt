@@ -3,6 +3,7 @@ ghost use Rattle.std.specs.Prelude.{◌≡◌, ◌≤◌, ◌++◌, ◌-◌, tru
 ghost use Rattle.std.specs.List.{list_all};
 ghost use Rattle.std.specs.Option.{option_map};
 ghost use Rattle.study_notation.specs.Fen.{start_of};
+ghost use Rattle.study_wide_text.specs.Fen.{wide_start_of};
 ghost use Rattle.study_marks.specs.Edits.{is_printable};
 ghost use Rattle.study_marks.specs.Study.{plain_study};
 ghost use Rattle.study_marks.specs.BenchState.{marked_study};
@@ -17,7 +18,7 @@ ghost use Rattle.study_import.specs.Blocks.{doubt_line, doubt_lines, head_line, 
 ghost use Rattle.study_import.specs.Blocks.{position_line, counts_line, counted_words, other_tags, remark_lines, study_lines, block_lines};
 ghost use Rattle.study_import.specs.Blocks.{tag_aim, result_of, reported_seen, reported_of};
 ghost use Rattle.study_import.specs.Blocks.{letters_line};
-ghost use Rattle.study_import.specs.Blocks.{at_most, men_in, no_study, left_out, fen_words, start_block, fen_in, fen_block, header_block, block_of};
+ghost use Rattle.study_import.specs.Blocks.{at_most, men_in, no_study, left_out, fen_words, wide_block, start_block, fen_in, fen_block, header_block, block_of};
 ghost use Rattle.study_import.specs.BlocksRead.{Adds};
 
 use crate::counts::{add_counted, add_counts_line, other_tags};
@@ -28,6 +29,7 @@ use crate::letters::add_read;
 use crate::masks::{Mask, add_masked};
 use crate::places::{Entry, Place, at_most, place_in};
 use crate::tags::{add_tag_lines, add_was_lines};
+use crate::wide_block::add_wide_read;
 use std::alloc::{AllocError, Allocator};
 use study_board::Side;
 use study_command::as_text;
@@ -45,6 +47,10 @@ use study_reading::{
 use study_remark::{Doubt, Remark, Subject, add_remark};
 use study_reply::Refusal;
 use study_text::{Piece, Text, add_pieces};
+use study_wide_text::read_wide_fen;
+
+/// The initial position of a game.
+const INITIAL_FEN: &[u8] = b"rnbqkbnr/pppppppp/8/8/8/8/PPPPPPPP/RNBQKBNR w KQkq - 0 1";
 
 fn side_text(side: Side) -> &'static [u8]
     ensures { result.now ≡ side_text side }
@@ -127,7 +133,7 @@ fn add_doubts<A: Allocator>(out: &mut Text<'_, A>, doubts: &Doubts) -> Result<()
     add_doubt(out, doubts.result_differs, Doubt::ResultDiffers)
 }
 
-fn add_head<A: Allocator>(
+pub fn add_head<A: Allocator>(
     out: &mut Text<'_, A>,
     entry: &Entry<'_>,
     aim: &Aim,
@@ -213,7 +219,7 @@ fn repeated_moves<'a, A: Allocator>(notes: &Notes, bench: &Bench<'a, A>) -> u32
 }
 
 /// The number of nodes of a tree besides its root.
-fn new_nodes(size: usize) -> u32
+pub fn new_nodes(size: usize) -> u32
     requires { size ≤ 4096 }
     ensures { result ≡ size - 1 }
 {
@@ -255,7 +261,7 @@ fn add_letters<A: Allocator>(
 }
 
 #[tactic(auto, unfolding(crate::specs::Blocks::remark_lines))]
-fn add_remarks<'a, A: Allocator>(
+pub fn add_remarks<'a, A: Allocator>(
     alloc: &'a A,
     out: &mut Text<'_, A>,
     entry: &Entry<'_>,
@@ -395,7 +401,7 @@ pub fn add_aimed<'a, A: Allocator>(
     setting: &Setting<'_>,
     start: &Start,
     reported: &Reported<'_>,
-) -> Result<bool, AllocError>
+) -> Result<u32, AllocError>
     ensures { Adds result out.old out.new
         (sourced_block (entry_seen setting.now.entry) start.now (reported_seen reported.now)
         (sources_of setting.now.choice.given
@@ -413,7 +419,7 @@ pub fn add_aimed<'a, A: Allocator>(
     match aim_by_sources(&sources) {
         Some(aim) => {
             add_block(alloc, out, entry, start, &aim, reported)?;
-            Ok(true)
+            Ok(1)
         }
         None => add_left_out(alloc, out, entry, unaimed_words(&sources)),
     }
@@ -450,7 +456,7 @@ fn add_fen_fault<'a, A: Allocator>(
     entry: &Entry<'_>,
     fen: &[u8],
     fault: FenFault,
-) -> Result<bool, AllocError>
+) -> Result<u32, AllocError>
     ensures { Adds result out.old out.new
         (no_study (left_out (entry_seen entry.now) (fen_words fen.now fault))) }
 {
@@ -479,19 +485,40 @@ fn add_fen_words<A: Allocator>(
     )
 }
 
+/// Adds the blocks of a game with this FEN, read by the rules for any number of men, or why there are none.
+fn add_wide_start<'a, A: Allocator>(
+    alloc: &'a A,
+    out: &mut Text<'_, A>,
+    setting: &Setting<'_>,
+    fen: &[u8],
+) -> Result<u32, AllocError>
+    requires { list_all is_printable fen.now ≡ true }
+    ensures { Adds result out.old out.new
+        (wide_block setting.now.choice (entry_seen setting.now.entry) fen.now
+        (wide_start_of fen.now)) }
+{
+    match read_wide_fen(as_text(fen)) {
+        Ok(start) => add_wide_read(alloc, out, setting, &start),
+        Err(fault) => add_fen_fault(alloc, out, &setting.entry, fen, fault),
+    }
+}
+
 /// Adds the block of a game with this FEN, or why there is none.
 pub fn add_start<'a, A: Allocator>(
     alloc: &'a A,
     out: &mut Text<'_, A>,
     setting: &Setting<'_>,
     fen: &[u8],
-) -> Result<bool, AllocError>
+) -> Result<u32, AllocError>
     requires { list_all is_printable fen.now ≡ true }
     ensures { Adds result out.old out.new
         (start_block setting.now.choice (entry_seen setting.now.entry) fen.now (start_of fen.now)) }
 {
     match read_fen(as_text(fen)) {
         Ok(start) => add_read(alloc, out, setting, &start),
+        Err(FenFault::TooManyMen | FenFault::Castling) => {
+            add_wide_start(alloc, out, setting, fen)
+        }
         Err(fault) => add_fen_fault(alloc, out, &setting.entry, fen, fault),
     }
 }
@@ -539,7 +566,7 @@ fn add_repeated<'a, A: Allocator>(
     out: &mut Text<'_, A>,
     entry: &Entry<'_>,
     name: &[u8],
-) -> Result<bool, AllocError>
+) -> Result<u32, AllocError>
     ensures { Adds result out.old out.new
         (no_study (left_out (entry_seen entry.now) (repeated_words name.now))) }
 {
@@ -553,13 +580,13 @@ fn add_by_fen<'a, A: Allocator>(
     alloc: &'a A,
     out: &mut Text<'_, A>,
     setting: &Setting<'_>,
-) -> Result<bool, AllocError>
+) -> Result<u32, AllocError>
     ensures { Adds result out.old out.new
         (fen_block setting.now.choice (entry_seen setting.now.entry)
         (value_of (codes "FEN") (tags_of setting.now.entry.text.now))) }
 {
     match tag_value(setting.entry.text, b"FEN") {
-        None => add_left_out(alloc, out, &setting.entry, b"left out: no FEN, so 32 men"),
+        None => add_wide_start(alloc, out, setting, INITIAL_FEN),
         Some(raw) => {
             let fen = fen_in(alloc, raw)?;
             add_start(alloc, out, setting, fen.as_slice())
@@ -572,7 +599,7 @@ fn add_tagged<'a, A: Allocator>(
     alloc: &'a A,
     out: &mut Text<'_, A>,
     setting: &Setting<'_>,
-) -> Result<bool, AllocError>
+) -> Result<u32, AllocError>
     ensures { Adds result out.old out.new
         (single_block setting.now.choice (entry_seen setting.now.entry)
         (tags_of setting.now.entry.text.now)
@@ -589,7 +616,7 @@ fn add_entry<'a, A: Allocator>(
     alloc: &'a A,
     out: &mut Text<'_, A>,
     setting: &Setting<'_>,
-) -> Result<bool, AllocError>
+) -> Result<u32, AllocError>
     ensures { Adds result out.old out.new
         (header_block setting.now.choice (entry_seen setting.now.entry)
         (header_fault setting.now.entry.text.now)) }
@@ -605,7 +632,7 @@ fn add_entry<'a, A: Allocator>(
     add_tagged(alloc, out, setting)
 }
 
-/// Adds the block of a game that begins with at most four men, or the line with the reason why there is none. Returns whether there is one.
+/// Adds the block of a game from its own start, or the line with the reason why there is none. Returns the number of studies in it.
 #[tactic(auto, unfolding(crate::specs::Blocks::block_of))]
 pub fn add_game<'a, A: Allocator>(
     alloc: &'a A,
@@ -613,7 +640,7 @@ pub fn add_game<'a, A: Allocator>(
     choice: Choice,
     number: u32,
     game: &Game<'_>,
-) -> Result<bool, AllocError>
+) -> Result<u32, AllocError>
     ensures { Adds result out.old out.new (block_of choice number (game_seen game.now)) }
 {
     let line = game.line;

@@ -16,7 +16,7 @@ use study_text::Text;
 
 /// The text of a game before the place with so many bytes left, with the variations closed that are open there.
 #[tactic(auto, unfolding(crate::specs::Blocks::text_up_to))]
-fn text_up_to<'a, A: Allocator>(
+pub fn text_up_to<'a, A: Allocator>(
     alloc: &'a A,
     text: &[u8],
     left: usize,
@@ -35,7 +35,7 @@ fn add_aimed_up_to<'a, A: Allocator>(
     start: &Start,
     fault: &MovesFault,
     reported: &Reported<'_>,
-) -> Result<bool, AllocError>
+) -> Result<u32, AllocError>
     ensures { Adds result out.old out.new
         (aimed_up_to (entry_seen setting.now.entry) start.now fault.now (reported_seen reported.now)
         (aim_of_game setting.now.choice.given
@@ -49,7 +49,7 @@ fn add_aimed_up_to<'a, A: Allocator>(
         Some(aim) => {
             add_not_read(alloc, out, entry, fault)?;
             add_block(alloc, out, entry, start, &aim, reported)?;
-            Ok(true)
+            Ok(1)
         }
         None => add_stop(alloc, out, entry, fault),
     }
@@ -63,7 +63,7 @@ fn add_up_to<'a, A: Allocator>(
     setting: &Setting<'_>,
     start: &Start,
     fault: &MovesFault,
-) -> Result<bool, AllocError>
+) -> Result<u32, AllocError>
     ensures { Adds result out.old out.new
         (block_up_to setting.now.choice.given (entry_seen setting.now.entry) start.now fault.now
         (game_read (text_up_to setting.now.entry.text.now fault.now.left) start.now)) }
@@ -88,7 +88,7 @@ pub fn add_faulty<'a, A: Allocator>(
     setting: &Setting<'_>,
     start: &Start,
     fault: &MovesFault,
-) -> Result<bool, AllocError>
+) -> Result<u32, AllocError>
     ensures { Adds result out.old out.new
         (faulty_block setting.now.choice (entry_seen setting.now.entry) start.now fault.now) }
 {

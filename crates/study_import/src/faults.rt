@@ -129,12 +129,12 @@ pub fn add_left_out<'a, A: Allocator>(
     out: &mut Text<'_, A>,
     entry: &Entry<'_>,
     words: &[u8],
-) -> Result<bool, AllocError>
+) -> Result<u32, AllocError>
     ensures { Adds result out.old out.new (no_study (left_out (entry_seen entry.now) words.now)) }
 {
     let names = entry_names(alloc, entry.text)?;
     add_told(out, entry.number, entry.line, None, names.as_slice(), words)?;
-    Ok(false)
+    Ok(0)
 }
 
 /// Adds the line that reports a fault of a game at a place.
@@ -144,7 +144,7 @@ pub fn add_fault<'a, A: Allocator>(
     entry: &Entry<'_>,
     place: Place,
     words: &[u8],
-) -> Result<bool, AllocError>
+) -> Result<u32, AllocError>
     ensures { Adds result out.old out.new
         (no_study (fault_words (entry_seen entry.now) place words.now)) }
 {
@@ -158,7 +158,7 @@ pub fn add_fault<'a, A: Allocator>(
         names.as_slice(),
         words,
     )?;
-    Ok(false)
+    Ok(0)
 }
 
 /// The name of a fault, and the symbol or the number at its place.
@@ -181,7 +181,7 @@ pub fn add_stop<'a, A: Allocator>(
     out: &mut Text<'_, A>,
     entry: &Entry<'_>,
     fault: &MovesFault,
-) -> Result<bool, AllocError>
+) -> Result<u32, AllocError>
     ensures { Adds result out.old out.new (stopped_block (entry_seen entry.now) fault.now) }
 {
     let words = stop_words(alloc, entry, fault)?;

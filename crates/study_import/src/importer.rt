@@ -20,14 +20,14 @@ pub struct Choice {
     pub given: Option<Stipulation>,
     pub from: u32,
     pub to: u32,
-    /// For a game with more than four men its tail is used, if it has one.
+    /// A game with more than four men begins where a comment states a position, if one does.
     pub tails: bool,
     /// A game with a fault among its moves is read up to there.
     pub up_to_faults: bool,
 }
 
 impl Choice {
-    /// All games, without tails; `given` is the stipulation of the games that state none.
+    /// All games, from their own starts; `given` is the stipulation of the games that state none.
     pub fn whole_file(given: Option<Stipulation>, up_to_faults: bool) -> Self
         ensures { result ≡ whole_file given up_to_faults }
     {
@@ -41,11 +41,12 @@ impl Choice {
     }
 }
 
-/// The numbers of games so far, of those written, and of studies among these.
+/// The numbers of games so far, of those written, of those among these that have a study, and of their studies.
 #[derive(Clone, Copy, Debug, Default, PartialEq, Eq)]
 pub struct Imported {
     pub met: u32,
     pub reported: u32,
+    pub with_study: u32,
     pub studies: u32,
 }
 
@@ -211,18 +212,20 @@ fn tell_game<'a, A: Allocator>(
         return Ok(Imported {
             met: number,
             reported: tally.reported,
+            with_study: tally.with_study,
             studies: tally.studies,
         });
     }
-    let is_study = add_chosen(alloc, out, choice, number, game)?;
+    let studies = add_chosen(alloc, out, choice, number, game)?;
     Ok(Imported {
         met: number,
         reported: tally.reported.saturating_add(1),
-        studies: if is_study {
-            tally.studies.saturating_add(1)
+        with_study: if studies != 0 {
+            tally.with_study.saturating_add(1)
         } else {
-            tally.studies
+            tally.with_study
         },
+        studies: tally.studies.saturating_add(studies),
     })
 }
 

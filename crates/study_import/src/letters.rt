@@ -50,7 +50,7 @@ pub fn begin_game<'a, A: Allocator>(
 }
 
 /// The languages whose letters are tried, after the English ones.
-const LANGUAGES: [Language; 4] = [
+pub const LANGUAGES: [Language; 4] = [
     Language::German,
     Language::French,
     Language::Spanish,
@@ -58,7 +58,7 @@ const LANGUAGES: [Language; 4] = [
 ];
 
 /// Whether a symbol is no legal move in English letters.
-fn is_unknown_move(why: Stop) -> bool
+pub fn is_unknown_move(why: Stop) -> bool
     ensures { result ≡ is_unknown_move why }
 {
     match why {
@@ -115,7 +115,7 @@ fn add_foreign<'a, A: Allocator>(
     setting: &Setting<'_>,
     start: &Start,
     language: Language,
-) -> Result<bool, AllocError>
+) -> Result<u32, AllocError>
     ensures { Adds result out.old out.new
         (moves_block setting.now.choice (entry_seen setting.now.entry) start.now (Some language)) }
 {
@@ -154,7 +154,7 @@ fn add_unread<'a, A: Allocator>(
     setting: &Setting<'_>,
     start: &Start,
     fault: &MovesFault,
-) -> Result<bool, AllocError>
+) -> Result<u32, AllocError>
     ensures { game_read setting.now.entry.text.now start.now ≡ Err fault.now
         → Adds result out.old out.new
         (moves_block setting.now.choice (entry_seen setting.now.entry) start.now
@@ -173,7 +173,7 @@ pub fn add_read<'a, A: Allocator>(
     out: &mut Text<'_, A>,
     setting: &Setting<'_>,
     start: &Start,
-) -> Result<bool, AllocError>
+) -> Result<u32, AllocError>
     ensures { Adds result out.old out.new
         (moves_block setting.now.choice (entry_seen setting.now.entry) start.now
         (language_of setting.now.entry.text.now start.now)) }
@@ -196,7 +196,7 @@ fn add_stopped<'a, A: Allocator>(
     setting: &Setting<'_>,
     start: &Start,
     fault: &MovesFault,
-) -> Result<bool, AllocError>
+) -> Result<u32, AllocError>
     ensures reported { Adds result out.old out.new
         (faulty_block setting.now.choice (entry_seen setting.now.entry) start.now fault.now) }
     ensures memory { is_of_memory fault.now.why ≡ true → IsErr result }

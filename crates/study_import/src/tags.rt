@@ -4,15 +4,19 @@ ghost use Rattle.std.specs.List.{flat_map};
 ghost use Rattle.std.specs.Option.{option_map};
 ghost use Rattle.study_games.specs.Header.{tags_of, value_of};
 ghost use Rattle.study_marks.specs.Study.{tag_name};
+ghost use Rattle.study_tails.specs.Study.{with_wide_tag};
+ghost use Rattle.study_import.specs.Blocks.{with_tags};
 ghost use Rattle.study_import.specs.Blocks.{name_words, name_of, quoted, entry_names, original_named, was_words, latin_line, was_line, six_names, unknown_text, text_or_unknown, tag_value_text, tag_line};
 
 use crate::masks::{Mask, add_masked};
 use std::alloc::{AllocError, Allocator};
+use study_command::as_text;
 use study_games::{
     is_utf8, short_text, spell_out, tag_value, trim_end, trim_start, truncate, unescape,
 };
 use study_marks::{TagName, tag_name};
 use study_remark::{Original, Remark, add_remark};
+use study_tails::WideStudy;
 use study_text::{Piece, Text, add_pieces};
 
 /// The number of bytes of an original in a remark.
@@ -255,6 +259,42 @@ pub fn add_tag_lines<'a, A: Allocator>(
     let mut rest = names.as_slice();
     while let [name, more @ ..] = rest {
         add_tag_line(alloc, out, game, *name)?;
+        rest = more;
+    }
+    Ok(())
+}
+
+/// Sets a tag of a study to the text of the game's.
+#[tactic(auto, using(crate::proofs::TagsTaken::value_prints))]
+fn set_tag<'a, A: Allocator>(
+    alloc: &'a A,
+    study: &mut WideStudy<'a, A>,
+    game: &[u8],
+    name: TagName,
+) -> Result<(), AllocError>
+    ensures { OnOk result (study.new ≡ with_wide_tag study.old name
+        (tag_value_text name (value_of (tag_name name) (tags_of game.now)))) }
+{
+    let mut text = Text::new(alloc);
+    add_tag_value(alloc, &mut text, name, tag_value(game, tag_name(name)))?;
+    match study.set_tag(name, as_text(text.as_slice())) {
+        Ok(()) => Ok(()),
+        Err(_) => Err(AllocError),
+    }
+}
+
+/// Sets the six tags of a study to the texts of the game's.
+pub fn set_tags<'a, A: Allocator>(
+    alloc: &'a A,
+    study: &mut WideStudy<'a, A>,
+    game: &[u8],
+) -> Result<(), AllocError>
+    ensures { OnOk result (study.new ≡ with_tags (tags_of game.now) six_names study.old) }
+{
+    let names = six_names();
+    let mut rest = names.as_slice();
+    while let [name, more @ ..] = rest {
+        set_tag(alloc, study, game, *name)?;
         rest = more;
     }
     Ok(())

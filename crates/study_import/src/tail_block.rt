@@ -1,5 +1,5 @@
 //! The text written for a game by choice: its block, or that of its tail.
-ghost use Rattle.std.specs.Prelude.{◌≡◌, ◌++◌, [], IfOk};
+ghost use Rattle.std.specs.Prelude.{◌≡◌, [], IfOk};
 ghost use Rattle.std.specs.Option.{option_map};
 ghost use Rattle.study_games.specs.Games.{game_seen};
 ghost use Rattle.study_import.specs.Tails.{position_text, tail_in, named_seen};
@@ -72,7 +72,7 @@ fn add_tail_block<'a, A: Allocator>(
     out: &mut Text<'_, A>,
     setting: &Setting<'_>,
     named: &Named<'_>,
-) -> Result<bool, AllocError>
+) -> Result<u32, AllocError>
     ensures { Adds result out.old out.new
         (tail_block setting.now.choice setting.now.entry.number setting.now.entry.line
         (record {
@@ -86,14 +86,14 @@ fn add_tail_block<'a, A: Allocator>(
     add_start(alloc, out, setting, fen.as_slice())
 }
 
-/// Adds the block of a game or of its tail, by the choice, or the line with the reason why there is none. Returns whether there is one.
+/// Adds the block of a game or of its tail, by the choice, or the line with the reason why there is none. Returns the number of studies in it.
 pub fn add_chosen<'a, A: Allocator>(
     alloc: &'a A,
     out: &mut Text<'_, A>,
     choice: &Choice,
     number: u32,
     game: &Game<'_>,
-) -> Result<bool, AllocError>
+) -> Result<u32, AllocError>
     ensures { Adds result out.old out.new (block_by choice.now number (game_seen game.now)) }
 {
     let choice = *choice;

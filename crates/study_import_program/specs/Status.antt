@@ -6,9 +6,9 @@ use Rattle.study_import.specs.declared.importer.Imported.{Imported}
 use Rattle.study_import_program.specs.declared.streaming.ImportFault.{ImportFault}
 use Rattle.study_import_program.specs.declared.streaming.ImportFault.TheVariants.{ReadDevice, WriteDevice, OutOfMemory}
 
--- 0 if some game was written, and each of these is a study; 1 if some is not, or no game was chosen; 3 if the run stopped at a fault
+-- 0 if some game was written, and each of these has a study; 1 if some is not, or no game was chosen; 3 if the run stopped at a fault
 abbrev pub status_reported : Result Imported ImportFault → ℕ
-status_reported (Ok imported) = if nat_lt 0 imported.reported && imported.reported == imported.studies then 0 else 1
+status_reported (Ok imported) = if nat_lt 0 imported.reported && imported.reported == imported.with_study then 0 else 1
 status_reported (Err fault) = 3
 
 -- `studyimport: ReadDevice`

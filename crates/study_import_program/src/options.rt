@@ -14,13 +14,14 @@ const ABOUT: &str =
     "Turns games of PGN, from standard input, into a script of studybench and studyreport, to standard output.";
 
 const LINES: &str =
-    "Each game that begins with two to four men becomes a block of lines; of each other game one line says why there is none.
+    "Each game that begins with two to four men becomes a block of lines. The moves of one with more are followed, and each part of it that begins
+with at most four men and no right to castle becomes a block. Of each other game one line says why there is none.
 The stipulation of a game is the first of these that states one: the comment before its first move, such as {White to win} or {#3},
 its tag Stipulation, its tag Result, the result after its moves, --stipulate. One that is stated and not understood, such as {h#2},
 leaves the game out, or is replaced by --stipulate.
 With --tails the positions are the word of the program that wrote the comments: pgn-extract -s --fencomments.
 
-Exit status: 0 each game has its block; 1 some game has none, or no game was chosen; 2 the command line was refused; 3 the run stopped at a fault.";
+Exit status: 0 each game has a block; 1 some game has none, or no game was chosen; 2 the command line was refused; 3 the run stopped at a fault.";
 
 /// The options of the command line.
 #[derive(Clone, Copy, Debug, PartialEq, Eq)]

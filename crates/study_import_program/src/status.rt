@@ -14,7 +14,7 @@ pub fn status_of(answer: &Result<Imported, ImportFault>) -> u8
     ensures { result ≡ status_reported answer.now }
 {
     match answer {
-        Ok(imported) if imported.reported > 0 && imported.reported == imported.studies => 0,
+        Ok(imported) if imported.reported > 0 && imported.reported == imported.with_study => 0,
         Ok(_) => 1,
         Err(_) => 3,
     }

@@ -25,37 +25,37 @@ use Rattle.study_tails.specs.Insertions.{Insertion, insertions, made_by, AllAcce
 
 -- ---- siblings behind others
 
-joined : Moves → Moves → Moves
+unfoldable pub joined : Moves → Moves → Moves
 joined none f = f
 joined (more m l b r) f = more m l b (joined r f)
 
-joined_none : (c : Moves) → joined c none ≡ c
+pub joined_none : (c : Moves) → joined c none ≡ c
 unfolding joined
 joined_none none = refl
 joined_none (more m l b r) = ap (more m l b) (joined_none r)
 
-joined_assoc : (c d f : Moves) → joined (joined c d) f ≡ joined c (joined d f)
+pub joined_assoc : (c d f : Moves) → joined (joined c d) f ≡ joined c (joined d f)
 unfolding joined
 joined_assoc none d f = refl
 joined_assoc (more m l b r) d f = ap (more m l b) (joined_assoc r d f)
 
-joined_width : (c d : Moves) → width (joined c d) ≡ width c + width d
+pub joined_width : (c d : Moves) → width (joined c d) ≡ width c + width d
 unfolding joined
 joined_width none d = omega arith
 joined_width (more m l b r) d = omega (arith, joined_width r d)
 
-joined_nodes : (c d : Moves) → nodes_in (joined c d) ≡ nodes_in c + nodes_in d
+pub joined_nodes : (c d : Moves) → nodes_in (joined c d) ≡ nodes_in c + nodes_in d
 unfolding joined
 joined_nodes none d = omega arith
 joined_nodes (more m l b r) d = omega (arith, joined_nodes r d)
 
-last_joined : (c : Moves) (m : Move) → with_last m tt c ≡ joined c (more m tt none none)
+pub last_joined : (c : Moves) (m : Move) → with_last m tt c ≡ joined c (more m tt none none)
 unfolding joined
 last_joined none m = refl
 last_joined (more n l b r) m = ap (more n l b) (last_joined r m)
 
 -- what is put below the last child
-below_last : (c b : Moves) (k : ℕ) (m : Move) → width c ≡ k
+pub below_last : (c b : Moves) (k : ℕ) (m : Move) → width c ≡ k
     → below_edited (λ d. joined d b) (joined c (more m tt none none)) (k ∷ []) ≡ joined c (more m tt b none)
 unfolding joined
 below_last none b zero m e = refl
@@ -65,37 +65,37 @@ below_last (more n l d r) b (suc k) m e = ap (more n l d) (below_last r b k m (o
 
 -- ---- edits at a node
 
-has_edited : (g : Moves → Moves) (f : Moves) (ks : List ℕ) → has_node f ks ≡ true → has_node (below_edited g f ks) ks ≡ true
+pub has_edited : (g : Moves → Moves) (f : Moves) (ks : List ℕ) → has_node f ks ≡ true → has_node (below_edited g f ks) ks ≡ true
 has_edited g f [] h = refl
 has_edited g none (k ∷ ks) h = h
 has_edited g (more m l b r) (zero ∷ ks) h = has_edited g b ks h
 has_edited g (more m l b r) (suc k ∷ ks) h = has_edited g r (k ∷ ks) h
 
-at_edited : (g : Moves → Moves) (f : Moves) (ks : List ℕ) → has_node f ks ≡ true → below_at (below_edited g f ks) ks ≡ g (below_at f ks)
+pub at_edited : (g : Moves → Moves) (f : Moves) (ks : List ℕ) → has_node f ks ≡ true → below_at (below_edited g f ks) ks ≡ g (below_at f ks)
 at_edited g f [] h = refl
 at_edited g none (k ∷ ks) h = let no : ⊥ = cc in absurd no
 at_edited g (more m l b r) (zero ∷ ks) h = at_edited g b ks h
 at_edited g (more m l b r) (suc k ∷ ks) h = at_edited g r (k ∷ ks) h
 
-edit_same : (g h : Moves → Moves) (f : Moves) (ks : List ℕ) → g (below_at f ks) ≡ h (below_at f ks) → below_edited g f ks ≡ below_edited h f ks
+pub edit_same : (g h : Moves → Moves) (f : Moves) (ks : List ℕ) → g (below_at f ks) ≡ h (below_at f ks) → below_edited g f ks ≡ below_edited h f ks
 edit_same g h f [] e = e
 edit_same g h none (k ∷ ks) e = refl
 edit_same g h (more m l b r) (zero ∷ ks) e = ap (λ (x : Moves). more m l x r) (edit_same g h b ks e)
 edit_same g h (more m l b r) (suc k ∷ ks) e = ap (more m l b) (edit_same g h r (k ∷ ks) e)
 
-edit_twice : (g h : Moves → Moves) (f : Moves) (ks : List ℕ) → below_edited g (below_edited h f ks) ks ≡ below_edited (λ c. g (h c)) f ks
+pub edit_twice : (g h : Moves → Moves) (f : Moves) (ks : List ℕ) → below_edited g (below_edited h f ks) ks ≡ below_edited (λ c. g (h c)) f ks
 edit_twice g h f [] = refl
 edit_twice g h none (k ∷ ks) = refl
 edit_twice g h (more m l b r) (zero ∷ ks) = ap (λ (x : Moves). more m l x r) (edit_twice g h b ks)
 edit_twice g h (more m l b r) (suc k ∷ ks) = ap (more m l b) (edit_twice g h r (k ∷ ks))
 
-edit_child : (g : Moves → Moves) (f : Moves) (ks : List ℕ) (k : ℕ) → below_edited g f (ks ++ k ∷ []) ≡ below_edited (λ c. below_edited g c (k ∷ [])) f ks
+pub edit_child : (g : Moves → Moves) (f : Moves) (ks : List ℕ) (k : ℕ) → below_edited g f (ks ++ k ∷ []) ≡ below_edited (λ c. below_edited g c (k ∷ [])) f ks
 edit_child g f [] k = refl
 edit_child g none (j ∷ js) k = refl
 edit_child g (more m l b r) (zero ∷ js) k = ap (λ (x : Moves). more m l x r) (edit_child g b js k)
 edit_child g (more m l b r) (suc j ∷ js) k = ap (more m l b) (edit_child g r (j ∷ js) k)
 
-edit_none : (g : Moves → Moves) (f : Moves) (ks : List ℕ) → g (below_at f ks) ≡ below_at f ks → below_edited g f ks ≡ f
+pub edit_none : (g : Moves → Moves) (f : Moves) (ks : List ℕ) → g (below_at f ks) ≡ below_at f ks → below_edited g f ks ≡ f
 edit_none g f [] e = e
 edit_none g none (k ∷ ks) e = refl
 edit_none g (more m l b r) (zero ∷ ks) e = ap (λ (x : Moves). more m l x r) (edit_none g b ks e)
@@ -107,7 +107,7 @@ moves_edited g none (k ∷ ks) = refl
 moves_edited g (more m l b r) (zero ∷ ks) = ap (λ (x : List Move). m ∷ x) (moves_edited g b ks)
 moves_edited g (more m l b r) (suc k ∷ ks) = moves_edited g r (k ∷ ks)
 
-nodes_edited : (g : Moves → Moves) (f : Moves) (ks : List ℕ) (n : ℕ) → has_node f ks ≡ true → nodes_in (g (below_at f ks)) ≡ nodes_in (below_at f ks) + n
+pub nodes_edited : (g : Moves → Moves) (f : Moves) (ks : List ℕ) (n : ℕ) → has_node f ks ≡ true → nodes_in (g (below_at f ks)) ≡ nodes_in (below_at f ks) + n
     → nodes_in (below_edited g f ks) ≡ nodes_in f + n
 nodes_edited g f [] n h e = e
 nodes_edited g none (k ∷ ks) n h e = let no : ⊥ = cc in absurd no
@@ -172,11 +172,11 @@ lines_append s (x ∷ xs) ys =
 
 -- ---- no child so far has the move of one that comes
 
-AllNew : Moves → Moves → Type 0
+unfoldable pub AllNew : Moves → Moves → Type 0
 AllNew c none = Unit {0}
 AllNew c (more m l b r) = (place_from 0 m c ≡ None) × AllNew c r
 
-all_new_first : (f : Moves) → AllNew none f
+pub all_new_first : (f : Moves) → AllNew none f
 unfolding AllNew
 all_new_first none = tt
 all_new_first (more m l b r) = (refl, all_new_first r)
@@ -198,7 +198,7 @@ differs x m h = go (same_move x m) refl
     go true e = absurd (h (sym (same_move-one x m e)))
     go false e = e
 
-all_new_later : (c b : Moves) (m : Move) (f : Moves) → AllNew c f → AreOthers m f → AllNew (joined c (more m tt b none)) f
+pub all_new_later : (c b : Moves) (m : Move) (f : Moves) → AllNew c f → AreOthers m f → AllNew (joined c (more m tt b none)) f
 unfolding AllNew
 all_new_later c b m none h o = tt
 all_new_later c b m (more n l d r) h o = (not_last 0 n m c b h.0 (differs n m o.0), all_new_later c b m r h.1 o.1)
@@ -226,10 +226,10 @@ record IsDone (A : Type 0) (s : PlainStudy) (at : List ℕ) (k : ℕ) (p : Posit
   made : made_by s (insertions at k f) ≡ with_below s (below_edited (λ c. joined c f) s.tree.below at)
   lines : lines_for s (insertions at k f) ≡ insert_lines [] (widen p) at k f
 
-le_false : (m n : ℕ) → n < m → nat_le m n ≡ false
+pub le_false : (m n : ℕ) → n < m → nat_le m n ≡ false
 le_false m n h = lt-leb m n h
 
-at_least_one : (d : ℕ) (m : Move) (l : Unit {0}) (b r : Moves) → IsWithin d (more m l b r) → 1 ≤ d
+pub at_least_one : (d : ℕ) (m : Move) (l : Unit {0}) (b r : Moves) → IsWithin d (more m l b r) → 1 ≤ d
 at_least_one zero m l b r h = absurd h
 at_least_one (suc d) m l b r h = omega arith
 

@@ -59,9 +59,9 @@ part_of zero s (more m l b r) (suc k ∷ ks) n e playable distinct shallow = abs
 part_of (suc d) s (more m l b r) (suc k ∷ ks) n e playable distinct shallow =
     larger (suc d) (nodes_in r) (nodes_in (more m l b r)) n (omega arith) (part_of (suc d) s r (k ∷ ks) n e playable.2 distinct.2 shallow.1)
 
-pub tails_built : (A : Type 0) (s : WideStudy) (path : List ℕ) (u : PlainStudy) → IsWideStudy s → IsWithin 256 s.tree.below → size_of s.tree ≤ 4096
-    → tail s path ≡ Ok u → IsValid u.start.position → IsBuilt A u
-tails_built A s path u h shallow few e valid =
+pub tail_plain : (s : WideStudy) (path : List ℕ) (u : PlainStudy) → IsWideStudy s → IsWithin 256 s.tree.below → size_of s.tree ≤ 4096
+    → tail s path ≡ Ok u → IsValid u.start.position → IsPlain u
+tail_plain s path u h shallow few e valid =
     let t = tail_of s path u e in
     let n = t.node in
     let i = part_of 256 s.start s.tree.below path n t.found h.playable h.distinct shallow in
@@ -74,4 +74,8 @@ tails_built A s path u h shallow few e valid =
       shallow = i.shallow;
       few = omega (arith, i.few, few);
     } in
-    built A u (subst (λ (v : PlainStudy). IsPlain v) (sym t.study) plain)
+    subst (λ (v : PlainStudy). IsPlain v) (sym t.study) plain
+
+pub tails_built : (A : Type 0) (s : WideStudy) (path : List ℕ) (u : PlainStudy) → IsWideStudy s → IsWithin 256 s.tree.below → size_of s.tree ≤ 4096
+    → tail s path ≡ Ok u → IsValid u.start.position → IsBuilt A u
+tails_built A s path u h shallow few e valid = built A u (tail_plain s path u h shallow few e valid)

@@ -1,4 +1,4 @@
-//! Studies that begin with more than four men, and the parts of their trees that begin with at most four.
+//! Studies that begin with more than four men or a right to castle, and the parts of their trees that begin with at most four and none.
 #![tactic(auto)]
 
 mod blocks;
@@ -15,7 +15,7 @@ pub use blocks::{GameLeftOut, MAX_TAILS, add_game_reason, add_wide_text, game_re
 pub use followed::FollowedStudy;
 pub use game::begin_wide_game;
 pub use laws::{no_tail_is_missed, tails_are_built, tails_are_the_games};
-pub use study::{WideNode, WideStudy};
+pub use study::{WideNode, WideStudy, copied_start};
 pub use study_reading::{MoveFault, Step};
 pub use tags::NoTagText;
 pub use tails::{LeftOut, Tail};

@@ -15,7 +15,7 @@ use Rattle.study_pgn.specs.Values.{value_text}
 use Rattle.study_facts.specs.declared.zugzwang.Zugzwang.{Zugzwang}
 use Rattle.study_facts.specs.declared.zugzwang.Zugzwang.TheVariants.{Full, Half}
 use Rattle.study_marks.specs.declared.stipulation.Goal.TheVariants as goals
-use Rattle.study_head.specs.declared.verdict.Stamp.TheVariants.{Wins, Mates, Misses, Correct, Sound, NotRead}
+use Rattle.study_head.specs.declared.verdict.Stamp.TheVariants.{Wins, Mates, Misses, Correct, Sound, NotRead, Refuted, SecondSolution}
 use Rattle.study_head.specs.Verdict.{stamp_words, sentence, start_words}
 use Rattle.study_head.specs.Head.{title_words}
 use Rattle.study_page.specs.Page.{tries_title, zugzwangs_title, missing_title, ends_title}
@@ -93,12 +93,16 @@ wrong_lines =
     said_line (codes "wins") (stamp_words (Wins side.White)) ++ (said_line (codes "sooner") (stamp_words (Mates side.White (Win 1)))
     ++ said_line (codes "misses") (stamp_words (Misses (record { hero = side.White; goal = goals.Win }))))
 
+-- of a try
+unfoldable pub try_lines : List ℕ
+try_lines = said_line (codes "refuted") (stamp_words Refuted) ++ said_line (codes "second") (stamp_words SecondSolution)
+
 unfoldable pub sentence_lines : List ℕ
 sentence_lines =
     said_line (codes "unread-sentence") (sentence false (NotRead 1))
 
 unfoldable pub verdict_lines : List ℕ
-verdict_lines = value_lines ++ (stamp_lines ++ (wrong_lines ++ sentence_lines))
+verdict_lines = value_lines ++ (stamp_lines ++ (wrong_lines ++ (try_lines ++ sentence_lines)))
 
 -- of the parts of a printed page
 unfoldable pub title_lines : List ℕ

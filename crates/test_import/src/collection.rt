@@ -50,7 +50,7 @@ position 8/8/8/8/4K3/P3r3/8/2k5 w - - 0 1 white win Event No. 34 Date 1933.??.??
 position 8/p7/8/k3P3/8/8/5K2/8 w - - 0 1 white win Event No. 35 Date 1934.??.?? Round 35 White Author 34 e6 Kb5 e7
 position 8/8/2K5/5P2/4k3/8/8/8 w - - 0 1 white win Event No. 36 Date 1935.??.?? Round 36 White Author 35 f6 Ke5 f7
 position 8/8/k4P2/8/3K4/8/2p5/8 w - - 0 1 white draw Event No. 37 Date 1936.??.?? Round 37 f7 c1=Q f8=Q
-#! game 38, line 445 (Author 00; \"No. 38\"): left out: 5 men
+#! game 38, line 445 (Author 00; \"No. 38\"): left out: 5 men, never four or fewer
 position 8/3B4/8/8/8/8/1p4K1/2k5 w - - 0 1 white draw Event No. 39 Date 1938.??.?? Round 39 White Author 01 Bf5 b1=Q Bxb1
 position 8/8/4K3/8/8/8/3n2k1/1R6 w - - 0 1 white win Event No. 40 Date 1939.??.?? Round 40 White Author 02 Rb2 Kf2 Rxd2+
 position 8/3K4/8/6P1/8/1pk5/8/8 w - - 0 1 white draw Event No. 41 Date 1940.??.?? Round 41 White Author 03 g6 b2 g7

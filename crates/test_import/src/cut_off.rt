@@ -107,7 +107,7 @@ insert root Kg7
 insert 0 h4
 pgn
 
-#! game 6, line 29 (\"five\"): left out: 5 men
+#! game 6, line 32, column 11 (\"five\"): NotSan at Kg9
 
 #! games 6, studies 4
 ";
@@ -123,7 +123,7 @@ fn games_are_read_up_to_their_faults(rt: HostRuntime) -> Result<(), Fail> {
     }
     let imported = importer.finish(&mut script)?;
     assert!(rt; script.as_slice() == UP_TO_FAULTS);
-    assert!(rt; imported.reported == 6 && imported.studies == 4);
+    assert!(rt; imported.reported == 6 && imported.with_study == 4 && imported.studies == 4);
     let script = import(&alloc, GAMES, None)?;
     assert!(rt; script.as_slice().ends_with(b"\n#! games 6, studies 1\n"));
     Ok(())

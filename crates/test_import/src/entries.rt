@@ -202,11 +202,11 @@ pgn
 
 #! game 5, line 65, column 90 (Smith, John; \"Entry 6\"): NoSuchMove at b6
 
-#! game 6, line 67 (Kasparyan, G.; \"Entry 7\"): left out: 5 men
+#! game 6, line 67 (Kasparyan, G.; \"Entry 7\"): left out: 5 men, never four or fewer
 
-#! game 7, line 75 (Troitzky, A.; \"Entry 8\"): left out: 6 men
+#! game 7, line 75 (Troitzky, A.; \"Entry 8\"): left out: 6 men, never four or fewer
 
-#! game 8, line 83 (Anon; \"Entry 9\"): left out: 7 men
+#! game 8, line 83 (Anon; \"Entry 9\"): left out: 7 men, never four or fewer
 
 #! game 9, line 91: stipulated by its comment
 #! not taken over: comments 1

@@ -400,7 +400,8 @@ const AUTHORS: &[u8] = b"[Event \"a\"]
 1. Kd3 *
 ";
 
-const AUTHORS_REPORTED: &[u8] = b"#! game 1, line 1 (Kasparyan, G.; \"a\"): left out: 5 men
+const AUTHORS_REPORTED: &[u8] =
+    b"#! game 1, line 1 (Kasparyan, G.; \"a\"): left out: 5 men, never four or fewer
 
 #! game 2, line 13, column 4 (Sokolov, M.; \"b\"): NoSuchMove at Kb6
 

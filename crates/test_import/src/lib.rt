@@ -30,6 +30,8 @@ mod numbering;
 #[cfg(test)]
 mod program;
 #[cfg(test)]
+mod published;
+#[cfg(test)]
 mod remarks;
 #[cfg(test)]
 mod stipulations;
@@ -39,5 +41,7 @@ mod tails;
 mod traps;
 #[cfg(test)]
 mod typeset;
+#[cfg(test)]
+mod wide;
 #[cfg(test)]
 mod words_and_letters;

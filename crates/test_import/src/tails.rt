@@ -1,4 +1,4 @@
-//! Tails of games. The expected scripts were written by hand, by the rules of docs/IMPORT.md.
+//! Tails of games. The expected scripts were written by hand, by the rules of docs/IMPORT.md, and for games that are followed by an independent program.
 
 use std::test::Fail;
 use study_import::{Choice, Importer, import};
@@ -67,23 +67,146 @@ pgn
 #! a tail: moves before 2; its position is another program's word
 #! game 3, line 21, column 42 (\"fault\"): NoSuchMove at Kc6
 
-#! game 4, line 23 (\"no word\"): left out: 5 men
+#! game 4, line 23: stipulated by its result
+#! not taken over: comments 1
+#> position 7K/8/k1P5/6r1/8/7B/8/8 w - - 0 1
+#> stipulate white draw
+#> tag Event no word
+#> tag Site ?
+#> tag Date ????.??.??
+#> tag Round ?
+#> tag White ?
+#> tag Black ?
+#> insert root Bg4
+#> insert 0 Rxg4
+#> insert 0.0 Kh7
+#> insert 0 Kb6
 
-#! games 4, studies 2
+#! tail 1 of 1 of game 4, node 0.0, after 1... Rxg4
+position 7K/8/k1P5/8/6r1/8/8/8 w - - 0 2
+stipulate white draw
+tag Event no word
+tag Site ?
+tag Date ????.??.??
+tag Round ?
+tag White ?
+tag Black ?
+insert root Kh7
+pgn
+
+#! games 4, studies 3
 ";
 
-const LEFT_OUT: &[u8] = b"#! game 1, line 1 (\"five\"): left out: 5 men
+const FOLLOWED: &[u8] = b"#! game 1, line 1: stipulated by its comment
+#! not taken over: comments 4, NAGs 1
+#> position 7K/8/k1P5/6r1/8/7B/8/8 w - - 0 1
+#> stipulate white draw
+#> tag Event five
+#> tag Site ?
+#> tag Date ????.??.??
+#> tag Round ?
+#> tag White ?
+#> tag Black ?
+#> insert root Bg4
+#> insert 0 Rxg4
+#> insert 0.0 Kh7
+#> insert 0.0.0 Kb6
+#> insert 0.0.0.0 c7
+#> insert 0.0.0.0.0 Kxc7
+#> insert 0 Kb6
+#> insert 0.1 Kh7
+#> insert root c7
+#> insert 1 Rg8+
+#> insert 1.0 Kxg8
 
-#! game 2, line 9 (\"mate\"): left out: 5 men
+#! tail 1 of 2 of game 1, node 0.0, after 1... Rxg4
+position 7K/8/k1P5/8/6r1/8/8/8 w - - 0 2
+stipulate white draw
+tag Event five
+tag Site ?
+tag Date ????.??.??
+tag Round ?
+tag White ?
+tag Black ?
+insert root Kh7
+insert 0 Kb6
+insert 0.0 c7
+insert 0.0.0 Kxc7
+pgn
 
-#! game 3, line 16 (\"fault\"): left out: 5 men
+#! tail 2 of 2 of game 1, node 1.0.0, after 2. Kxg8, beside the solution
+position 6K1/2P5/k7/8/8/7B/8/8 b - - 0 2
+stipulate white draw
+tag Event five
+tag Site ?
+tag Date ????.??.??
+tag Round ?
+tag White ?
+tag Black ?
+pgn
 
-#! game 4, line 23 (\"no word\"): left out: 5 men
+#! game 2, line 9: stipulated by its comment
+#! the stipulation differs from its tag Result
+#! the stipulation differs from its result
+#! not taken over: comments 2
+#> position 7K/8/k1P5/6r1/8/7B/8/8 w - - 0 1
+#> stipulate white mate 5
+#> tag Event mate
+#> tag Site ?
+#> tag Date ????.??.??
+#> tag Round ?
+#> tag White ?
+#> tag Black ?
+#> insert root Bg4
+#> insert 0 Rxg4
+#> insert 0.0 Kh7
+#> insert 0 Kb5
 
-#! games 4, studies 0
+#! tail 1 of 1 of game 2, node 0.0, after 1... Rxg4
+position 7K/8/k1P5/8/6r1/8/8/8 w - - 0 2
+stipulate white mate 4
+tag Event mate
+tag Site ?
+tag Date ????.??.??
+tag Round ?
+tag White ?
+tag Black ?
+insert root Kh7
+pgn
+
+#! game 3, line 21, column 42 (\"fault\"): NoSuchMove at Kc6
+
+#! game 4, line 23: stipulated by its result
+#! not taken over: comments 1
+#> position 7K/8/k1P5/6r1/8/7B/8/8 w - - 0 1
+#> stipulate white draw
+#> tag Event no word
+#> tag Site ?
+#> tag Date ????.??.??
+#> tag Round ?
+#> tag White ?
+#> tag Black ?
+#> insert root Bg4
+#> insert 0 Rxg4
+#> insert 0.0 Kh7
+#> insert 0 Kb6
+
+#! tail 1 of 1 of game 4, node 0.0, after 1... Rxg4
+position 7K/8/k1P5/8/6r1/8/8/8 w - - 0 2
+stipulate white draw
+tag Event no word
+tag Site ?
+tag Date ????.??.??
+tag Round ?
+tag White ?
+tag Black ?
+insert root Kh7
+pgn
+
+#! games 4, studies 4
 ";
 
-/// A game with more than four men leads to its tail with `tails`, and is left out without.
+/// A game with more than four men begins with `tails` where a comment states a position; else its moves are followed.
 #[test]
 fn games_come_to_their_tails(rt: HostRuntime) -> Result<(), Fail> {
     let alloc = rt.alloc();
@@ -101,8 +224,8 @@ fn games_come_to_their_tails(rt: HostRuntime) -> Result<(), Fail> {
     }
     let imported = importer.finish(&mut script)?;
     assert!(rt; script.as_slice() == TAILS);
-    assert!(rt; imported.reported == 4 && imported.studies == 2);
+    assert!(rt; imported.reported == 4 && imported.with_study == 3 && imported.studies == 3);
     let script = import(&alloc, GAMES, None)?;
-    assert!(rt; script.as_slice() == LEFT_OUT);
+    assert!(rt; script.as_slice() == FOLLOWED);
     Ok(())
 }

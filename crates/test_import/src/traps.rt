@@ -436,7 +436,7 @@ position 8/8/8/6k1/8/8/1P5K/8 w - - 0 1 white win Event t12 White A Kg3
 position 8/8/8/6k1/8/8/1P5K/8 w - - 0 1 white win Event t14 White A Kg3 Kf5 Kf3
 position 8/8/8/6k1/8/8/1P5K/8 w - - 0 1 white win Event t15 White Author T15 Kg3
 position 8/8/8/6k1/8/8/1P5K/8 w - - 0 1 white win Event t18 White Author T18 Kg3
-#! game 47, line 325 (\"x\"): left out: no FEN, so 32 men
+#! game 47, line 325, column 13 (\"x\"): NotSan at of
 #! not taken over: tags 1
 position 8/8/8/6k1/8/8/1P5K/8 w - - 0 1 white win Event t20 Kg3
 #! game 49, line 334: stipulated by its comment

@@ -647,6 +647,8 @@ word unread not read: line 1
 word wins wrong: White wins
 word sooner wrong: White mates in 1
 word misses does not win
+word refuted refuted
+word second a second solution
 word unread-sentence A line of this study could not be read, so there is no verdict.
 word untitled Untitled
 word tries Tries and their refutations

@@ -14,9 +14,12 @@ mod study_notation;
 mod study_reading;
 mod study_remark;
 mod study_reply;
+mod study_tails;
 mod study_text;
 mod study_tree;
 mod study_values;
+mod study_wide;
+mod study_wide_text;
 
 use shim::Global;
 use std::io::{self, BufWriter, Read, Write};

@@ -9,7 +9,7 @@ ghost use Rattle.study_head.specs.Verdict.{IsLegalStamp, stamp_words, sentence, 
 ghost use Rattle.study_page.specs.Rows.{by_words, several_words};
 ghost use Rattle.study_web.specs.Answers.{MayEnd, IsOutOfMemory, IsNoMemory};
 ghost use Rattle.study_web.specs.CoreWords.{word_line, refusal_names, game_names, command_names, kind_name, group_name, group_words};
-ghost use Rattle.study_web.specs.CoreWords.{name_lines, said_line, value_lines, stamp_lines, wrong_lines};
+ghost use Rattle.study_web.specs.CoreWords.{name_lines, said_line, value_lines, stamp_lines, wrong_lines, try_lines};
 ghost use Rattle.study_web.specs.CoreWords.{sentence_lines, verdict_lines, title_lines, last_title_lines};
 ghost use Rattle.study_web.specs.CoreWords.{head_lines, page_lines, said_lines, keep_line, later_lines, move_lines, zugzwang_lines};
 ghost use Rattle.study_web.specs.CoreWords.{explained_lines, core_words};
@@ -220,6 +220,14 @@ fn add_wrong<A: Allocator>(text: &mut Text<'_, A>) -> Result<(), AllocError>
     add_stamp_line(text, b"misses", &Stamp::Misses(win))
 }
 
+#[tactic(auto, unfolding(crate::specs::CoreWords::try_lines))]
+fn add_tries<A: Allocator>(text: &mut Text<'_, A>) -> Result<(), AllocError>
+    ensures { OnOk result (text.new ≡ text.old ++ try_lines) }
+{
+    add_stamp_line(text, b"refuted", &Stamp::Refuted)?;
+    add_stamp_line(text, b"second", &Stamp::SecondSolution)
+}
+
 #[tactic(auto, unfolding(crate::specs::CoreWords::sentence_lines))]
 fn add_sentences<A: Allocator>(text: &mut Text<'_, A>) -> Result<(), AllocError>
     ensures { OnOk result (text.new ≡ text.old ++ sentence_lines) }
@@ -234,6 +242,7 @@ fn add_verdicts<A: Allocator>(text: &mut Text<'_, A>) -> Result<(), AllocError>
     add_values(text)?;
     add_stamps(text)?;
     add_wrong(text)?;
+    add_tries(text)?;
     add_sentences(text)
 }
 

@@ -1,4 +1,4 @@
-use Rattle.study_import.proofs.Soundness.{scripts_read}
+use Rattle.study_import.proofs.GamesRead.{scripts_read}
 use Rattle.study_import.proofs.laws.scripts_are_read.Goals as goal
 
 pub returns : goal.returns
