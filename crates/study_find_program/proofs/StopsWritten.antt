@@ -17,7 +17,7 @@ use Rattle.study_find_program.specs.Ended.{IsWholeOrStopped}
 
 pub list_stopped : (r : Result ℕ Stop) (s : Selection) (form : Form) (old new : Option (List ℕ))
     → ((f : ProbeFault) → IsErrOf r (Values f) → HasWrittenSome s form 0 (cells_of s.search.class) old new)
-    → (IsErrOf r TooManyStudies → (form ≡ Script) × ((count : ℕ) × AreSoMany s 0 (cells_of s.search.class) count × (25000 < count)))
+    → (IsErrOf r TooManyStudies → (form ≡ Script) × ((count : ℕ) × AreSoMany s 0 (cells_of s.search.class) count × (3846 < count)))
     → (IsErrOf r TooManyStudies → new ≡ old)
     → (IsErrOf r WriteDevice → HasStopped s form 0 (cells_of s.search.class) old new)
     → IfErr r (ListStops form (Some s) old new)

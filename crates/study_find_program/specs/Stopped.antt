@@ -25,7 +25,7 @@ abbrev pub ListStops : Form → Option Selection → Option (List ℕ) → Optio
 ListStops form None old new stop = ⊥
 ListStops form (Some s) old new (Values fault) = HasWrittenSome s form 0 (cells_of s.search.class) old new
 ListStops form (Some s) old new TooManyStudies =
-    (form ≡ Script) × (new ≡ old) × ((count : ℕ) × AreSoMany s 0 (cells_of s.search.class) count × (25000 < count))
+    (form ≡ Script) × (new ≡ old) × ((count : ℕ) × AreSoMany s 0 (cells_of s.search.class) count × (3846 < count))
 ListStops form (Some s) old new WriteDevice = HasStopped s form 0 (cells_of s.search.class) old new
 
 abbrev pub PutStops : Output → Option Selection → Option (List ℕ) → Option (List ℕ) → Stop → Type 0

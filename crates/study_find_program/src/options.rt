@@ -13,7 +13,7 @@ const ABOUT: &str =
     "Lists the positions of a class of material that have a theme, from the tables of a folder: each once up to symmetry, none missing.";
 
 const THEMES: &str = "Themes:
-  zugzwang              mutual zugzwangs, with both values: White to move, then Black to move
+  zugzwang              mutual zugzwangs, with both values: White to move, then Black to move; a stalemated side is in none
   win N, draw N         the side to move wins, or draws, and the defender can make it find N only moves in a row
   underpromotion        one move alone holds, and it promotes to a rook, a bishop or a knight
   into win, into draw   one move alone wins, or draws, and it leads to a mutual zugzwang
@@ -25,6 +25,8 @@ Filters, after a theme but 'longest', a word each and in any order:
   Kf7, pa2-h4           White's king stands on f7, a black pawn in the rectangle from a2 to h4: capitals for White's men, at most four
                         such words; of the images that the board's symmetries allow the first that has it so is listed
   no-capture, no-check  the one move that holds captures nothing, gives no check; not with 'zugzwang'
+  =Q, =R, =B, =N        the one move that holds promotes to this man; not with 'zugzwang'
+  wins, draws           the side to move wins, or draws; not with 'zugzwang'
 
 Exit status: 0 the list was made; 2 the command line was refused; 3 the list stopped, and why is on standard error.";
 
@@ -103,7 +105,7 @@ fn command<'a>(alloc: Global) -> Result<Command<'a>, Error> {
         .arg(flag(
             alloc,
             "script",
-            "Writes the script of their studies, at most 25,000, for studybench and studyreport",
+            "Writes the script of their studies, at most 3,846, each with its longest row of only moves",
         ))?
         .arg(flag(
             alloc,

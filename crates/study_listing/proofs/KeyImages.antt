@@ -1,5 +1,5 @@
 -- The key of an image is the image of the key, and it captures or gives check if and only if the key does.
-use Rattle.std.proofs.Common.{◌≡◌, ℕ, true, refl, sym, ap, subst, ◌∙◌}
+use Rattle.std.proofs.Common.{◌≡◌, ℕ, true, Option, Some, None, refl, sym, ap, subst, ◌∙◌}
 use Rattle.std.specs.Prelude.{length, nat_lt, not, ◌&&◌}
 use Rattle.study_board.specs.declared.symmetry.Symmetry.{Symmetry}
 use Rattle.study_board.specs.Position.{Position, IsValid, in_check}
@@ -19,7 +19,7 @@ use Rattle.study_search.specs.declared.only_moves.Outcome.{Outcome}
 use Rattle.study_search.specs.declared.only_moves.Outcome.TheVariants.{Win, Draw}
 use Rattle.study_search.specs.OnlyMoves.{Has, Holds, IsOnlyMove, IsKey}
 use Rattle.study_listing.specs.declared.filters.Filters.{Filters}
-use Rattle.study_listing.specs.Filters.{is_capture, gives_check, is_let_through, HasKeyLetThrough, HasWantedKey}
+use Rattle.study_listing.specs.Filters.{is_capture, gives_check, is_let_through, promotes_as_wanted, HasKeyLetThrough, HasWantedKey, HasWantedResult}
 use Rattle.study_listing.proofs.PlacedImages.{bare-men}
 
 -- ---- images
@@ -102,8 +102,9 @@ module _ (law : AllAgreeWithBare) (p : Position) (valid : IsValid p) where
   through-bare : (f : Filters) (m : Move) → IsLegal p m → is_let_through f (without_idle_passed_square p) m ≡ is_let_through f p m
   through-bare f m l =
       ap (λ (q : Position). not (f.no_capture && nat_lt (length q.men) (length (without_idle_passed_square p).men))
-      && not (f.no_check && in_check q.men q.to_move)) (sym (ends-bare m l))
-      ∙ ap (λ n. not (f.no_capture && nat_lt (length (after p m).men) n) && not (f.no_check && in_check (after p m).men (after p m).to_move))
+      && (not (f.no_check && in_check q.men q.to_move) && promotes_as_wanted f.promoted m.promoted)) (sym (ends-bare m l))
+      ∙ ap (λ n. not (f.no_capture && nat_lt (length (after p m).men) n)
+      && (not (f.no_check && in_check (after p m).men (after p m).to_move) && promotes_as_wanted f.promoted m.promoted))
       (ap (λ xs. length xs) (bare-men p))
 
   -- the key of the position is that of an image of its bare form
@@ -119,3 +120,8 @@ module _ (law : AllAgreeWithBare) (p : Position) (valid : IsValid p) where
   pub wanted-image : (s : Symmetry) → IsTurnable s (without_idle_passed_square p) → (f : Filters) → HasWantedKey f p
       → HasWantedKey f (image s (without_idle_passed_square p))
   wanted-image s t f h asked = let-through s t f (h asked)
+
+  pub result-image : (s : Symmetry) → IsTurnable s (without_idle_passed_square p) → (o : Option Outcome) → HasWantedResult o p
+      → HasWantedResult o (image s (without_idle_passed_square p))
+  result-image s t None h = tt
+  result-image s t (Some o) h = Has-image o s (without_idle_passed_square p) t (Has-bare o h)

@@ -10,7 +10,7 @@ use Rattle.study_listing.specs.declared.filters.Filters.{Filters}
 use Rattle.study_listing.specs.declared.filters.Selection.{Selection}
 use Rattle.study_listing.specs.declared.filter_words.Unread.{Unread}
 use Rattle.study_listing.specs.Facts.{IsOneKey}
-use Rattle.study_listing.specs.Filters.{is_let_through, is_key_let_through, HasKeyLetThrough, HasWantedKey}
+use Rattle.study_listing.specs.Filters.{is_let_through, is_key_let_through, is_on_key, HasKeyLetThrough, HasWantedKey, HasWantedResult}
 use Rattle.study_listing.specs.FilterWords.{with_words}
 use Rattle.study_listing.specs.Lists.{listed_image, IsOneOfPair, IsListed}
 use Rattle.study_listing.proofs.OneList.{none-some, same-some}
@@ -26,13 +26,14 @@ has_key_let_through f p (Some m) one =
     ((λ e. (m, (one m).0 refl, e)), (λ h. subst (λ (k : Move). is_let_through f p k ≡ true) (sym (same-some m h.0 ((one h.0).1 h.1))) h.2))
 
 -- the same if a filter concerns the key
-pub if-asked : {E : Type 0} (f : Filters) (p : Position) (r : Result Bool E) → f.no_capture || f.no_check ≡ true
+pub if-asked : {E : Type 0} (f : Filters) (p : Position) (r : Result Bool E) → is_on_key f ≡ true
     → IfOk r (λ b. (b ≡ true) ↔ HasKeyLetThrough f p) → IfOk r (λ b. (b ≡ true) ↔ HasWantedKey f p)
 if-asked f p (Ok b) asked h = ((λ e. λ x. h.0 e), (λ k. h.1 (k asked)))
 if-asked f p (Err e) asked h = tt
 
 pub if-listed : {E : Type 0} (s : Selection) (p : Position) (r : Result Bool E) → IsLookedFor s.search p → IsOneOfPair s.search p
-    → is_some (listed_image s p) ≡ true → IfOk r (λ b. (b ≡ true) ↔ HasWantedKey s.filters p) → IfOk r (λ b. (b ≡ true) ↔ IsListed s p)
-if-listed s p (Ok b) sought first placed h =
-    ((λ e. record { sought = sought; first = first; placed = placed; key = h.0 e }), (λ l. h.1 l.key))
-if-listed s p (Err e) sought first placed h = tt
+    → is_some (listed_image s p) ≡ true → HasWantedKey s.filters p → IfOk r (λ b. (b ≡ true) ↔ HasWantedResult s.filters.result p)
+    → IfOk r (λ b. (b ≡ true) ↔ IsListed s p)
+if-listed s p (Ok b) sought first placed key h =
+    ((λ e. record { sought = sought; first = first; placed = placed; key = key; result = h.0 e }), (λ l. h.1 l.result))
+if-listed s p (Err e) sought first placed key h = tt

@@ -1,6 +1,7 @@
 mod HeldClasses
 pub mod Found
 pub mod Written
+pub mod MainLines
 pub mod OneList
 pub mod Said
 pub mod Shown

@@ -15,7 +15,8 @@ use Rattle.study_listing.specs.declared.facts.Facts.{Facts}
 use Rattle.study_listing.specs.declared.text.Form.{Form}
 use Rattle.study_listing.specs.declared.text.Form.TheVariants.{Lines, Script}
 use Rattle.study_listing.specs.Facts.{IsOtherValue, IsOneKey, SaidIf, AreFacts, IsTextOf, has_other, has_key}
-use Rattle.study_listing.specs.Lines.{line_of, study_of}
+use Rattle.study_listing.specs.Lines.{line_of}
+use Rattle.study_listing.proofs.MainLines.{study-unique}
 use Rattle.study_listing.specs.Lists.{IsListedAt, IsTextAt, AreTexts, AreSoMany, HasWritten, listed_image}
 use Rattle.study_listing.specs.Laws.{ListsAreUnique, ListsHaveAll}
 
@@ -92,7 +93,7 @@ facts-unique law o k p f g h j =
 text-unique : EachHasAtMostOneValue → (form : Form) (t : Theme) (p : Position) (x y : List ℕ) → IsTextOf form t p x → IsTextOf form t p y → x ≡ y
 text-unique law Lines t p x y (f, h, e) (g, k, d) =
     e ∙ ap (λ (z : Facts). line_of p z) (facts-unique law (has_other t) (has_key t) p f g h k) ∙ sym d
-text-unique law Script t p x y (f, h, e) (g, k, d) = e ∙ ap (λ (z : Facts). study_of p z) (facts-unique law false true p f g h k) ∙ sym d
+text-unique law Script t p x y h k = study-unique law p x y h k
 
 text-at-unique : EachHasAtMostOneValue → (s : Selection) (form : Form) (n : ℕ) (x y : List ℕ) → IsTextAt s form n x → IsTextAt s form n y → x ≡ y
 text-at-unique law s form n x y (p, e, (i, f, h)) (q, d, (j, g, k)) =

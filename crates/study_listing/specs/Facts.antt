@@ -1,13 +1,16 @@
 -- The facts in the text of a position: the game's values, and the only move that holds.
-use Rattle.std.specs.Prelude.{◌≡◌, ◌↔◌, ℕ, Bool, true, false, List, Option, Some, None, MatchOption}
+use Rattle.std.specs.Prelude.{◌≡◌, ◌↔◌, ℕ, Bool, true, false, List, [], Option, Some, None, MatchOption}
 use Rattle.study_board.specs.Position.{Position, IsValid}
 use Rattle.study_moves.specs.declared.moves.Move.{Move}
 use Rattle.study_values.specs.declared.value.Value.{Value}
+use Rattle.study_values.specs.declared.value.Value.TheVariants as value
 use Rattle.study_values.specs.Game.{IsValueOf}
 use Rattle.study_search.specs.declared.only_moves.Outcome.{Outcome}
+use Rattle.study_search.specs.declared.only_moves.Outcome.TheVariants.{Win, Draw}
 use Rattle.study_search.specs.declared.themes.Theme.{Theme}
 use Rattle.study_search.specs.declared.themes.Theme.TheVariants as theme
-use Rattle.study_search.specs.OnlyMoves.{IsKey}
+use Rattle.study_search.specs.OnlyMoves.{IsKey, IsMost}
+use Rattle.study_search.specs.Rows.{IsRow}
 use Rattle.study_zugzwang.specs.Zugzwang.{handed_on}
 use Rattle.study_listing.specs.declared.facts.Facts.{Facts}
 use Rattle.study_listing.specs.declared.text.Form.{Form}
@@ -50,7 +53,22 @@ has_key (theme.IntoZugzwang o) = true
 has_key (theme.ZugzwangTry o) = true
 has_key (theme.MateIn n) = false
 
--- the text of a position with the theme: its line, or its study, which has the key whatever the theme
+-- what the side to move has to keep, by the value
+abbrev pub outcome_by : Value → Option Outcome
+outcome_by (value.Win n) = Some Win
+outcome_by (value.Loss n) = None
+outcome_by value.Draw = Some Draw
+
+-- The longest row of only moves, of twelve at most, that the defender can make the side to move find: none if it loses, or if no move alone keeps the result.
+abbrev pub IsMainLine : Position → Option Outcome → List Move → Type 0
+IsMainLine p None row = row ≡ []
+IsMainLine p (Some o) row = (n : ℕ) × IsMost o p 12 (Some n) × IsRow o n p row
+
+-- The study of a position has the longest row of only moves as its main line.
+abbrev pub IsStudyOf : Position → List ℕ → Type 0
+IsStudyOf p text = (v : Value) × (row : List Move) × IsValueOf p v × IsMainLine p (outcome_by v) row × (text ≡ study_of p v row)
+
+-- the text of a position with the theme: its line, or its study, whatever the theme
 abbrev pub IsTextOf : Form → Theme → Position → List ℕ → Type 0
 IsTextOf Lines t p text = (f : Facts) × AreFacts (has_other t) (has_key t) p f × (text ≡ line_of p f)
-IsTextOf Script t p text = (f : Facts) × AreFacts false true p f × (text ≡ study_of p f)
+IsTextOf Script t p text = IsStudyOf p text

@@ -9,6 +9,8 @@ use Rattle.study_board.specs.declared.men.Side.{Side}
 use Rattle.study_board.specs.declared.men.Side.TheVariants.{White, Black}
 use Rattle.study_board.specs.Geometry.{file_of, rank_of}
 use Rattle.study_command.specs.Parser.{side_parsed}
+use Rattle.study_search.specs.declared.only_moves.Outcome.{Outcome}
+use Rattle.study_search.specs.declared.only_moves.Outcome.TheVariants.{Win, Draw}
 use Rattle.study_search.specs.declared.themes.Theme.{Theme}
 use Rattle.study_listing.specs.declared.filters.Placed.{Placed}
 use Rattle.study_listing.specs.declared.filter_words.Behind.{Behind}
@@ -91,16 +93,41 @@ abbrev pub with_side_or_man : Behind → List ℕ → Option Side → Result Beh
 with_side_or_man b word (Some side) = with_side b side
 with_side_or_man b word None = with_placed b (placed_parsed word)
 
--- a filter on the key needs a theme that has one
+-- a filter on the key, or on the result that it keeps, needs a theme that has one
 abbrev pub if_key : Theme → Behind → Result Behind Unread
 if_key t b = if has_key t then Ok b else Err NoKeyMove
 
--- `white`, `black`, `no-capture`, `no-check`, or the square of a man
+-- `=Q`, `=R`, `=B`, `=N`
+abbrev pub promoted_parsed : List ℕ → Option Kind
+promoted_parsed word =
+    if bytes_eq word (codes "=Q") then Some Queen
+    else (if bytes_eq word (codes "=R") then Some Rook
+    else (if bytes_eq word (codes "=B") then Some Bishop
+    else (if bytes_eq word (codes "=N") then Some Knight
+    else None)))
+
+-- `wins`, `draws`
+abbrev pub result_parsed : List ℕ → Option Outcome
+result_parsed word = if bytes_eq word (codes "wins") then Some Win else (if bytes_eq word (codes "draws") then Some Draw else None)
+
+-- one result at most
+abbrev pub with_result : Theme → Behind → List ℕ → Option Outcome → Result Behind Unread
+with_result t b word None = with_side_or_man b word (side_parsed word)
+with_result t b word (Some o) =
+    if is_some b.filters.result then Err NoSuchFilter else if_key t (record b { filters = record b.filters { result = Some o } })
+
+-- one promoted man at most
+abbrev pub with_promoted : Theme → Behind → List ℕ → Option Kind → Result Behind Unread
+with_promoted t b word None = with_result t b word (result_parsed word)
+with_promoted t b word (Some kind) =
+    if is_some b.filters.promoted then Err NoSuchFilter else if_key t (record b { filters = record b.filters { promoted = Some kind } })
+
+-- `no-capture`, `no-check`, `=N`, `wins`, `draws`, `white`, `black`, or the square of a man
 abbrev pub with_word : Theme → Behind → List ℕ → Result Behind Unread
 with_word t b word =
     if bytes_eq word (codes "no-capture") then if_key t (record b { filters = record b.filters { no_capture = true } })
     else (if bytes_eq word (codes "no-check") then if_key t (record b { filters = record b.filters { no_check = true } })
-    else with_side_or_man b word (side_parsed word))
+    else with_promoted t b word (promoted_parsed word))
 
 -- word by word, up to the first that is refused
 abbrev pub with_words : Theme → Result Behind Unread → List (List ℕ) → Result Behind Unread

@@ -1,6 +1,7 @@
--- Filters: the squares of men, and the kind of key.
-use Rattle.std.specs.Prelude.{◌≡◌, ◌&&◌, ◌||◌, not, ℕ, nat_le, nat_lt, Bool, true, false, length, replicate, List, [], ◌∷◌, Option, Some, None, if◌then◌else◌}
+-- Filters: the squares of men, the kind of key, and the result.
+use Rattle.std.specs.Prelude.{◌≡◌, ◌&&◌, ◌||◌, not, ℕ, nat_le, nat_lt, Bool, true, false, length, replicate, List, [], ◌∷◌, Option, Some, None, is_some, if◌then◌else◌}
 use Rattle.std.specs.List.{list_all, list_any}
+use Rattle.study_board.specs.declared.men.Kind.{Kind}
 use Rattle.study_board.specs.declared.men.Man.{Man}
 use Rattle.study_board.specs.declared.symmetry.Symmetry.{Symmetry}
 use Rattle.study_board.specs.Geometry.{file_of, rank_of}
@@ -10,13 +11,13 @@ use Rattle.study_board.specs.Symmetry.{image, admits}
 use Rattle.study_moves.specs.declared.moves.Move.{Move}
 use Rattle.study_moves.specs.Rules.{after}
 use Rattle.study_search.specs.declared.only_moves.Outcome.{Outcome}
-use Rattle.study_search.specs.OnlyMoves.{IsKey}
+use Rattle.study_search.specs.OnlyMoves.{Has, IsKey}
 use Rattle.study_listing.specs.declared.filters.Placed.{Placed}
 use Rattle.study_listing.specs.declared.filters.Filters.{Filters}
 
 -- every position passes
 abbrev pub no_filters : Filters
-no_filters = record { men = replicate 4 None; no_capture = false; no_check = false }
+no_filters = record { men = replicate 4 None; no_capture = false; no_check = false; promoted = None; result = None }
 
 abbrev pub is_from_to : ℕ → ℕ → ℕ → Bool
 is_from_to low high n = nat_le low n && nat_le n high
@@ -78,17 +79,32 @@ is_capture p m = nat_lt (length (after p m).men) (length p.men)
 abbrev pub gives_check : Position → Move → Bool
 gives_check p m = in_check (after p m).men (after p m).to_move
 
--- neither a capture nor a check, if the filters require that
+-- the move promotes to the wanted man, if one is wanted
+abbrev pub promotes_as_wanted : Option Kind → Option Kind → Bool
+promotes_as_wanted None promoted = true
+promotes_as_wanted (Some wanted) None = false
+promotes_as_wanted (Some wanted) (Some to) = same_kind to wanted
+
+-- neither a capture nor a check, and a promotion to the wanted man, if the filters require that
 abbrev pub is_let_through : Filters → Position → Move → Bool
-is_let_through f p m = not (f.no_capture && is_capture p m) && not (f.no_check && gives_check p m)
+is_let_through f p m = not (f.no_capture && is_capture p m) && (not (f.no_check && gives_check p m) && promotes_as_wanted f.promoted m.promoted)
 
 -- exactly one move holds, and it passes the filters
 abbrev pub HasKeyLetThrough : Filters → Position → Type 0
 HasKeyLetThrough f p = (m : Move) × ((o : Outcome) × IsKey o p m) × (is_let_through f p m ≡ true)
 
+-- some filter concerns the key
+abbrev pub is_on_key : Filters → Bool
+is_on_key f = f.no_capture || (f.no_check || is_some f.promoted)
+
 -- the same, if a filter concerns the key
 abbrev pub HasWantedKey : Filters → Position → Type 0
-HasWantedKey f p = f.no_capture || f.no_check ≡ true → HasKeyLetThrough f p
+HasWantedKey f p = is_on_key f ≡ true → HasKeyLetThrough f p
+
+-- the side to move has the wanted outcome, if one is wanted
+abbrev pub HasWantedResult : Option Outcome → Position → Type 0
+HasWantedResult None p = Unit {0}
+HasWantedResult (Some o) p = Has o p
 
 abbrev pub is_key_let_through : Filters → Position → Option Move → Bool
 is_key_let_through f p None = false

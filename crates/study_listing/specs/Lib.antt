@@ -1,4 +1,5 @@
 pub mod Lines
+pub mod MainLines
 pub mod Facts
 pub mod Filters
 pub mod FilterWords

@@ -5,6 +5,7 @@ use Rattle.study_board.specs.declared.men.Side.TheVariants.{White, Black}
 use Rattle.study_board.specs.Men.{other_side}
 use Rattle.study_board.specs.Position.{Position}
 use Rattle.study_moves.specs.declared.moves.Move.{Move}
+use Rattle.study_moves.specs.Rules.{after}
 use Rattle.study_values.specs.declared.value.Value.{Value}
 use Rattle.study_values.specs.declared.value.Value.TheVariants as value
 use Rattle.study_notation.specs.FenSpelling.{fen_text}
@@ -49,11 +50,20 @@ goal_named value.Draw = codes "draw"
 unfoldable pub stipulation_line : Side → Value → List ℕ
 stipulation_line side v = codes "stipulate " ++ (side_named (hero_of side v) ++ (32 ∷ (goal_named v ++ 10 ∷ [])))
 
-abbrev pub insert_line : Position → Option Move → List ℕ
-insert_line p None = []
-insert_line p (Some m) = codes "insert root " ++ (move_text p m ++ 10 ∷ [])
+-- `insert 0.0 Kd3`: a move in the position of a node
+abbrev pub insert_line : List ℕ → Position → Move → List ℕ
+insert_line node p m = codes "insert " ++ (node ++ (32 ∷ (move_text p m ++ 10 ∷ [])))
 
--- `position FEN`, `stipulate SIDE win` or `draw`, `insert root SAN` if exactly one move holds, and `pgn`
-unfoldable pub study_of : Position → Facts → List ℕ
-study_of p f =
-    codes "position " ++ (fen_of p ++ (10 ∷ (stipulation_line p.to_move f.value ++ (insert_line p f.key ++ codes "pgn\n"))))
+-- moves in turn from a node that is no root; each is the first below the one before
+abbrev pub lines_below : List ℕ → Position → List Move → List ℕ
+lines_below node p [] = []
+lines_below node p (m ∷ ms) = insert_line node p m ++ lines_below (node ++ codes ".0") (after p m) ms
+
+-- moves in turn from the start: at `root`, `0`, `0.0`, `0.0.0` ..
+abbrev pub main_line : Position → List Move → List ℕ
+main_line p [] = []
+main_line p (m ∷ ms) = insert_line (codes "root") p m ++ lines_below (codes "0") (after p m) ms
+
+-- `position FEN`, `stipulate SIDE win` or `draw`, an `insert` line for each move, and `pgn`
+unfoldable pub study_of : Position → Value → List Move → List ℕ
+study_of p v row = codes "position " ++ (fen_of p ++ (10 ∷ (stipulation_line p.to_move v ++ (main_line p row ++ codes "pgn\n"))))

@@ -1,15 +1,15 @@
 //! The words after a theme.
-ghost use Rattle.std.specs.Prelude.{◌≡◌, map, true, Ok};
+ghost use Rattle.std.specs.Prelude.{◌≡◌, map, true, Ok, Some};
 ghost use Rattle.study_command.specs.Parser.{side_parsed};
 ghost use Rattle.study_listing.specs.FilterWords.{side_lettered, capital, kind_lettered, square_spelled, are_corners, placed_by, placed_on};
 ghost use Rattle.study_listing.specs.FilterWords.{placed_parsed, nothing_behind, put_placed, with_placed, with_side, with_side_or_man};
-ghost use Rattle.study_listing.specs.FilterWords.{if_key, with_word, with_words};
+ghost use Rattle.study_listing.specs.FilterWords.{if_key, promoted_parsed, result_parsed, with_result, with_promoted, with_word, with_words};
 
 use crate::facts::wanted_for;
 use crate::filters::{Filters, Placed};
 use study_board::{Kind, Side, Square};
 use study_command::read_side;
-use study_search::Theme;
+use study_search::{Outcome, Theme};
 
 /// Why words are not filters.
 #[derive(Clone, Copy, Debug, PartialEq, Eq)]
@@ -212,7 +212,7 @@ fn with_side_or_man(behind: Behind, word: &[u8]) -> Result<Behind, Unread>
     }
 }
 
-/// A filter on the key move needs a theme that has one.
+/// A filter on the key move, or on the result that it keeps, needs a theme that has one.
 fn if_key(theme: Theme, behind: Behind) -> Result<Behind, Unread>
     ensures { result ≡ if_key theme behind }
 {
@@ -245,6 +245,88 @@ fn without_check(behind: Behind) -> Behind
     }
 }
 
+/// A man that the key promotes to: `=N`.
+fn read_promoted(word: &[u8]) -> Option<Kind>
+    ensures { result ≡ promoted_parsed word.now }
+{
+    if word == b"=Q".as_slice() {
+        Some(Kind::Queen)
+    } else if word == b"=R".as_slice() {
+        Some(Kind::Rook)
+    } else if word == b"=B".as_slice() {
+        Some(Kind::Bishop)
+    } else if word == b"=N".as_slice() {
+        Some(Kind::Knight)
+    } else {
+        None
+    }
+}
+
+/// `wins` or `draws`.
+fn read_result(word: &[u8]) -> Option<Outcome>
+    ensures { result ≡ result_parsed word.now }
+{
+    if word == b"wins".as_slice() {
+        Some(Outcome::Win)
+    } else if word == b"draws".as_slice() {
+        Some(Outcome::Draw)
+    } else {
+        None
+    }
+}
+
+fn with_outcome(behind: Behind, outcome: Outcome) -> Behind
+    ensures { result ≡ record behind { filters = record behind.filters { result = Some outcome } } }
+{
+    let mut filters = behind.filters;
+    filters.result = Some(outcome);
+    Behind {
+        side: behind.side,
+        filters,
+    }
+}
+
+/// One result at most.
+fn with_result(theme: Theme, behind: Behind, word: &[u8]) -> Result<Behind, Unread>
+    ensures { result ≡ with_result theme behind word.now (result_parsed word.now) }
+{
+    match read_result(word) {
+        None => with_side_or_man(behind, word),
+        Some(outcome) => {
+            if behind.filters.result.is_some() {
+                return Err(Unread::NoSuchFilter);
+            }
+            if_key(theme, with_outcome(behind, outcome))
+        }
+    }
+}
+
+fn with_kind(behind: Behind, kind: Kind) -> Behind
+    ensures { result ≡ record behind { filters = record behind.filters { promoted = Some kind } } }
+{
+    let mut filters = behind.filters;
+    filters.promoted = Some(kind);
+    Behind {
+        side: behind.side,
+        filters,
+    }
+}
+
+/// One promoted man at most.
+fn with_promoted(theme: Theme, behind: Behind, word: &[u8]) -> Result<Behind, Unread>
+    ensures { result ≡ with_promoted theme behind word.now (promoted_parsed word.now) }
+{
+    match read_promoted(word) {
+        None => with_result(theme, behind, word),
+        Some(kind) => {
+            if behind.filters.promoted.is_some() {
+                return Err(Unread::NoSuchFilter);
+            }
+            if_key(theme, with_kind(behind, kind))
+        }
+    }
+}
+
 /// One more word.
 fn with_word(theme: Theme, behind: Behind, word: &[u8]) -> Result<Behind, Unread>
     ensures { result ≡ with_word theme behind word.now }
@@ -254,7 +336,7 @@ fn with_word(theme: Theme, behind: Behind, word: &[u8]) -> Result<Behind, Unread
     } else if word == b"no-check".as_slice() {
         if_key(theme, without_check(behind))
     } else {
-        with_side_or_man(behind, word)
+        with_promoted(theme, behind, word)
     }
 }
 

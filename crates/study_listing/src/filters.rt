@@ -1,4 +1,4 @@
-//! Filters: the squares of men, and the kind of key.
+//! Filters: the squares of men, the kind of key, and the result.
 #![tactic(auto, using(study_search::proofs::Faults::can_report, study_search::proofs::Faults::if_reported))]
 
 ghost use Rattle.std.specs.Prelude.{◌≡◌, ◌↔◌, true, IfOk, IfErr, IfSome};
@@ -7,12 +7,13 @@ ghost use Rattle.study_moves.specs.Rules.{is_legal};
 ghost use Rattle.study_material.specs.Needs.{NeedsClass};
 ghost use Rattle.study_search.specs.Faults.{CanReport, HasSameTables, NeedsNoMore};
 ghost use Rattle.study_listing.specs.Filters.{is_from_to, is_within, is_placed, has_placed, are_placed, turned_by, turns};
-ghost use Rattle.study_listing.specs.Filters.{image_placed, first_placed, is_let_through, is_key_let_through, HasKeyLetThrough, HasWantedKey, no_filters};
+ghost use Rattle.study_listing.specs.Filters.{image_placed, first_placed, is_let_through, is_key_let_through, HasKeyLetThrough, HasWantedKey};
+ghost use Rattle.study_listing.specs.Filters.{promotes_as_wanted, is_on_key, HasWantedResult, no_filters};
 
 use crate::facts::{Wanted, facts_of};
 use study_board::{Kind, Man, Position, Side, Square, Symmetry};
 use study_moves::{Move, in_check, played};
-use study_search::Search;
+use study_search::{Outcome, Search, has_only_moves};
 use study_values::{ProbeFault, Values};
 
 /// A man wanted on one of the squares of a rectangle.
@@ -35,6 +36,10 @@ pub struct Filters {
     pub no_capture: bool,
     /// The key must not give check.
     pub no_check: bool,
+    /// The key must promote to this man.
+    pub promoted: Option<Kind>,
+    /// The side to move must win, or must draw.
+    pub result: Option<Outcome>,
 }
 
 /// A search and its filters.
@@ -53,6 +58,8 @@ impl Filters {
             men: [None; 4],
             no_capture: false,
             no_check: false,
+            promoted: None,
+            result: None,
         }
     }
 }
@@ -165,14 +172,27 @@ pub(crate) fn first_placed(wanted: &[Option<Placed>], p: &Position) -> Option<Po
     first_of(wanted, p, turns().as_slice())
 }
 
-/// Whether a legal move passes: neither a capture nor a check, if the filters require that.
+/// Whether the move promotes to the wanted man, if one is wanted.
+fn promotes_as_wanted(wanted: Option<Kind>, promoted: Option<Kind>) -> bool
+    ensures { result ≡ promotes_as_wanted wanted promoted }
+{
+    match (wanted, promoted) {
+        (None, _) => true,
+        (Some(_), None) => false,
+        (Some(kind), Some(to)) => to == kind,
+    }
+}
+
+/// Whether a legal move passes: neither a capture nor a check, and a promotion to the wanted man, if the filters require that.
 fn is_let_through(filters: &Filters, p: &Position, m: Move) -> bool
     requires { is_legal p.now m ≡ true }
     ensures { result ≡ is_let_through filters.now p.now m }
 {
     let next = played(p, m);
     let captures = next.men().len() < p.men().len();
-    !(filters.no_capture && captures) && !(filters.no_check && in_check(&next))
+    !(filters.no_capture && captures)
+        && !(filters.no_check && in_check(&next))
+        && promotes_as_wanted(filters.promoted, m.promoted)
 }
 
 /// Whether the position has exactly one key, and the key passes.
@@ -198,7 +218,7 @@ fn has_key_let_through<V: Values>(
     }
 }
 
-/// The same, if a filter concerns the key move.
+/// Whether it has such a key, if a filter concerns the key move.
 pub(crate) fn has_wanted_key<V: Values>(
     filters: &Filters,
     p: &Position,
@@ -210,11 +230,35 @@ pub(crate) fn has_wanted_key<V: Values>(
     ensures honest { V.source.is_honest values.old → V.source.is_honest values.new }
     ensures tables { HasSameTables V.source values.old values.new }
 {
-    let asked = filters.no_capture || filters.no_check;
-    if asked {
+    if is_on_key(filters) {
         return has_key_let_through(filters, p, values);
     }
     Ok(true)
+}
+
+/// Whether some filter concerns the key move.
+fn is_on_key(filters: &Filters) -> bool
+    ensures { result ≡ is_on_key filters.now }
+{
+    filters.no_capture || filters.no_check || filters.promoted.is_some()
+}
+
+/// Whether the side to move has the wanted result, if one is wanted.
+pub(crate) fn has_wanted_result<V: Values>(
+    filters: &Filters,
+    p: &Position,
+    values: &mut V,
+) -> Result<bool, ProbeFault>
+    ensures game { V.source.is_honest values.old
+        → IfOk result (λ b. (b ≡ true) ↔ HasWantedResult filters.now.result p.now) }
+    ensures faults { IfErr result (CanReport V.source (NeedsClass p.now) values.old) }
+    ensures honest { V.source.is_honest values.old → V.source.is_honest values.new }
+    ensures tables { HasSameTables V.source values.old values.new }
+{
+    match filters.result {
+        None => Ok(true),
+        Some(outcome) => has_only_moves(p, outcome, 0, values),
+    }
 }
 
 /// Whether there is a key, and it passes.

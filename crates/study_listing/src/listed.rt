@@ -14,7 +14,7 @@ ghost use Rattle.study_listing.specs.Filters.{first_placed, turns};
 ghost use Rattle.study_listing.specs.Lists.{has_like_sides, is_of_zugzwangs, is_for_white, is_paired, second_placed, listed_image};
 ghost use Rattle.study_listing.specs.Lists.{IsOneOfPair, IsListed, IsListedAt, IsTextAt};
 
-use crate::filters::{Selection, first_placed, has_wanted_key};
+use crate::filters::{Selection, first_placed, has_wanted_key, has_wanted_result};
 use crate::text::{Form, Listed, text_of};
 use study_board::{Position, Side, Symmetry};
 use study_index::decode;
@@ -134,7 +134,11 @@ fn is_listed<V: Values>(
     match is_one_of_pair(&selection.search, p, values) {
         Err(fault) => Err(fault),
         Ok(false) => Ok(false),
-        Ok(true) => has_wanted_key(&selection.filters, p, values),
+        Ok(true) => match has_wanted_key(&selection.filters, p, values) {
+            Err(fault) => Err(fault),
+            Ok(false) => Ok(false),
+            Ok(true) => has_wanted_result(&selection.filters, p, values),
+        },
     }
 }
 

@@ -25,8 +25,8 @@ use study_search::{Search, Theme, longest_mate, next_found};
 use study_text::write_text;
 use study_values::{ProbeFault, Values, cells};
 
-/// The most studies that a script holds: with four lines a study, 100,000 lines.
-pub const MAX_STUDIES: u32 = 25_000;
+/// The most studies that a script holds: with 26 lines a study at most, 100,000 lines.
+pub const MAX_STUDIES: u32 = 3_846;
 
 /// The number of positions searched between two reports of progress.
 const PIECE: u32 = 100_000;
@@ -208,10 +208,10 @@ fn list_studies<V: CellPages, W: Write, H: Watch>(
         → IfOk result
         (HasWritten selection.now Form.Script 0 (cells_of selection.now.search.class)
         (W.contents out.old) (W.contents out.new)) }
-    ensures few { V.source.is_honest values.old → IfOk result (λ count. count ≤ 25000) }
+    ensures few { V.source.is_honest values.old → IfOk result (λ count. count ≤ 3846) }
     ensures many { V.source.is_honest values.old → IsErrOf result Stop.TooManyStudies
         → (count : ℕ)
-        × AreSoMany selection.now 0 (cells_of selection.now.search.class) count × (25000 < count) }
+        × AreSoMany selection.now 0 (cells_of selection.now.search.class) count × (3846 < count) }
     ensures nothing { IsErrOf result Stop.TooManyStudies → out.new ≡ out.old }
     ensures values { V.source.is_honest values.old → (f : AFault) → IsErrOf result (Stop.Values f)
         → HasWrittenSome selection.now Form.Script 0 (cells_of selection.now.search.class)
@@ -251,11 +251,11 @@ pub fn list_found<V: CellPages, W: Write, H: Watch>(
         (HasWritten selection.now form 0 (cells_of selection.now.search.class)
         (W.contents out.old) (W.contents out.new)) }
     ensures few { V.source.is_honest values.old → form ≡ Form.Script
-        → IfOk result (λ count. count ≤ 25000) }
+        → IfOk result (λ count. count ≤ 3846) }
     ensures many { V.source.is_honest values.old → IsErrOf result Stop.TooManyStudies
         → (form ≡ Form.Script)
         × ((count : ℕ)
-        × AreSoMany selection.now 0 (cells_of selection.now.search.class) count × (25000 < count)) }
+        × AreSoMany selection.now 0 (cells_of selection.now.search.class) count × (3846 < count)) }
     ensures nothing { IsErrOf result Stop.TooManyStudies → out.new ≡ out.old }
     ensures values { V.source.is_honest values.old → (f : AFault) → IsErrOf result (Stop.Values f)
         → HasWrittenSome selection.now form 0 (cells_of selection.now.search.class)

@@ -2,7 +2,7 @@
 
 use std::alloc::Global;
 use std::process::Abort;
-use study_board::Side;
+use study_board::{Kind, Side};
 use study_index::index;
 use study_listing::{
     Filters, Form, MAX_STUDIES, NoWatch, Numbers, Request, Selection, Stop, count_found,
@@ -21,6 +21,23 @@ use study_values::{ProbeFault, SourceFault, cells};
 const STUDY: &[u8] = b"position 8/1P6/k7/8/K7/8/8/8 w - - 0 1
 stipulate white win
 insert root b8=R
+pgn
+";
+
+/// By an independent program: six only moves, and of the replies that lead on to the rest the first by squares.
+const ROW: &[u8] = b"position 8/8/8/1k6/8/8/K5P1/8 w - - 0 1
+stipulate white win
+insert root Kb3
+insert 0 Kc5
+insert 0.0 Kc3
+insert 0.0.0 Kd5
+insert 0.0.0.0 Kd3
+insert 0.0.0.0.0 Ke5
+insert 0.0.0.0.0.0 Ke3
+insert 0.0.0.0.0.0.0 Kf5
+insert 0.0.0.0.0.0.0.0 Kf3
+insert 0.0.0.0.0.0.0.0.0 Kg5
+insert 0.0.0.0.0.0.0.0.0.0 Kg3
 pgn
 ";
 
@@ -64,31 +81,79 @@ fn search(theme: Theme, side: Option<Side>) -> Selection {
 fn is_said<V: CellPages>(
     rt: &impl Abort,
     alloc: &Global,
+    wanted: &Selection,
     form: Form,
-    fen: &str,
     values: &mut V,
-    want: &[u8],
+    (fen, want): (&str, &[u8]),
 ) -> bool {
     let start = read_fen(fen).ok().expect(rt, "a position");
     let number = index(&start.position);
-    let wanted = search(Theme::Underpromotion, None);
     let alone = Numbers {
         from: number,
         to: number.saturating_add(1),
     };
     let mut out = MemoryWriter::new(alloc);
-    let found = list_numbers(&wanted, form, alone, values, &mut out, &mut NoWatch);
+    let found = list_numbers(wanted, form, alone, values, &mut out, &mut NoWatch);
     found == Ok(1) && out.taken.as_slice() == want
 }
 
-/// An underpromotion as a line and as a study.
+/// An underpromotion as a line and as a study; and a row of six only moves as the main line of a study.
 #[test]
 fn a_position_becomes_a_line_and_a_study(rt: HostRuntime) {
     let alloc = rt.alloc();
     let mut values = tables(&rt, &alloc);
+    let promotes = search(Theme::Underpromotion, None);
     let fen = "8/1P6/k7/8/K7/8/8/8 w - - 0 1";
-    assert!(rt; is_said(&rt, &alloc, Form::Lines, fen, &mut values, LINE));
-    assert!(rt; is_said(&rt, &alloc, Form::Script, fen, &mut values, STUDY));
+    assert!(rt;
+        is_said(
+            &rt,
+            &alloc,
+            &promotes,
+            Form::Lines,
+            &mut values,
+            (fen, LINE)
+        )
+    );
+    assert!(rt;
+        is_said(
+            &rt,
+            &alloc,
+            &promotes,
+            Form::Script,
+            &mut values,
+            (fen, STUDY)
+        )
+    );
+    let six = search(Theme::OnlyMoves(Outcome::Win, 6), None);
+    let fen = "8/8/8/1k6/8/8/K5P1/8 w - - 0 1";
+    assert!(rt; is_said(&rt, &alloc, &six, Form::Script, &mut values, (fen, ROW)));
+}
+
+/// The same list with one more filter.
+fn filtered(filters: Filters) -> Selection {
+    Selection {
+        search: search(Theme::Underpromotion, None).search,
+        filters,
+    }
+}
+
+/// By an independent program all three underpromotions of KPK win, and promote to a rook.
+#[test]
+fn promotions_and_results_are_filtered(rt: HostRuntime) {
+    let alloc = rt.alloc();
+    let mut values = tables(&rt, &alloc);
+    for (promoted, result, count) in [
+        (Some(Kind::Rook), None, 3u32),
+        (Some(Kind::Knight), None, 0),
+        (None, Some(Outcome::Win), 3),
+        (Some(Kind::Rook), Some(Outcome::Draw), 0),
+    ] {
+        let mut filters = Filters::none();
+        filters.promoted = promoted;
+        filters.result = result;
+        let found = count_found(&filtered(filters), &mut values, &mut NoWatch);
+        assert!(rt; found == Ok(count));
+    }
 }
 
 /// A writer with room for two lines and one byte accepts these, and then nothing.
@@ -152,7 +217,7 @@ fn a_script_with_too_many_studies_is_refused(rt: HostRuntime) {
     let wanted = search(Theme::OnlyMoves(Outcome::Win, 0), None);
     let mut out = MemoryWriter::new(&alloc);
     let refused = list_found(&wanted, Form::Script, &mut values, &mut out, &mut NoWatch);
-    assert!(rt; refused == Err(Stop::TooManyStudies) && MAX_STUDIES == 25_000);
+    assert!(rt; refused == Err(Stop::TooManyStudies) && MAX_STUDIES == 3_846);
     assert!(rt; out.taken.is_empty());
 }
 

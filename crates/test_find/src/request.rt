@@ -70,7 +70,9 @@ fn filters_are_read(rt: HostRuntime) {
     want.filters.men[0] = place(Side::White, Kind::King, 53, 53);
     want.filters.men[1] = place(Side::Black, Kind::Pawn, 8, 31);
     want.filters.no_check = true;
-    let line = "win 5 Kf7 no-check pa2-h4 black";
+    want.filters.promoted = Some(Kind::Knight);
+    want.filters.result = Some(Outcome::Win);
+    let line = "win 5 Kf7 no-check =N pa2-h4 black wins";
     assert!(rt; read(&rt, alloc, Class::KPKP, line) == Ok(Request::Positions(want)));
 }
 
@@ -84,10 +86,15 @@ win 5 Xf7
 win 5 Pa2-
 win 5 Ph4-a2
 win 5 Ka1 Kb1 Kc1 Kd1 Ke1
+win 5 =K
+win 5 =N =N
+underpromotion wins draws
 longest white Kf7
 zugzwang no-check red
 zugzwang no-capture
-zugzwang white no-check";
+zugzwang white no-check
+zugzwang =R
+zugzwang draws";
 
 /// A refusal for the theme comes before one for the words after it, and among these the first unknown word is refused.
 #[test]
@@ -99,7 +106,7 @@ fn words_are_refused(rt: HostRuntime) {
         number = number.saturating_add(1);
         let want = if number <= 3 {
             Unread::NoSuchTheme
-        } else if number <= 11 {
+        } else if number <= 14 {
             Unread::NoSuchFilter
         } else {
             Unread::NoKeyMove
