@@ -2,10 +2,11 @@
 # Compares the lists of studymine with those of an independent program, by their lengths and digests, and counts themes.
 #
 #   tools/run/finding.sh lists TABLES [CLASS..]     each list of tools/oracle/finding/lists.tsv, or those of some classes, over a folder of tables
+#   tools/run/finding.sh filters TABLES [CLASS..]   each count of tools/oracle/finding/filters.tsv, of lists with filters
 #   tools/run/finding.sh counts TABLES              a row for each of the 36 classes, as docs/FINDING.md has them
 #   tools/run/finding.sh faults TABLES              what is refused, and with which status
 top=$(cd "$(dirname "$0")/../.." && pwd)
-mode=$1; tables=${2:+$(realpath "$2")}; shift 2 || { echo "usage: tools/run/finding.sh lists|counts|faults TABLES [CLASS..]"; exit 2; }
+mode=$1; tables=${2:+$(realpath "$2")}; shift 2 || { echo "usage: tools/run/finding.sh lists|filters|counts|faults TABLES [CLASS..]"; exit 2; }
 program=${STUDYMINE:-$top/crates/studymine/out/studymine}
 [ -x "$program" ] || { echo "studymine is not built: cd crates/studymine && rt run -- --help"; exit 2; }
 mine() { "$program" --tables "$tables" "$@"; }
@@ -25,6 +26,20 @@ lists() {
         fi
     done < "$top/tools/oracle/finding/lists.tsv"
     echo "$same lists equal, $differ differ"
+    [ $differ = 0 ]
+}
+
+# Each count once.
+filters() {
+    same=0; differ=0
+    while IFS=$'\t' read -r class words count; do
+        [ "${class#\#}" = "$class" ] || continue
+        [ -z "$wanted" ] || [[ " $wanted " = *" $class "* ]] || continue
+        # shellcheck disable=SC2086
+        found=$(mine --count "$class" $words)
+        if [ "$found" = "$count" ]; then same=$((same + 1)); else differ=$((differ + 1)); echo "$class $words: $found, wanted $count"; fi
+    done < "$top/tools/oracle/finding/filters.tsv"
+    echo "$same counts equal, $differ differ"
     [ $differ = 0 ]
 }
 
@@ -70,4 +85,4 @@ faults() {
 }
 
 wanted=$*
-case $mode in lists | counts | faults) $mode ;; *) echo "tools/run/finding.sh: $mode is none of lists, counts, faults"; exit 2 ;; esac
+case $mode in lists | filters | counts | faults) $mode ;; *) echo "tools/run/finding.sh: $mode is none of lists, filters, counts, faults"; exit 2 ;; esac
