@@ -112,9 +112,9 @@ export async function reviewOf(text, fen, stamp) {
   await pause(expected > 150 ? Math.min(1000, 2 * expected) : 30);
   if (stamp !== app.stamp) return;
   try {
-    await services.tables.loadFor([fen], services.facts);
+    const worker = await services.tables.factsFor([fen]);
     if (stamp !== app.stamp) return;
-    const began = performance.now(), answer = await services.facts.answer('review', text + 'pgn\n', PAGES);
+    const began = performance.now(), answer = await worker.answer('review', text + 'pgn\n', PAGES);
     const review = readReview(answer.text);
     last = {letters: text.length, ms: performance.now() - began};
     if (review) remember(reviews, text, review);

@@ -12,6 +12,11 @@ const FILES = 'abcdefgh';
 export const squareName = square => FILES[square % 8] + (Math.floor(square / 8) + 1);
 /** @param {string} name */
 export const squareAt = name => 8 * (Number(name[1]) - 1) + FILES.indexOf(name[0]);
+/**
+ * The men of a position, whatever squares they have.
+ * @param {string} fen
+ */
+export const lettersOf = fen => [...fen.trim().split(' ')[0].replace(/[^a-z]/gi, '')].sort().join('');
 /** @param {string} letter */
 export const isWhite = letter => letter === letter.toUpperCase();
 /**

@@ -3,6 +3,7 @@
 import {track} from './actions.js';
 import {app, doc, services, PAGES} from './state.js';
 import {entriesOf} from './entries.js';
+import {lettersOf} from './fen.js';
 import {judgedBy, readReview, readView} from './parse_answers.js';
 import {editsTo, fensOf, toText, wordsOf} from './script.js';
 import {moveName} from './words.js';
@@ -73,12 +74,12 @@ function mainLineOf(root) {
  * The men of a study. Those with the same men come one after the other, so that their tables are loaded once.
  * @param {string} text
  */
-const menIn = text => [...wordsOf(text)[1].replace(/[^a-z]/gi, '')].sort().join('');
+const menIn = text => lettersOf(wordsOf(text)[1]);
 /** @param {string} text */
 async function find(text) {
-  await services.tables.loadFor(fensOf(text.split('\n')), services.facts);
-  const {text: facts} = await services.facts.answer('review', text + 'pgn\n', PAGES),
-               view = readView((await services.facts.answer('view root', text, PAGES)).text);
+  const worker = await services.tables.factsFor(fensOf(text.split('\n'))),
+        {text: facts} = await worker.answer('review', text + 'pgn\n', PAGES),
+        view = readView((await worker.answer('view root', text, PAGES)).text);
   if (found.size >= MOST) found.clear();
   found.set(text, {review: judgedBy(readReview(facts), view), mainLine: view && mainLineOf(view.root)});
 }

@@ -46,7 +46,7 @@ const compiled = () => module = module || compile();
 const source = URL.createObjectURL(new Blob([$('workerSource').textContent], {type: 'text/javascript'}));
 const spawn = () => makeCore(() => new Worker(source), compiled), readers = makeReaders(() => new Worker(source));
 
-const store = makeStore();
+const store = makeStore(), LONG = 300;
 services.core = spawn();
 services.facts = spawn();
 services.tables = makeTables({
@@ -55,6 +55,7 @@ services.tables = makeTables({
   spawn,
   readers,
   store,
+  isLong: () => doc().studies.length > LONG,
   report: p => {
     app.progress = p;
     showProgress();

@@ -1,10 +1,11 @@
 // @ts-check
 // Answers that will soon be wanted are requested ahead: the view that a change leads to, those of the neighbours of a
 // node, and what the moves lead to that the user may be about to make.
+import {assumeAccepted} from './assumed.js';
 import {LARGE, keepView, keptView, pause, viewOf} from './answer_cache.js';
 import {insertMoves} from './edits.js';
 import {lastRunTime, repliesFor} from './running.js';
-import {assumeAccepted, editsTo, toText} from './script.js';
+import {editsTo, toText} from './script.js';
 import {app, doc, node, services, study} from './state.js';
 import {holds} from './words.js';
 /** @typedef {import('./types.js').Doc} Doc @typedef {import('./types.js').Change} Change */

@@ -3,8 +3,11 @@
 //
 // Each study is a block of lines, from its position to the next one. Its replies depend on these lines and on what it
 // takes over from the studies before it; they are kept by both. Blocks that are not known are run together, behind
-// lines which give them what they take over.
+// lines which give them what they take over: in their order, or, if their tables are too many to be held at a time, by
+// the tables that they need.
 import {learn} from './answer_cache.js';
+import {acceptedReply} from './assumed.js';
+import {CLASSES} from './core_host.js';
 import {Stopped} from './engine.js';
 import {
   applyReply,
@@ -179,6 +182,50 @@ async function loadsOf(names) {
   return names.filter(name => !lacking.includes(name)).map(name => 'load ' + name);
 }
 /**
+ * Runs studies that were never run, those that need the same tables together, so that the program holds no more than
+ * these: each behind what it takes over if every line before it is accepted. Where that is not so it is run again.
+ * @param {Sent[][]} blocks
+ * @param {(done: number, of: number) => void} report
+ */
+async function runByTables(blocks, report) {
+  const groups = /** @type {Map<string, {block: Sent[], carried: Carried}[]>} */ (new Map());
+  let carried = /** @type {Carried} */ ({aim: null, tags: {}}), done = 0;
+  for (const block of blocks) {
+    const key = services.tables.knownClasses(fensOf(linesOf([block]))).join(' '), list = groups.get(key) || [];
+    if (isFresh(block)) {
+      groups.set(key, list);
+      list.push({block, carried});
+    }
+    carried = carriedAfter(carried, block, block.map(({text}) => acceptedReply(text)));
+  }
+  // Those of the last classes first: their tables are more than the tables of others, which then are there already.
+  const rank = (/** @type {string} */ key) => CLASSES.indexOf(key.slice(key.lastIndexOf(' ') + 1));
+  for (const key of [...groups.keys()].sort((x, y) => rank(y) - rank(x))) {
+    const list = groups.get(key) || [];
+    for (let at = 0; at < list.length; at += AT_A_TIME) {
+      const some = list.slice(at, at + AT_A_TIME);
+      await runApart(key.split(' ').filter(Boolean), some);
+      done += some.length;
+      report(done, blocks.length);
+    }
+  }
+}
+/**
+ * Runs studies that do not follow each other, each behind what it takes over.
+ * @param {string[]} names
+ * @param {{block: Sent[], carried: Carried}[]} some
+ */
+async function runApart(names, some) {
+  const loads = await loadsOf(names),
+        texts = some.flatMap(({block, carried}) => [...before(carried), ...linesOf([block])]);
+  const replies = await repliesTo([...loads, ...texts]);
+  let from = loads.length;
+  for (const {block, carried} of some) {
+    from += before(carried).length;
+    keep(block, replies.slice(from, from += block.length), carried);
+  }
+}
+/**
  * The replies to each line of a script, as studybench gives them.
  * @param {string[]} lines
  * @param {(done: number, of: number) => void} [report]
@@ -190,6 +237,7 @@ export async function repliesFor(lines, report = () => {}) {
     return {sent, replies: (await repliesTo([...loads, ...sent.map(({text}) => text)])).slice(loads.length)};
   }
   const blocks = blocksOf(sent), names = await services.tables.classesOf(fensOf(linesOf(blocks.filter(isFresh))));
+  if (services.tables.isTooMuch(names)) await runByTables(blocks, report);
   let carried = /** @type {Carried} */ ({aim: null, tags: {}});
   const take = (/** @type {Sent[]} */ block, /** @type {string[]} */ own) => {
     replies.push(...own);
@@ -201,8 +249,7 @@ export async function repliesFor(lines, report = () => {}) {
       take(blocks[at++], there);
       continue;
     }
-    const some = nextBlocks(blocks, at),
-          loads = await loadsOf(some.every(isFresh) ? names : await services.tables.classesOf(fensOf(lines))),
+    const some = nextBlocks(blocks, at), loads = await loadsOf(await services.tables.classesOf(fensOf(linesOf(some)))),
           head = [...loads, ...before(carried)],
           all = (await repliesTo([...head, ...linesOf(some)])).slice(head.length);
     let from = 0;

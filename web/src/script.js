@@ -135,19 +135,6 @@ function withRemarks(lines, study) {
   Object.assign(study, headOf(lines.slice(study.head, study.from)));
 }
 
-/**
- * A script as it is if each of its lines is accepted, so that its view can be requested before its replies are there.
- * @param {string[]} lines
- */
-export function assumeAccepted(lines) {
-  const sent = toRun(lines);
-  return readScript(lines, sent, sent.map(({text}) => {
-    const [command, hero = '', goal = '', k = ''] = wordsOf(text);
-    return command === 'stipulate' ? `stipulate ${hero === 'black' ? 'Black' : 'White'} to ${goal}${k && ' in ' + k}`
-                                   : text.trim();
-  }));
-}
-
 /** @typedef {{aim: Aim | null, tags: Record<string, string>}} Carried */
 /**
  * @param {Script} script

@@ -2,13 +2,12 @@
 // Tables: which a script needs, taken from where they are kept, or built in workers of their own.
 //
 // A table is taken only where its SHA-256 is that of the list: any page of file:// can write to the store.
-import {CLASSES} from './core_host.js';
+import {makeClasses} from './classes.js';
 import {DIGESTS} from './digests.js';
 import {Stopped} from './engine.js';
 import {makeRoom} from './room.js';
 import {makeBuilds, readingOrder} from './schedule.js';
 import {reason} from './words.js';
-import {toText} from './script.js';
 import {makeWaiting} from './waiting.js';
 /** @typedef {import('./engine.js').Core} Core */
 /** @typedef {{text: string, done: number, of: number, reading?: boolean}} Progress      `reading`: no table is built */
@@ -18,7 +17,7 @@ import {makeWaiting} from './waiting.js';
  * @param {string} digest
  */
 export const isListed = (name, digest) => DIGESTS[name] !== undefined && DIGESTS[name][1] === digest;
-const SMALL = 1000000, MANY = 64;
+const SMALL = 1000000;
 const STOPPED = 'Stopped. The tables that were built are kept';
 /** @param {string} name */
 const sizeOf = name => (DIGESTS[name] ? DIGESTS[name][0] : 5000000);
@@ -29,52 +28,25 @@ const sizeOf = name => (DIGESTS[name] ? DIGESTS[name][0] : 5000000);
  */
 /**
  * @param {{core: Core, facts: Core, spawn: () => Core, readers: Readers, store: Store,
- *   report: (p: Progress | null) => void}} parts
+ *   report: (p: Progress | null) => void, isLong?: () => boolean}} parts      `isLong`: the document itself takes much
  */
-export function makeTables({core, facts, spawn, readers, store, report}) {
-  const known = /** @type {Map<string, string[]>} */ (new Map()), groups = /** @type {typeof known} */ (new Map());
-  const right =
-    /** @type {Map<string, Blob>} */ (new Map());  // compared with the list in this visit: a blob never changes
+export function makeTables({core, facts, spawn, readers, store, report, isLong = () => false}) {
+  const {classesOf, knownClasses} = makeClasses(core),
+                    right =
+                      /** @type {Map<string, Blob>} */ (
+                        new Map());  // compared with the list in this visit: a blob never changes
   let builders = /** @type {Core[]} */ ([]), stops = 0, kept = true;
 
-  /** @param {string[]} fens */
-  async function request(fens) {
-    const {text} = await core.answer('tables', toText(fens.map(fen => 'position ' + fen)), 1);
-    return text.split(/\s+/).filter(word => DIGESTS[word] !== undefined);
-  }
-  /**
-   * The classes that positions need, in the order in which to build them. Each position is requested and kept by
-   * itself: one that is refused needs none, though another of the same men may. Of many those that are not known are
-   * requested together, since only all of them are wanted then.
-   * @param {string[]} fens
-   * @returns {Promise<string[]>}
-   */
-  async function classesOf(fens) {
-    const all = [...new Set(fens)], many = all.length > MANY,
-          fresh = all.filter(fen => !known.has(fen) && !(many && groups.has(fen)));
-    if (fresh.length > MANY) {
-      const names = await request(fresh);
-      for (const fen of fresh) groups.set(fen, names);
-    } else await Promise.all(fresh.map(async fen => known.set(fen, await request([fen]))));
-    return knownClasses(fens);
-  }
-  /**
-   * The classes that positions need, as far as they were requested before.
-   * @param {string[]} fens
-   */
-  function knownClasses(fens) {
-    const lists = new Set(fens.map(fen => known.get(fen) || (fens.length > MANY && groups.get(fen)) || [])),
-          all = new Set([...lists].flat());
-    return CLASSES.filter(name => all.has(name));
-  }
   const fetched = /** @type {Map<string, Promise<Uint8Array | null>>} */ (new Map());
   /**
-   * Tables that will be wanted are read, and compared with the list, while the program starts.
+   * Tables that will be wanted are read, and compared with the list, while the program starts: not those of a long
+   * script, which the program holds some at a time.
    * @param {string[]} names
    */
   function fetchAhead(names) {
-    for (const name of readingOrder(names.filter(name => DIGESTS[name]), sizeOf, SMALL))
-      fetched.set(name, bytesOf(name));
+    if (!isTooMuch(names))
+      for (const name of readingOrder(names.filter(name => DIGESTS[name]), sizeOf, SMALL))
+        fetched.set(name, bytesOf(name));
     readers.start();
   }
   /**
@@ -87,17 +59,17 @@ export function makeTables({core, facts, spawn, readers, store, report}) {
     return bytes || bytesOf(name);
   }
   /**
-   * A kept table's bytes, if it is right.
+   * A kept table's bytes, if it is right; none where it is only to be compared.
    * @param {string} name
    */
-  async function bytesOf(name) {
+  async function bytesOf(name, wanted = true) {
     const known = right.get(name);
     if (known) {
-      const file = await readers.read(known, false).catch(() => null);
+      const file = await readers.read(known, {wanted, digested: false}).catch(() => null);
       if (file) return file.bytes;
       right.delete(name);
     }
-    const blob = await store.get(name), file = blob ? await readers.read(blob).catch(() => null) : null;
+    const blob = await store.get(name), file = blob ? await readers.read(blob, {wanted}).catch(() => null) : null;
     if (!blob || !file) return null;
     if (!isListed(name, file.digest)) {
       await store.remove(name);
@@ -129,7 +101,13 @@ export function makeTables({core, facts, spawn, readers, store, report}) {
     if (bytes && !into.has(name)) await into.load(name, bytes);
     return bytes !== null;
   }
-  const room = makeRoom([core, facts], sizeOf, one => !one.waiting() && !(loading.get(one) || new Map()).size);
+  const isIdle = (/** @type {Core} */ one) => !one.waiting() && !(loading.get(one) || new Map()).size,
+        room = makeRoom([core, facts], sizeOf, isIdle, isLong);
+  /**
+   * Whether these tables are more than one worker is to hold.
+   * @param {string[]} names
+   */
+  const isTooMuch = names => room.isFull(names);
   /** @type {WeakMap<Core, string[]>} */
   const lately = new WeakMap();
   /**
@@ -160,14 +138,33 @@ export function makeTables({core, facts, spawn, readers, store, report}) {
    */
   const loadFor = async (fens, into = core) => load(await classesOf(fens), into);
   /**
+   * The worker that answers for the facts of positions, with their tables: that of moves where another one beside it
+   * would hold too much.
+   * @param {string[]} fens
+   */
+  async function factsFor(fens) {
+    const names = await classesOf(fens), into = room.fits(names, facts) || !names.every(core.has) ? facts : core;
+    await load(names, into);
+    return into;
+  }
+  /**
    * The tables of these positions that are not there. Those that were not compared with the list yet are, and are in
-   * the core then.
+   * the core then, if it has room for all.
    * @param {string[]} fens
    */
   async function lacking(fens) {
-    const missing = await load((await classesOf(fens)).filter(name => !right.has(name) && !core.has(name)));
+    const names = (await classesOf(fens)).filter(name => !right.has(name) && !core.has(name));
+    const missing = isTooMuch(names) ? await notKept(names) : await load(names);
     fetched.clear();
     return missing;
+  }
+  /**
+   * Those of these tables that are not kept, each compared with the list.
+   * @param {string[]} names
+   */
+  async function notKept(names) {
+    const there = await Promise.all(names.map(name => bytesOf(name, false)));
+    return names.filter((_, i) => !there[i]);
   }
   /**
    * Afterwards all tables of these positions are there. What is there already is not waited for, whatever else is being
@@ -233,17 +230,17 @@ export function makeTables({core, facts, spawn, readers, store, report}) {
       file => ({file, name: (/K[QRBNP]*K[QRBNP]*(?=[^A-Z]*$)/.exec(file.name.replace(/\.dtm$/i, '')) || [''])[0]}));
     for (const {file, name} of named)
       if (!DIGESTS[name]) bad.push(`${file.name}: the name of a table is KQK.dtm, KRKP.dtm and so on`);
-    const tables = named.filter(({name}) => DIGESTS[name]),
-          read = /** @type {Promise<import('./file_readers.js').Read | null>[]} */ ([]);
+    const tables = named.filter(({name}) => DIGESTS[name]), read = /** @type {Promise<string>[]} */ ([]);
     for (const [i, {file, name}] of tables.entries()) {
-      for (const {file} of tables.slice(read.length, i + 3)) read.push(readers.read(file).catch(() => null));
-      const found = await read[i];
-      read[i] = Promise.resolve(null);
-      if (!found || !isListed(name, found.digest)) {
+      for (const {file} of tables.slice(read.length, i + 3)) read.push(readers.digest(file).catch(() => ''));
+      if (!isListed(name, await read[i])) {
         bad.push(`${file.name} is not the table ${name}: it is damaged, or made by something else. Nothing was taken`);
         continue;
       }
-      if (!await store.put(name, new Blob([found.bytes]))) kept = false;
+      if (!await store.put(name, file)) {
+        kept = false;
+        await store.put(name, new Blob([(await readers.read(file, {digested: false})).bytes]));
+      }
       taken.push(name);
     }
     return {taken, bad, kept};
@@ -254,8 +251,8 @@ export function makeTables({core, facts, spawn, readers, store, report}) {
    * @param {Uint8Array} bytes
    */
   async function keep(name, bytes) {
-    const blob = new Blob([bytes]), {digest} = await readers.read(blob);
-    if (isListed(name, digest) && !await store.put(name, blob)) kept = false;
+    const blob = new Blob([bytes]);
+    if (isListed(name, await readers.digest(blob)) && !await store.put(name, blob)) kept = false;
   }
   return {
     classesOf,
@@ -263,6 +260,8 @@ export function makeTables({core, facts, spawn, readers, store, report}) {
     fetchAhead,
     load,
     loadFor,
+    factsFor,
+    isTooMuch,
     lacking,
     ready,
     estimate: waiting.estimate,

@@ -1,7 +1,8 @@
 // @ts-check
 // A study before the program has read it: its moves as its lines have them, without marks, values or boards.
 import {isCutLine} from './left_out.js';
-import {isEdit, assumeAccepted, wordsOf} from './script.js';
+import {assumeAccepted} from './assumed.js';
+import {isEdit, wordsOf} from './script.js';
 /** @typedef {{path: string, san: string, children: Bare[]}} Bare      a move of the tree; the root has none */
 
 /**

@@ -4,8 +4,8 @@
 //   {id, kind: 'load', name, bytes}                   a table's file (an ArrayBuffer, transferred)
 //   {id, kind: 'drop', name}
 //   {id, kind: 'answer', request, script, pages}     -> {bytes, ended, saved: [[name, bytes] ..]}
-//   {id, kind: 'read', blob, digested}               -> {bytes, digest}: a file and, where wanted, its SHA-256,
-//                                                    without a core
+//   {id, kind: 'read', blob, wanted, digested}       -> {bytes, digest}: a file and its SHA-256, each where it is
+//                                                    wanted, without a core
 // Each answer has {id, ms, memory}, or {id, failed} after a trap: then the page ends this worker.
 import {makeCore} from './core_host.js';
 
@@ -23,8 +23,7 @@ function act(message) {
   if (!core) throw new Error('no core yet');
   if (message.kind === 'load') {
     core.load(message.name, new Uint8Array(message.bytes));
-    // The core has a copy: this one's memory is given back now, and not once the worker happens to look for it.
-    if (message.bytes.transfer) message.bytes.transfer(0);
+    giveBack(message.bytes);  // the core has a copy
     return {};
   }
   if (message.kind === 'drop') {
@@ -34,18 +33,24 @@ function act(message) {
   return core.answer(message.request, message.script, message.pages);
 }
 /**
- * @param {Blob} blob
- * @param {boolean} digested
+ * Gives memory back now, and not once the worker happens to look for it.
+ * @param {any} buffer
  */
-async function read(blob, digested) {
-  const bytes = new Uint8Array(await blob.arrayBuffer()),
-        digest = digested ? new Uint8Array(await crypto.subtle.digest('SHA-256', bytes)) : [];
-  return {bytes, digest: [...digest].map(b => b.toString(16).padStart(2, '0')).join('')};
+const giveBack = buffer => buffer.transfer && buffer.transfer(0);
+/** @param {{blob: Blob, wanted: boolean, digested: boolean}} task */
+async function read({blob, wanted, digested}) {
+  const buffer = await blob.arrayBuffer(),
+        digest = digested ? new Uint8Array(await crypto.subtle.digest('SHA-256', buffer)) : [];
+  if (!wanted) giveBack(buffer);
+  return {
+    bytes: wanted ? new Uint8Array(buffer) : new Uint8Array(0),
+    digest: [...digest].map(b => b.toString(16).padStart(2, '0')).join('')
+  };
 }
 self.onmessage = async e => {
   const began = performance.now(), id = e.data.id;
   try {
-    const done = e.data.kind === 'read' ? await read(e.data.blob, e.data.digested) : act(e.data);
+    const done = e.data.kind === 'read' ? await read(e.data) : act(e.data);
     const moved =
       [done.bytes, ...(done.saved || []).map((/** @type {any} */ s) => s[1])].filter(Boolean).map(b => b.buffer);
     /** @type {any} */ (self).postMessage(

@@ -4,7 +4,8 @@ import test from 'node:test';
 import assert from 'node:assert/strict';
 import {linkNote, linkTo, scriptIn} from '../src/links.js';
 import {lookOf} from '../src/looks.js';
-import {assumeAccepted, toText} from '../src/script.js';
+import {assumeAccepted} from '../src/assumed.js';
+import {toText} from '../src/script.js';
 import {aloneLines} from '../src/study_edits.js';
 
 const FEN = '8/8/8/6k1/8/8/1P5K/8 w - - 0 1';

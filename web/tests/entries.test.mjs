@@ -7,7 +7,8 @@ import {byCause, entriesOf, nameOf, newlyRefused, numbersOf, studyName} from '..
 import {hasSolution, stampOf} from '../src/stamps.js';
 import {countsOf, csvOf, isOfKind, menuText} from '../src/entry_list.js';
 import {judgedBy, readReview} from '../src/parse_answers.js';
-import {assumeAccepted, readScript} from '../src/script.js';
+import {assumeAccepted} from '../src/assumed.js';
+import {readScript} from '../src/script.js';
 import {copyStudy, dropStudy, moveStudy} from '../src/study_edits.js';
 import {insertions, isTurn, legalPart, turnedAim, turnedFen, turnedSan, turnedTree} from '../src/turning.js';
 

@@ -16,7 +16,8 @@ import {
 import {leftOut, whyLeftOut} from '../src/left_out.js';
 import {copyStudy, dropStudy} from '../src/study_edits.js';
 import {savedGames} from '../src/saved_games.js';
-import {readScript, assumeAccepted} from '../src/script.js';
+import {assumeAccepted} from '../src/assumed.js';
+import {readScript} from '../src/script.js';
 import {gameFaults} from '../src/wording.js';
 
 const LINES = [
@@ -62,8 +63,8 @@ test('games that were left out, and why', () => {
   assert.equal(withoutAim(LINES), 1);
   assert.equal(importNote(LINES), '5 games, 2 studies. Left out: 3 games, each with its reason in the list.');
   assert.equal(importNote([...LINES.filter(line => !/^#! games/.test(line)), '#! games 3, studies 0']),
-    `3 games, 0 studies. Left out: game 2, line 14: 7 men, never four or fewer: ${men}; game 3, line 31, column 17: Kb6: ${legal}; ` +
-      `game 4, line 40: ${aim}.`);
+    `3 games, 0 studies. Left out: game 2, line 14: 7 men, never four or fewer: ${men}; ` +
+      `game 3, line 31, column 17: Kb6: ${legal}; game 4, line 40: ${aim}.`);
   assert.equal(
     importNote(['#! game 1, line 1: stipulated by its result', '', '#! games 1, studies 1']), '1 game, 1 study.');
   const doubted = ['#! game 1, line 1: stipulated by its comment', '#! the stipulation differs from its tag Result'];

@@ -9,7 +9,7 @@ import {countsOf, findEntries, isOfKind, sortEntries} from '../src/entry_list.js
 import {faultKind} from '../src/fault_kinds.js';
 import {judgedBy, readReview, readView} from '../src/parse_answers.js';
 import {positionsReached, reachedText, samePositions, sameText} from '../src/same_positions.js';
-import {assumeAccepted} from '../src/script.js';
+import {assumeAccepted} from '../src/assumed.js';
 import {faultyStamp, wrongText} from '../src/stamps.js';
 import {bareTree} from '../src/unmarked.js';
 

@@ -7,7 +7,7 @@ import {viewOf} from '../src/answer_cache.js';
 import {readView} from '../src/parse_answers.js';
 import {cancelPrefetch, prefetch, prefetchView} from '../src/prefetch.js';
 import {repliesFor} from '../src/running.js';
-import {assumeAccepted} from '../src/script.js';
+import {assumeAccepted} from '../src/assumed.js';
 import {app, services} from '../src/state.js';
 
 const FEN = '8/8/8/6k1/8/8/1P5K/8 w - - 0 1',
@@ -33,7 +33,13 @@ function begin() {
   Object.assign(services, {
     core: made(requests, 'core'),
     facts: made(requests, 'facts'),
-    tables: {knownClasses: () => ['KPK'], classesOf: async () => ['KPK'], load: async () => [], loadFor: async () => []}
+    tables: {
+      knownClasses: () => ['KPK'],
+      classesOf: async () => ['KPK'],
+      load: async () => [],
+      loadFor: async () => [],
+      isTooMuch: () => false
+    }
   });
   Object.assign(app, {
     history: {now: {...assumeAccepted(lines), at: 0, path: 'root', name: ''}, past: [], future: []},

@@ -40,7 +40,7 @@ function begin() {
         return {text: run(lines).map(reply => reply + '\n').join(''), ended: 'done'};
       }
     },
-    tables: {classesOf: async () => ['KK'], load: async () => []}
+    tables: {classesOf: async () => ['KK'], knownClasses: () => ['KK'], load: async () => [], isTooMuch: () => false}
   });
 }
 /** Each line's reply by one run of the whole script. */
@@ -75,16 +75,46 @@ test('a study that takes over what changed is run too', async () => {
     for (const now of [lines, lines.map(line => (line === from ? to : line)), lines])
       assert.deepEqual((await repliesFor(now)).replies, whole(now), `${from} as ${to}`);
 });
-test('any script has the replies of one run', async () => {
+/** Tables of which the program holds one at a time: a position needs that of its number. What was loaded is noted. */
+function oneAtATime() {
+  const loaded = [], classOf = fen => ['KK', 'KQK', 'KRK'][Number(fen.split(' ')[5]) % 3];
+  const knownClasses = fens => [...new Set(fens.map(classOf))];
+  services.tables = {
+    knownClasses,
+    classesOf: async fens => knownClasses(fens),
+    isTooMuch: names => names.length > 1,
+    load: async names => {
+      loaded.push(names.join(' '));
+      return [];
+    }
+  };
+  return loaded;
+}
+test('studies whose tables are too many to be held at a time are run by their tables', async () => {
   begin();
+  const loaded = oneAtATime(), seen = [];
+  const lines =
+    [...Array(270).keys()].flatMap(n => study(n + 1000, ...(n % 5 ? [] : ['stipulate white win']), `tag Event ${n}`));
+  assert.deepEqual((await repliesFor(lines, (done, of) => seen.push([done, of]))).replies, whole(lines));
+  assert.deepEqual(loaded, ['KRK', 'KRK', 'KQK', 'KQK', 'KK', 'KK']);
+  assert.deepEqual(seen.map(([done]) => done), [50, 90, 140, 180, 230, 270]);
+  const next = lines.map(line => (line === 'tag Event 7' ? 'tag Event Seven' : line));
+  assert.deepEqual((await repliesFor(next)).replies, whole(next));
+  assert.equal(loaded.length, 7);
+});
+test('any script has the replies of one run', async () => {
   let seed = 5;
   const random = n => (seed = (seed * 1103515245 + 12345) % 2147483648) % n;
   const words = [
     'stipulate white win', 'stipulate black draw', 'tag Event A', 'tag Event B', 'tag White C', 'tag White bad',
-    'insert root Kd1', 'pgn', '# a remark', '', `position ${FEN}`, 'position bad', 'mark root'
+    'insert root Kd1', 'pgn', '# a remark', '', `position ${FEN}`, `position ${FEN.replace('0 1', '0 2')}`,
+    'position bad 1 2 3 4 5', 'mark root'
   ];
-  for (let i = 0; i < 400; i++) {
+  for (let i = 0; i < 800; i++) {
+    if (i % 400 === 0) begin();
+    if (i === 400) oneAtATime();
     const lines = [...Array(random(30)).keys()].map(() => words[random(words.length)]);
+    if (i >= 400) lines.push(`# number ${i}`);
     const {sent, replies} = await repliesFor(lines);
     assert.deepEqual(replies, whole(lines), toText(sent.map(({text}) => text)));
   }

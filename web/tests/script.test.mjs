@@ -6,6 +6,7 @@ import {readFileSync} from 'node:fs';
 import * as edits from '../src/edits.js';
 import {advance, begin, redo, undo} from '../src/history.js';
 import {readView} from '../src/parse_answers.js';
+import {assumeAccepted} from '../src/assumed.js';
 import {
   editsTo,
   fensOf,
@@ -18,7 +19,6 @@ import {
   reportedLines,
   repliesOf,
   savedScript,
-  assumeAccepted,
   toRun
 } from '../src/script.js';
 import {verdictsBefore} from '../src/stamps.js';

@@ -1,28 +1,42 @@
 // Tables: which positions need them, over a made-up core; and nobody waits for a table that he does not need.
 import test from 'node:test';
 import assert from 'node:assert/strict';
+import {CLASSES} from '../src/core_host.js';
+import {DIGESTS} from '../src/digests.js';
 import {makeTables} from '../src/tables.js';
 
 if (!globalThis.navigator) globalThis.navigator = {hardwareConcurrency: 2};
 const RIGHT = '8/8/8/8/8/1k6/7Q/K7 w - - 0 1', REFUSED = '8/8/8/8/8/1k6/1Q6/K7 w - - 0 1',
       PAWN = '8/8/8/6k1/8/8/1P5K/8 w - - 0 1';
-/** A core that knows two positions; each other one is refused. Builders end when they are stopped. */
-function made(kept = []) {
-  const requests = [], loaded = new Set(), reports = [],
-        classes = {[RIGHT]: 'KK KQK', [PAWN]: 'KK KQK KRK KBK KNK KPK'};
-  const core = {
-    answer: async (request, script) => {
-      requests.push(script);
-      const all = script.trim().split('\n').flatMap(line => (classes[line.slice(9)] || '').split(' '));
-      return {text: [...new Set(all)].reverse().join('\n'), ended: 'done'};
-    },
-    has: name => loaded.has(name),
-    held: () => [...loaded],
-    waiting: () => 0,
-    load: async name => {
-      loaded.add(name);
-    }
+const NEEDED = {
+  [RIGHT]: 'KK KQK',
+  [PAWN]: 'KK KQK KRK KBK KNK KPK'
+};
+/**
+ * Workers that know two positions; each other one is refused. Builders end when they are stopped. Each kept table is
+ * right.
+ */
+function made(kept = [], classes = NEEDED, isLong = false) {
+  const requests = [], reports = [], reads = [], stored = new Map();
+  const worker = () => {
+    const loaded = new Set();
+    return {
+      loaded,
+      answer: async (request, script) => {
+        requests.push(script);
+        const all = script.trim().split('\n').flatMap(line => (classes[line.slice(9)] || '').split(' '));
+        return {text: [...new Set(all)].reverse().join('\n'), ended: 'done'};
+      },
+      has: name => loaded.has(name),
+      held: () => [...loaded],
+      waiting: () => 0,
+      load: async name => {
+        loaded.add(name);
+      },
+      end: () => loaded.clear()
+    };
   };
+  const core = worker(), facts = worker(), {loaded} = core;
   const spawn = () => {
     let end = () => {};
     return {
@@ -37,12 +51,20 @@ function made(kept = []) {
   };
   const store = {
     get: async name => (kept.includes(name) ? name : undefined),
-    put: async () => true,
+    put: async (name, blob) => {
+      stored.set(name, blob);
+      return true;
+    },
     remove: async () => {}
   };
-  const readers = {start() {}, read: async () => ({bytes: new Uint8Array(1), digest: ''})};
-  const tables = makeTables({core, facts: core, spawn, readers, store, report: p => reports.push(p)});
-  return {tables, requests, loaded, reports};
+  const read = async (blob, what = {}) => {
+    const name = blob.name ? blob.name.replace('.dtm', '') : blob;
+    reads.push({name, ...what});
+    return {bytes: new Uint8Array(1), digest: blob.bad ? '' : DIGESTS[name][1]};
+  };
+  const readers = {start() {}, read, digest: async blob => (await read(blob, {wanted: false})).digest};
+  const tables = makeTables({core, facts, spawn, readers, store, report: p => reports.push(p), isLong: () => isLong});
+  return {tables, requests, loaded, reports, reads, stored, core, facts};
 }
 test('a refused position of the same men takes no classes from a right one, in either order', async () => {
   for (const order of [[RIGHT, REFUSED], [REFUSED, RIGHT]]) {
@@ -79,4 +101,32 @@ test('while tables are built, a position whose tables are there is ready', async
   await Promise.all([first, ended]);
   await pause();
   assert.equal(reports[reports.length - 1], null);
+});
+test('tables that are too many to be held at a time are compared with the list, and not loaded', async () => {
+  const {tables, loaded, reads} = made(CLASSES, {[PAWN]: CLASSES.join(' ')});
+  assert.deepEqual(await tables.lacking([PAWN]), []);
+  assert.deepEqual([loaded.size, reads.length, reads.every(({wanted}) => wanted === false)], [0, 36, true]);
+  assert.deepEqual(await tables.lacking([PAWN]), []);
+  assert.equal(reads.length, 36);
+  tables.fetchAhead(CLASSES);
+  assert.equal(reads.length, 36);
+  const some = made(CLASSES.slice(1), {[PAWN]: CLASSES.join(' ')});
+  assert.deepEqual(await some.tables.lacking([PAWN]), ['KK']);
+});
+test('beside a long script one worker has the tables of a position, else both', async () => {
+  const names = 'KPKP KNKP KBKP KRKP KQKP', needed = {[PAWN]: names, [RIGHT]: 'KQK'};
+  for (const isLong of [true, false]) {
+    const {tables, core, facts} = made(CLASSES, needed, isLong);
+    await tables.loadFor([PAWN]);
+    assert.deepEqual(core.held().sort(), names.split(' ').sort());
+    assert.equal(await tables.factsFor([PAWN]), isLong ? core : facts);
+    assert.deepEqual([await tables.factsFor([RIGHT]), facts.held().includes('KQK')], [facts, true]);
+  }
+});
+test('a file that is opened is stored as it is, and read only for its digest', async () => {
+  const {tables, reads, stored} = made();
+  const files = [{name: 'KK.dtm'}, {name: 'KQK.dtm', bad: true}, {name: 'notes.txt'}];
+  const {taken, bad, kept} = await tables.open(files);
+  assert.deepEqual([taken, bad.length, kept, [...stored]], [['KK'], 2, true, [['KK', files[0]]]]);
+  assert.ok(reads.every(({wanted}) => wanted === false));
 });
