@@ -3,6 +3,7 @@
 // that says why.
 import {cutIn, leftOut, whyLeftOut} from './left_out.js';
 import {cutAt, ownRemark, remarkOf, remarksOfKind} from './remarks.js';
+import {tailIn} from './tails.js';
 import {counted} from './words.js';
 /**
  * Whether a text is a PGN: its first line is a tag, or some line is the tag of a position.
@@ -127,23 +128,8 @@ export function documentOf(lines) {
  * bad move stands there in the file; the language of its letters, if that is not English; of a game with more than four
  * men, which tail it is.
  * @typedef {{game: number, line: number, source: string, against: string[], letters: string,
- *   cut: import('./left_out.js').Cut | null, tail: Tail | null}} Origin
+ *   cut: import('./left_out.js').Cut | null, tail: import('./tails.js').Tail | null}} Origin
  */
-/**
- * A part of a game with more than four men that begins where four are left: its number among these, after which move of
- * the game it begins, and whether the solution leads elsewhere.
- * @typedef {{game: number, number: number, after: string, beside: boolean}} Tail
- */
-const TAIL = /^(\d+) of \d+ of game (\d+), node [^,]*, after ([^,]*)(, beside the solution)?/;
-/**
- * The tail of which a remark is the heading.
- * @param {string} row
- * @returns {Tail | null}
- */
-export function tailIn(row) {
-  const {word, rest} = ownRemark(row), found = word === 'tail' && TAIL.exec(rest);
-  return found ? {number: Number(found[1]), game: Number(found[2]), after: found[3], beside: Boolean(found[4])} : null;
-}
 /** What the page writes where the user states another stipulation. */
 const BY_HAND = 'stipulated by hand', HAND = 'hand';
 /**

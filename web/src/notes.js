@@ -227,3 +227,21 @@ export const notesMoved = (lines, study, to, marked = squares => squares) => lin
                 text = said.replace(/(\[%c[as]l)( [^\]]*)/g, (_, mark, squares) => mark + marked(squares));
   return `${line.slice(0, line.length - rest.length)}${moves === '-' ? moves : to(moves)}: ${text}`;
 });
+/**
+ * A move without what only some notations say, and without signs of check.
+ * @param {string} move
+ */
+const bare = move => looseMove(plain(move));
+/**
+ * What a game says beside its moves, as a tail has it: its moves begin behind those of the way to it, and what is said
+ * elsewhere is left out.
+ * @param {string[]} remarks
+ * @param {string[]} way
+ */
+export const saidInTail = (remarks, way) => remarks.flatMap(line => {
+  const [, name, text] = /^#! (\S+) (.*)$/.exec(line) || ['', '', ''];
+  if (!AT_MOVES.has(name)) return [line];
+  const [moves, said] = cutAt(text, ': '), path = moves === '-' ? [] : moves.split(' ');
+  if (way.some((move, i) => bare(move) !== bare(path[i] || ''))) return [];
+  return [`#! ${name} ${path.slice(way.length).join(' ') || '-'}: ${said}`];
+});

@@ -7,7 +7,7 @@ import {app, doc, services, say} from './state.js';
 import {decode, documentOf, plainBytes, importNote, notKept, stillGone, withoutAim} from './imported.js';
 import {freshId} from './keep.js';
 import {lookOf} from './looks.js';
-import {gamesIn, namesOf, remarksOf} from './notes.js';
+import {gamesIn, namesOf, remarksOf, saidInTail} from './notes.js';
 import {replace} from './history.js';
 import {foreignGames, foreignText, inUtf8} from './code_pages.js';
 import {cutOf, textRemarks} from './cut_game.js';
@@ -16,6 +16,7 @@ import {refuseLong} from './limits.js';
 import {remarkOf} from './remarks.js';
 import {savedGames} from './saved_games.js';
 import {isCommand, isSilent, linesOf} from './script.js';
+import {tailIn, wayTo} from './tails.js';
 import {setUpText} from './setup.js';
 import {aimText, counted, endedReason, readAim} from './words.js';
 
@@ -99,13 +100,14 @@ const lettersIn = raw => (/** @type {number} */ count) => {
  */
 export function withRemarks(lines, bytes, starts = []) {
   const raw = rawLines(bytes), games = gamesIn(raw.map(decode).join('\n'), starts);
-  let game = 0;
-  return lines.flatMap(line => {
-    const remark = remarkOf(line), out = leftOutBy(line);
-    if (remark && remark.game) game = remark.game;
+  let game = 0, first = 0, way = /** @type {string[]} */ ([]);
+  return lines.flatMap((line, at) => {
+    const remark = remarkOf(line), out = leftOutBy(line), tail = tailIn(line);
+    if (remark && remark.game) [game, first, way] = [remark.game, at, []];
+    if (tail) way = wayTo(lines.slice(first, at), tail.node);
     const source = games[game - 1];
     if (!source) return [line];
-    if (line.startsWith('position ')) return [...remarksOf(source), line];
+    if (line.startsWith('position ')) return [...saidInTail(remarksOf(source), way), line];
     if (!out) return stillGone(line);
     const cut =
       canBeCut(out) && cutOf(source, starts[game - 1], out, lettersIn(raw[out.line - 1] || bytes.subarray(0, 0)));
