@@ -99,25 +99,32 @@ export function makeCore(module, most = 2 ** 32 - PAGE) {
     return at;
   }
   /**
-   * Puts the file of a class after the others. It is the only time that a table is copied.
+   * Puts a copy of the file of a class after the others.
    * @param {string} name
    * @param {Uint8Array} bytes
    */
   function load(name, bytes) {
     if (CLASSES.indexOf(name) < 0) throw new Error('no class ' + name);
-    drop(name);
+    if (spans.some(span => span.name === name)) keepOnly(spans.map(span => span.name).filter(other => other !== name));
     top = filled;
     const at = put(bytes);
     spans.push({name, start: at - base, length: bytes.length});
     filled = even(top);
   }
   /**
-   * The file is no longer listed.
-   * @param {string} name
+   * Only these files stay, one after another: what was between them is used again.
+   * @param {string[]} names
    */
-  function drop(name) {
-    const at = spans.findIndex(s => s.name === name);
-    if (at >= 0) spans.splice(at, 1);
+  function keepOnly(names) {
+    const kept = spans.filter(({name}) => names.includes(name)), all = new Uint8Array(memory.buffer);
+    filled = base;
+    for (const span of kept) {
+      const from = base + span.start;
+      all.copyWithin(filled, from, from + span.length);
+      span.start = filled - base;
+      filled = even(filled + span.length);
+    }
+    spans.splice(0, spans.length, ...kept);
   }
   const directory = () => new Uint8Array(
     BigUint64Array.from(spans.flatMap(s => [CLASSES.indexOf(s.name), s.start, s.length]), BigInt).buffer);
@@ -159,5 +166,5 @@ export function makeCore(module, most = 2 ** 32 - PAGE) {
       saved: [...saved]
     };
   }
-  return {load, drop, answer, size: () => memory.buffer.byteLength};
+  return {load, keepOnly, answer, size: () => memory.buffer.byteLength};
 }

@@ -15,7 +15,7 @@ export class Stopped extends Error {}
  * @property {(request: string, script: string | Uint8Array, pages: number) => Promise<RawAnswer>} ask
  * @property {(name: string, bytes: Uint8Array) => Promise<any>} load      the bytes are transferred
  * @property {(name: string) => boolean} has
- * @property {(name: string) => void} drop
+ * @property {(names: string[]) => void} keepOnly      the other tables are dropped
  * @property {() => string[]} held      the tables that are loaded
  * @property {() => number} waiting      how many questions are not answered yet
  * @property {(why?: Error) => void} end
@@ -73,6 +73,7 @@ export function makeCore(spawn, compiled) {
   function end(why = new Stopped('stopped')) {
     if (worker) worker.terminate();
     worker = null;
+    last.memory = 0;
     loaded.clear();
     const left = [...waiting.values()];
     waiting.clear();
@@ -106,8 +107,10 @@ export function makeCore(spawn, compiled) {
       loaded.add(name);
       return ready({kind: 'load', name, bytes: bytes.buffer}, [bytes.buffer]);
     },
-    drop(name) {
-      if (loaded.delete(name)) ready({kind: 'drop', name}).catch(() => {});
+    keepOnly(names) {
+      for (const name of loaded)
+        if (!names.includes(name)) loaded.delete(name);
+      if (worker) ready({kind: 'keep', names}).catch(() => {});
     },
     has: name => loaded.has(name),
     held: () => [...loaded],

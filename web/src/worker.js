@@ -2,7 +2,7 @@
 // The worker around one core: messages in, one answer each, in their order.
 //   {id, kind: 'start', module}                      a compiled module
 //   {id, kind: 'load', name, bytes}                   a table's file (an ArrayBuffer, transferred)
-//   {id, kind: 'drop', name}
+//   {id, kind: 'keep', names}                         the other tables are dropped
 //   {id, kind: 'answer', request, script, pages}     -> {bytes, ended, saved: [[name, bytes] ..]}
 //   {id, kind: 'read', blob, wanted, digested}       -> {bytes, digest}: a file and its SHA-256, each where it is
 //                                                    wanted, without a core
@@ -26,8 +26,8 @@ function act(message) {
     giveBack(message.bytes);  // the core has a copy
     return {};
   }
-  if (message.kind === 'drop') {
-    core.drop(message.name);
+  if (message.kind === 'keep') {
+    core.keepOnly(message.names);
     return {};
   }
   return core.answer(message.request, message.script, message.pages);

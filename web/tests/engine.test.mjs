@@ -52,6 +52,17 @@ test('a trap ends the worker, with the tables in it; the next question begins an
   assert.equal((await core.answer('again', '', 1)).text, 'again');
   assert.equal(workers.length, 2);
 });
+test('tables that nobody needs are dropped, and a worker that has ended has no memory', async () => {
+  const {core, workers} = begun();
+  for (const name of ['KK', 'KQK', 'KRK']) await core.load(name, new Uint8Array(8));
+  core.keepOnly(['KQK', 'KBK']);
+  assert.deepEqual([core.held(), core.last.memory], [['KQK'], 2]);
+  await core.answer('a', '', 1);
+  assert.deepEqual(workers[0].seen, ['start', 'load', 'load', 'load', 'keep', 'answer']);
+  core.end();
+  core.keepOnly([]);
+  assert.deepEqual([core.held(), core.last.memory, workers.length], [[], 0, 1]);
+});
 test('a stop is reported as a stop', async () => {
   const {core} = begun();
   await core.answer('a', '', 1);

@@ -33,6 +33,8 @@ function made(kept = [], classes = NEEDED, isLong = false) {
       load: async name => {
         loaded.add(name);
       },
+      keepOnly: names => [...loaded].filter(name => !names.includes(name)).forEach(name => loaded.delete(name)),
+      last: {memory: 0},
       end: () => loaded.clear()
     };
   };
@@ -114,7 +116,7 @@ test('tables that are too many to be held at a time are compared with the list, 
   assert.deepEqual(await some.tables.lacking([PAWN]), ['KK']);
 });
 test('beside a long script one worker has the tables of a position, else both', async () => {
-  const names = 'KPKP KNKP KBKP KRKP KQKP', needed = {[PAWN]: names, [RIGHT]: 'KQK'};
+  const names = 'KPPK KPKP KNKP KBKP KRKP KQKP', needed = {[PAWN]: names, [RIGHT]: 'KQK'};
   for (const isLong of [true, false]) {
     const {tables, core, facts} = made(CLASSES, needed, isLong);
     await tables.loadFor([PAWN]);
