@@ -33,10 +33,15 @@ function act(message) {
   return core.answer(message.request, message.script, message.pages);
 }
 /**
- * Gives memory back now, and not once the worker happens to look for it.
- * @param {any} buffer
+ * Gives memory back now, and not once the worker happens to look for it: a message that nobody receives takes it along.
+ * @param {ArrayBuffer} buffer
  */
-const giveBack = buffer => buffer.transfer && buffer.transfer(0);
+function giveBack(buffer) {
+  const {port1, port2} = new MessageChannel();
+  port1.postMessage(null, [buffer]);
+  port1.close();
+  port2.close();
+}
 /** @param {{blob: Blob, wanted: boolean, digested: boolean}} task */
 async function read({blob, wanted, digested}) {
   const buffer = await blob.arrayBuffer(),
