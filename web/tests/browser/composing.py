@@ -128,7 +128,7 @@ def test_trees_on_other_squares(user):
     assert list(chips)[:2] == ["g2", "h3"] and "looked at" not in user.text("treesThere"), chips
     assert "no move stays" in user.text("treesThere"), user.text("treesThere")
     user.picture("trees")
-    user.d.find_element(By.CSS_SELECTOR, '[data-there="h3"]').click()
+    user.press_on('[data-there="h3"]')
     user.until("document.getElementById('fen').value.startsWith('8/8/8/6k1/8/7K/1P6/8 w')", 30)
     user.until("!document.getElementById('start').disabled", 30)
     user.click("start")

@@ -11,7 +11,7 @@ import re
 import sys
 import tempfile
 
-from user import TOP, By, run
+from user import TOP, run
 
 TABLES = os.path.abspath(sys.argv[1])
 FEN = "8/8/8/6k1/8/8/1P5K/8 w - - 0 1"
@@ -80,7 +80,7 @@ def test_ten_entries_are_ten_rows(user):
         )
     )
     opened(user, "entries.pgn", pgn)
-    user.until("document.getElementById('rows').textContent.includes('fails at')", 30)
+    user.until("document.getElementById('rows').textContent.includes('fails at')")
     list_ = rows(user)
     assert len(list_) == 10, list_
     assert [
@@ -127,7 +127,7 @@ def test_ten_entries_are_ten_rows(user):
     name, saved = user.download("savePgn")
     assert name == "entries.checked.pgn" and '[White "Троицкий"]' in saved and '[Annotator "an editor"]' in saved
     assert "{The only move. White mates in" in saved.replace("\n", " ")
-    user.d.find_element(By.CSS_SELECTOR, '[data-import="white draw"]').click()
+    user.press_on('[data-import="white draw"]')
     user.settle()
     stamp = rows(user)[7][4]
     assert len(rows(user)) == 10 and re.match(r"sound|wrong: |does not |fails at |\d+ (dual|fault)", stamp), stamp
@@ -151,7 +151,7 @@ def test_a_game_without_stipulation_beside_a_set_up(user):
         assert not user.by("sayBoard").is_displayed(), user.text("sayBoard")
         assert user.text("aims").startswith("1 game of this PGN does not say what is to be done. Read it as:")
         user.picture("aims_" + state.replace(" ", "_"), whole=False)
-        user.d.find_element(By.CSS_SELECTOR, '[data-import="white win"]').click()
+        user.press_on('[data-import="white win"]')
         user.until("document.getElementById('stamp')", 60)
         user.settle()
         assert user.text("stamp") == "sound" and "stipulate white win" in script(user)
@@ -175,13 +175,13 @@ def test_a_game_with_a_bad_move_is_opened_up_to_there(user):
     pgn = game("One", "A", "1. Kg3") + game("Two", "Smith, John", bad) + game("Three", "C", "1. Kg3 Kf5")
     opened(user, "entries.pgn", pgn)
     assert rows(user)[1][:3] == ["2", "Two", "Smith, John"] and "b6: no legal move" in rows(user)[1][4], rows(user)
-    user.d.find_element(By.CSS_SELECTOR, '[data-upto="2"]').click()
+    user.press_on('[data-upto="2"]')
     user.until("document.getElementById('cut')", 60)
     user.settle()
     assert user.text("stamp") == "not read: 7. b6" and user.text("head").startswith("Two\n\nNo. 2"), user.text("head")
     user.click("setUp")
-    user.d.find_element(By.CSS_SELECTOR, '[data-turn="mirror"]').click()
-    user.until("!document.getElementById('start').disabled", 30)
+    user.press_on('[data-turn="mirror"]')
+    user.until("!document.getElementById('start').disabled")
     user.click("start")
     user.settle()
     assert user.text("stamp") == "not read: 7. b6" and "position 8/8/8/1k6/8/8/K5P1/8 w" in script(user), script(user)
@@ -220,7 +220,7 @@ def test_a_game_with_a_bad_move_is_opened_up_to_there(user):
     user.click("readAgain")
     user.until("!document.getElementById('cut')", 60)
     user.settle()
-    user.until("/^\\d+ dual|^fails at /.test(document.getElementById('stamp').textContent)", 30)
+    user.until("/^\\d+ dual|^fails at /.test(document.getElementById('stamp').textContent)")
     assert "#! up to" not in script(user), user.text("stamp")
     assert "#! game 2, line 9: stipulated by its tag Result" in script(user) and "insert 0.0.0.0 Ke3" in script(user)
     assert [row[0] for row in rows(user)] == ["1", "2", "3"] and "The key" in script(user)
@@ -231,7 +231,7 @@ def test_a_game_alone_with_a_bad_move(user):
     opened(user, "mine.pgn", game("One", "A", "1. Kg3 Kf5 2. Kf9 Ke5"), "document.querySelector('[data-held]')")
     assert not user.by("sayBoard").is_displayed() and "Kf9: not a move" in user.text("tried")
     user.picture("held", whole=False)
-    user.d.find_element(By.CSS_SELECTOR, "[data-held]").click()
+    user.press_on("[data-held]")
     user.until("document.getElementById('stamp')", 60)
     user.settle()
     assert user.text("stamp") == "not read: 2. Kf9" and not user.has("start")
@@ -244,9 +244,9 @@ def test_a_game_alone_with_a_bad_move(user):
     assert user.text("stamp") == "not read: 2. Kf9" and "no verdict" in user.text("sentence")
     user.click("new")
     opened(user, "mine.pgn", game("One", "A", "1. Kg3 Kf9", "*"), "document.querySelector('[data-held]')")
-    user.d.find_element(By.CSS_SELECTOR, "[data-held]").click()
+    user.press_on("[data-held]")
     user.until("document.getElementById('ask')", 60)
-    user.d.find_element(By.CSS_SELECTOR, '#ask [data-import="white draw"]').click()
+    user.press_on('#ask [data-import="white draw"]')
     user.until("document.getElementById('stamp').innerText === 'not read: 1... Kf9'", 60)
     user.settle()
     assert "stipulate white draw" in script(user) and not user.has("ask")
@@ -271,9 +271,9 @@ def test_sources_that_differ_are_a_filter(user):
         ["7", "Seven", "White to win\n(from the final result)\nits comment is not understood"],
     ], rows(user)
     assert user.text("source") == "(from the Result)" and not user.has("against")
-    chip = user.d.find_element(By.CSS_SELECTOR, "#list [data-kind=differ]")
-    assert chip.text == "2 whose sources differ"
-    chip.click()
+    chip = "#list [data-kind=differ]"
+    assert user.js("return document.querySelector(arguments[0]).innerText", chip) == "2 whose sources differ"
+    user.press_on(chip)
     assert [row[0] for row in rows(user)] == ["5", "7"]
     user.choose("studies", "1")
     assert user.text("against") == "Compare the sources of the stipulation: its tag Result differs."
@@ -324,7 +324,7 @@ def test_letters_of_another_code(user):
     user.settle()
     assert "Léger" in user.text("head") and "Réti" in user.text("head") and "tag White Reti" in script(user)
     user.fill("tagWhite", "Л. Каспарян")
-    user.until("document.getElementById('head').innerText.includes('Л. Каспарян')", 20)
+    user.until("document.getElementById('head').innerText.includes('Л. Каспарян')")
     assert re.search(r"^tag White [ -~]+$", script(user), re.M) and "#! White was: Л. Каспарян" in script(user)
     user.d.refresh()
     user.idle()
@@ -349,13 +349,13 @@ def test_names_in_a_code_page(user):
     assert codes[1] == "Cyrillic, 1251: Троицкий" and codes[2] == "Western, 1252: Òðîèöêèé", codes
     assert [row[2] for row in rows(user)][:2] == ["Réti", "Òðîèöêèé"]
     user.picture("codes", whole=False)
-    user.d.find_element(By.CSS_SELECTOR, '[data-code="windows-1251"]').click()
+    user.press_on('[data-code="windows-1251"]')
     user.until("document.querySelector('[data-code=\"windows-1251\"]').classList.contains('on')", 60)
     user.settle()
     assert [row[2] for row in rows(user)][:2] == ["Réti", "Троицкий"] and "tag White Troickij" in script(user)
     saved = user.download("savePgn")[1]
     assert '[White "Троицкий"]' in saved and "{Конец. White mates in" in saved.replace("\n", " "), saved
-    user.d.find_element(By.CSS_SELECTOR, '[data-code="windows-1250"]').click()
+    user.press_on('[data-code="windows-1250"]')
     user.until("document.querySelector('[data-code=\"windows-1250\"]').classList.contains('on')", 60)
     user.settle()
     assert rows(user)[2][2] == "Šojka", rows(user)
@@ -372,7 +372,7 @@ def test_neither_script_nor_pgn(user):
         ("c.pgn", '[Event "x"]\n\n1. e4 *\n'),
     ):
         user.open_file(name, text)
-        user.until("document.body.textContent.includes('Nothing was changed')", 20)
+        user.until("document.body.textContent.includes('Nothing was changed')")
         user.settle()
         assert script(user) == before
 
@@ -384,7 +384,7 @@ def test_our_own_pgn_is_kept_whole(user):
         user.play(san)
     own = user.promise("studyboard.pgn()")
     opened(user, "own.pgn", own, "document.getElementById('stamp')")
-    user.until("!document.getElementById('notKept')", 20)
+    user.until("!document.getElementById('notKept')")
     assert user.download("savePgn") == ("own.pgn", own)
 
 
@@ -442,16 +442,16 @@ def test_the_diagram_is_turned_with_its_moves(user):
     for san in ("Kg3", "Kf5", "Kf3"):
         user.play(san)
     user.click("setUp")
-    user.d.find_element(By.CSS_SELECTOR, '[data-turn="mirror"]').click()
-    user.d.find_element(By.CSS_SELECTOR, '[data-turn="colours"]').click()
-    user.until("!document.getElementById('start').disabled", 30)
+    user.press_on('[data-turn="mirror"]')
+    user.press_on('[data-turn="colours"]')
+    user.until("!document.getElementById('start').disabled")
     user.click("start")
     user.settle()
     assert script(user).startswith("position 8/k5p1/8/8/1K6/8/8/8 b - - 0 1\nstipulate black win\n"), script(user)
     assert re.findall(r"insert \S+ (\S+)", script(user)) == ["Kb6", "Kc4", "Kc6"] and user.text("stamp") == "sound"
     user.click("setUp")
-    user.d.find_element(By.CSS_SELECTOR, '[data-turn="right"]').click()
-    user.until("!document.getElementById('start').disabled", 30)
+    user.press_on('[data-turn="right"]')
+    user.until("!document.getElementById('start').disabled")
     user.click("start")
     user.settle()
     assert script(user).startswith("position 8/1k5p/8/8/2K5/8/8/8 b") and len(re.findall("insert", script(user))) == 3
@@ -467,7 +467,7 @@ def test_what_is_legal_of_a_tree_is_kept(user):
     user.play("b4")
     user.click("setUp")
     user.drag("h2", "a1")
-    user.until("!document.getElementById('start').disabled", 30)
+    user.until("!document.getElementById('start').disabled")
     user.click("start")
     user.settle()
     said = user.text("sayBoard")
@@ -483,12 +483,12 @@ def test_a_study_begins_earlier(user):
     user.click("beginEarlier")
     user.until("document.querySelector('#earlier [data-before]')", 60)
     first = user.js("return document.querySelector('#earlier [data-before]').dataset.before")
-    user.d.find_element(By.CSS_SELECTOR, "#earlier [data-before]").click()
+    user.press_on("#earlier [data-before]")
     user.until(f"document.getElementById('earlierState').innerText.includes('before {first}')", 60)
     user.picture("earlier", whole=False)
     user.until("document.querySelector('#earlier [data-before]')", 60)
     second = user.js("return document.querySelector('#earlier [data-before]').dataset.before")
-    user.d.find_element(By.CSS_SELECTOR, "#earlier [data-before]").click()
+    user.press_on("#earlier [data-before]")
     user.settle()
     sans = re.findall(r"insert (\S+) (\S+)", script(user))
     assert [path for path, _ in sans] == ["root", "0", "0.0"] and [san for _, san in sans] == [
@@ -499,7 +499,7 @@ def test_a_study_begins_earlier(user):
     user.promise("studyboard.open(a[0])", "position 3Q4/8/8/8/8/2k5/8/K7 b - - 0 1\nstipulate white win\n")
     user.click("beginEarlier")
     user.until("document.querySelector('#earlier [data-before=\"d8=Q\"]')", 60)
-    user.d.find_element(By.CSS_SELECTOR, '#earlier [data-before="d8=Q"]').click()
+    user.press_on('#earlier [data-before="d8=Q"]')
     user.until("document.getElementById('beginOne')", 60)
     user.settle()
     user.click("beginOne")
@@ -521,7 +521,7 @@ def test_a_mate_begins_earlier(user):
         user.until("document.querySelector('#earlier [data-before]')", 60)
         chips = user.js("return [...document.querySelectorAll('#earlier [data-before]')].map(b => b.innerText)")
         assert len(chips) == len(set(chips)) > 1 and all(" from " in chip for chip in chips), chips
-        user.d.find_element(By.CSS_SELECTOR, "#earlier [data-before]").click()
+        user.press_on("#earlier [data-before]")
     user.settle()
     assert "\nstipulate white mate 3\n" in script(user) and not user.text("stamp").startswith("wrong"), script(user)
 
@@ -551,7 +551,7 @@ def test_find_all_zugzwangs_of_king_and_pawn(user):
     user.click("findGo")
     user.until("document.getElementById('findState').innerText.includes('all there are')", 120)
     assert "KPK win 6: 15 positions found" in user.text("findState"), user.text("findState")
-    user.d.find_element(By.CSS_SELECTOR, "#foundList [data-found]").click()
+    user.press_on("#foundList [data-found]")
     user.settle()
     user.until("document.getElementById('stamp')", 60)
     assert user.text("stamp") == "sound" and len(re.findall("insert", script(user))) == 11, script(user)

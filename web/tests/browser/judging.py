@@ -116,18 +116,18 @@ def test_the_list(user):
     assert user.js(ROWS) == ["One", "Two", "Three", "Four"]
     sort = "#list [data-sort='{}']"
     for column, names in (("title", ["Four", "One", "Three", "Two"]), ("author", ["Two", "Three", "Four", "One"])):
-        user.d.find_element(By.CSS_SELECTOR, sort.format(column)).click()
+        user.press_on(sort.format(column))
         user.settle()
         assert user.js(ROWS) == names, user.js(ROWS)
-    user.d.find_element(By.CSS_SELECTOR, sort.format("number")).click()
+    user.press_on(sort.format("number"))
     user.by("findEntry").send_keys("novak")
     assert user.js(ROWS) == ["Three", "Four"]
     user.by("findEntry").send_keys(Keys.BACK_SPACE * 5)
     user.settle()
-    user.d.find_element(By.CSS_SELECTOR, "[data-kind=mistake]").click()
+    user.press_on("[data-kind=mistake]")
     user.settle()
     assert user.js(ROWS) == ["Three"] and "1. b4 throws it away" in user.text("list"), user.text("list")
-    user.d.find_element(By.CSS_SELECTOR, "[data-kind=mistake]").click()
+    user.press_on("[data-kind=mistake]")
     user.settle()
     assert "same position as No. 2 (mirrored), No. 3" in user.text("list"), user.text("list")
     assert "It has the same position as No. 2 (mirrored), No. 3." == user.text("same")
@@ -163,13 +163,13 @@ def test_what_is_heard(user):
     live = "return [...document.querySelectorAll('[role=status], [aria-live]')].map(e => e.id)"
     assert user.js(live) == ["spoken"], user.js(live)
     user.go("0")
-    user.until("document.getElementById('spoken').textContent.includes('g3')", 10)
+    user.until("document.getElementById('spoken').textContent.includes('g3')")
     assert user.js(HEARD).startswith("white king g3, the only move that works, White mates in 27"), user.js(HEARD)
     assert "The only move" in user.js(HEARD)
     user.d.find_element(By.XPATH, "//*[@id='rows']//button[.='3']").click()
-    user.until("document.getElementById('spoken').textContent.includes('Verdict: fails at 1. b4')", 30)
+    user.until("document.getElementById('spoken').textContent.includes('Verdict: fails at 1. b4')")
     user.click("setUp")
-    user.until("document.getElementById('spoken').textContent.includes('White to win: correct')", 30)
+    user.until("document.getElementById('spoken').textContent.includes('White to win: correct')")
 
 
 def test_targets_on_a_phone(user):

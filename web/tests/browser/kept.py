@@ -94,7 +94,7 @@ def test_two_tabs_and_a_copied_one(user):
     old = set(user.d.window_handles)
     user.js("window.open(location.href)")
     user.to((set(user.d.window_handles) - old).pop())
-    user.until("window.studyboard", 30)
+    user.until("window.studyboard")
     user.idle()
     assert script(user) == one, "a tab that was copied has the document"
     user.play("Kf6")
@@ -125,12 +125,12 @@ def test_another_document_and_a_closed_browser(user):
     user.play("Kf5")
     own = script(user)
     user.open_file("other.script", "position 8/3k4/8/3KP3/8/8/8/8 w - - 0 1\nstipulate white draw\ntag Event Another\n")
-    user.until("document.getElementById('head').innerText.includes('Another')", 30)
+    user.until("document.getElementById('head').innerText.includes('Another')")
     user.settle()
     assert "Documents lists it" in user.text("sayBoard")
     user.end()
     user.__init__(flags=(profile,))
-    user.until("document.getElementById('head').innerText.includes('Another')", 30)
+    user.until("document.getElementById('head').innerText.includes('Another')")
     open_document(user, "My own")
     assert script(user) == own and user.text("stamp") == "sound"
     steps = [own]
@@ -152,18 +152,18 @@ def test_a_file_whose_tables_lack(user):
     user.open_tables(TABLES, SMALL)
     started(user, FEN, "My own")
     user.open_file("saavedra.script", script_of("saavedra_1895"))
-    user.until("document.getElementById('head').innerText.includes('Barbier and Saavedra')", 30)
-    user.until("!document.getElementById('progress').hidden", 30)
+    user.until("document.getElementById('head').innerText.includes('Barbier and Saavedra')")
+    user.until("!document.getElementById('progress').hidden")
     for _ in range(2):
         assert "Not judged yet" in user.text("verdict") and not user.has("stamp")
         assert "1. c7" in user.text("tree").replace("\u00a0", " ") and "8. Kb3" not in user.text("tree")
         assert user.js("return document.querySelectorAll('#board use').length") == 4
         user.picture("unmarked", whole=False)
         user.d.refresh()
-        user.until("document.getElementById('head').innerText.includes('Barbier and Saavedra')", 30)
-    user.until("!document.getElementById('progress').hidden", 30)
+        user.until("document.getElementById('head').innerText.includes('Barbier and Saavedra')")
+    user.until("!document.getElementById('progress').hidden")
     user.click("stop")
-    user.until("document.getElementById('progress').hidden && document.getElementById('buildNow')", 30)
+    user.until("document.getElementById('progress').hidden && document.getElementById('buildNow')")
     user.settle()
     assert "Stopped" in user.text("verdict") and "1. c7" in user.text("tree").replace("\u00a0", " ")
     user.fill("tagSite", "Glasgow")
@@ -203,7 +203,7 @@ def test_a_set_up_that_was_not_started(user):
     user.control("y")
     user.settle()
     assert user.js(fen) == placed
-    user.until("!document.getElementById('start').disabled", 30)
+    user.until("!document.getElementById('start').disabled")
     user.click("start")
     user.settle()
     assert script(user).startswith("position " + placed) and user.text("stamp") == "correct, no solution yet"
@@ -232,8 +232,8 @@ def test_studybench_takes_what_is_saved(user):
     )
     user.open_tables(TABLES, SMALL)
     user.promise("studyboard.open(a[0])", text)
-    user.until("document.getElementById('stamp').innerText === 'not read: line 8, Kz9'", 20)
-    user.until("document.getElementById('refused').innerText === '2 lines of the script were refused'", 20)
+    user.until("document.getElementById('stamp').innerText === 'not read: line 8, Kz9'")
+    user.until("document.getElementById('refused').innerText === '2 lines of the script were refused'")
     name, saved = user.download("saveScript")
     assert name == "A.script" and remark in saved and saved.startswith("build KK\n")
     answer = replies(saved)[0] if os.access(NATIVE, os.X_OK) else user.promise("studyboard.run(a[0])", saved)
@@ -251,7 +251,7 @@ def test_studybench_takes_what_is_saved(user):
 def test_what_a_pgn_says_beside_its_moves_is_kept(user):
     user.open_tables(TABLES, SMALL)
     user.open_file("entries.pgn", PGN)
-    user.until("document.getElementById('stamp')", 30)
+    user.until("document.getElementById('stamp')")
     user.settle()
     assert "1 game, 1 study" in user.text("notKept")
     name, saved = user.download("savePgn")
@@ -267,7 +267,7 @@ def test_what_a_pgn_says_beside_its_moves_is_kept(user):
     assert "1 game, 1 study" in user.text("notKept") and user.download("savePgn") == (name, saved)
     own = user.promise("studyboard.pgn()")
     user.open_file("own.pgn", own)
-    user.until("!document.getElementById('notKept')", 30)
+    user.until("!document.getElementById('notKept')")
     user.settle()
     assert user.promise("studyboard.pgn()") == own
 
@@ -289,7 +289,7 @@ def test_a_refused_position_of_the_same_men(user):
     for placed, words in pair:
         user.fill("fen", placed + " w - - 0 1")
         user.until(f"{fen}.includes('{words}')", 60)
-    user.until("!document.getElementById('start').disabled", 30)
+    user.until("!document.getElementById('start').disabled")
     user.click("start")
     user.settle()
     assert user.text("stamp") == "correct, no solution yet"
@@ -298,7 +298,7 @@ def test_a_refused_position_of_the_same_men(user):
 def tick(user, title):
     """Chooses a document of the open list by its name."""
     row = f"//*[@id='documents']//tr[.//button[@data-kept][.='{title}']]//input[@data-tick]"
-    user.until(f"[...document.querySelectorAll('#documents [data-kept]')].some(e => e.textContent === '{title}')", 10)
+    user.until(f"[...document.querySelectorAll('#documents [data-kept]')].some(e => e.textContent === '{title}')")
     user.d.find_element(By.XPATH, row).click()
     user.settle()
 
@@ -324,9 +324,9 @@ def test_versions(user):
     started(user, FEN, "Pawn")
     user.play("Kg3")
     user.click("documentsButton")
-    user.d.find_element(By.CSS_SELECTOR, "#documents [data-copy]").click()
+    user.press_on("#documents [data-copy]")
     user.settle()
-    user.d.find_element(By.CSS_SELECTOR, "#documents [data-name]").click()
+    user.press_on("#documents [data-name]")
     user.fill("nameKept", "Draft of a pawn study")
     user.keys(Keys.ESCAPE)
     names = [row[0] for row in documents(user)]
@@ -336,12 +336,12 @@ def test_versions(user):
     user.go("root")
     user.click("documentsButton")
     assert len(user.d.find_elements(By.CSS_SELECTOR, "#documents tbody svg")) == 2
-    user.d.find_element(By.CSS_SELECTOR, '#documents [data-sort="name"]').click()
+    user.press_on('#documents [data-sort="name"]')
     for box in range(2):
         user.js("document.querySelectorAll('#documents [data-tick]')[arguments[0]].click()", box)
         user.settle()
     user.click("compare")
-    user.until("document.getElementById('sides')", 30)
+    user.until("document.getElementById('sides')")
     rows = user.js(
         "return [...document.querySelectorAll('#documents tbody tr')].map(r => [...r.cells].map(c => c.innerText))"
     )

@@ -112,13 +112,13 @@ def test_composed_by_keys_alone(user):
     user.settle()
     assert user.text("stamp") == "sound"
     user.by("san").send_keys(Keys.TAB)
-    user.d.find_element(By.CSS_SELECTOR, "#board svg").click()
+    user.press_on("#board svg")
     user.keys(Keys.HOME)
     user.settle()
     user.keys(Keys.ARROW_RIGHT)
     user.settle()
     heard = "white king g3, the only move that works, White mates in 27"
-    user.until(f"document.getElementById('spoken').textContent.includes('{heard}')", 10)
+    user.until(f"document.getElementById('spoken').textContent.includes('{heard}')")
     user.keys(Keys.DELETE)
     user.settle()
     assert not user.d.find_elements(By.CSS_SELECTOR, ".tree [data-path]")
@@ -155,7 +155,7 @@ def test_faults_and_their_repairs(user):
     user.set_up("8/k1P5/2K5/8/8/8/8/8 w - - 0 1", "white mate 2")
     user.play("c8=Q")
     user.until("document.querySelector('.faults')", 30, "the facts")
-    user.until("document.getElementById('stamp').textContent === 'fails at 1. c8=Q'", 30)
+    user.until("document.getElementById('stamp').textContent === 'fails at 1. c8=Q'")
     assert "throws it away" in user.by("mend").text
     user.picture("fault")
     user.go("root")
@@ -166,7 +166,7 @@ def test_faults_and_their_repairs(user):
     user.d.find_element(By.XPATH, "//button[text()='Put c8=R first']").click()
     user.settle()
     assert user.text("stamp") == "sound"
-    user.until("document.querySelector('#ends .add')", 30)
+    user.until("document.querySelector('#ends .add')")
     user.d.find_element(By.XPATH, "//*[@id='ends']//button[text()='add the line']").click()
     user.settle()
     assert user.text("stamp") == "sound" and "Ra8#" in user.text("tree")
@@ -175,13 +175,13 @@ def test_faults_and_their_repairs(user):
 def test_where_else(user):
     user.set_up(FEN, "white win")
     user.click("setUp")
-    user.until("document.getElementById('survey')", 30)
+    user.until("document.getElementById('survey')")
     user.choose("surveyMan", "15")
-    user.until("document.getElementById('stands')", 30)
+    user.until("document.getElementById('stands')")
     assert "g2 (Kg3), h3 (Kg3)" in user.text("stands"), user.text("stands")
     user.picture("survey")
     user.press("h3")
-    user.until("document.getElementById('judged').textContent.includes('correct')", 30)
+    user.until("document.getElementById('judged').textContent.includes('correct')")
     assert user.js("return document.getElementById('fen').value").startswith("8/8/8/6k1/8/7K/1P6/8 w")
 
 
@@ -212,7 +212,7 @@ def test_a_study_from_a_node(user):
     user.go("0.0")
     user.click("setUp")
     user.click("fromNode")
-    user.until("document.getElementById('startEmpty') && !document.getElementById('startEmpty').disabled", 30)
+    user.until("document.getElementById('startEmpty') && !document.getElementById('startEmpty').disabled")
     user.click("startEmpty")
     user.settle()
     assert user.promise("studyboard.script()").startswith(
@@ -227,7 +227,7 @@ def test_reload_in_the_middle(user):
     user.play("Kf3")
     script = user.promise("studyboard.script()")
     user.d.refresh()
-    user.until("document.getElementById('stamp')", 30)
+    user.until("document.getElementById('stamp')")
     user.idle()
     assert user.promise("studyboard.script()") == script and user.promise("studyboard.path()") == "0.0.0"
 
@@ -237,14 +237,14 @@ def test_a_stop_leaves_all_as_it_was(user):
     before = user.promise("studyboard.script()")
     user.click("new")
     user.fill("fen", "8/8/1KP5/3r4/8/8/8/k7 w - - 0 1")
-    user.until("document.getElementById('buildNow')", 30)
+    user.until("document.getElementById('buildNow')")
     user.click("start")
-    user.until("!document.getElementById('progress').hidden", 30)
+    user.until("!document.getElementById('progress').hidden")
     time.sleep(1)
     began = time.time()
     user.picture("progress")
     user.click("stop")
-    user.until("document.getElementById('progress').hidden", 10)
+    user.until("document.getElementById('progress').hidden")
     assert time.time() - began < 5
     user.settle()
     assert "Stopped" in user.text("setup") and user.promise("studyboard.script()") == before
@@ -268,7 +268,7 @@ def test_forged_and_damaged_tables(user):
     with open(bad, "wb") as file:
         file.write(data)
     user.by("tableFiles").send_keys(bad)
-    user.until("document.getElementById('sayBoard').textContent.includes('KRK')", 30)
+    user.until("document.getElementById('sayBoard').textContent.includes('KRK')")
     assert "Nothing was taken" in user.text("sayBoard")
     os.remove(bad)
 
@@ -358,7 +358,7 @@ def test_texts_from_elsewhere(user):
     assert user.text("sayBoard").startswith("The document before is kept"), user.text("sayBoard")
     user.click("new")
     user.js(PASTE, "fen", game)
-    user.until("document.getElementById('stamp')", 20)
+    user.until("document.getElementById('stamp')")
     user.settle()
     assert user.text("stamp") == "sound" and "tag White A" in user.promise("studyboard.script()")
     user.js(
@@ -379,7 +379,7 @@ def test_a_link_to_the_study(user):
     )
     before = user.promise("studyboard.script()")
     user.click("copyLink")
-    user.until("window.copied", 10)
+    user.until("window.copied")
     user.settle()
     link = user.js("return window.copied")
     assert user.text("sayBoard").startswith(f"Copied: a link of {len(link)} letters"), user.text("sayBoard")
@@ -411,7 +411,7 @@ def test_a_paste_of_any_length_ends(user):
     user.js("document.getElementById('cancel').click()")
     user.js(FILL, "script", before + "insert 9.9 Ka1\n" * 9000)
     user.js("document.getElementById('runScript').click()")
-    user.until("document.getElementById('refused')", 20)
+    user.until("document.getElementById('refused')")
     assert "9000 lines of the script were refused" in user.text("texts")
     assert "These are the first 200; 8800 more lines below them." in user.text("texts")
 
@@ -421,7 +421,7 @@ def test_a_script_in_the_address(user):
 
     user.open_tables(TABLES, SMALL)
     user.open("#script=" + quote(f"position {FEN}\nstipulate white win\ninsert root Kg3\n"))
-    user.until("document.getElementById('stamp')", 30)
+    user.until("document.getElementById('stamp')")
     assert user.text("stamp") == "sound"
 
 
@@ -448,7 +448,7 @@ def test_a_study_given_twice(user):
     user.promise("studyboard.open(a[0])", script)
     user.settle()
     assert len(games) == 2 and user.promise("studyboard.pgn()") == "".join(games)
-    user.until("document.getElementById('stamp').textContent === '5 duals'", 30)
+    user.until("document.getElementById('stamp').textContent === '5 duals'")
     assert "White to win: does not win" in user.text("verdictsBefore")
 
 

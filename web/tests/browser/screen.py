@@ -54,9 +54,9 @@ def test_a_laptop(user):
         assert user.js("return scrollY") == 0 and not user.js(SCROLLS), user.js(SCROLLS)
     user.picture("laptop_study", whole=False)
     user.click("setUp")
-    user.until("document.getElementById('survey')", 30)
+    user.until("document.getElementById('survey')")
     user.click("survey")
-    user.until("document.getElementById('stands')", 30)
+    user.until("document.getElementById('stands')")
     for name in ("board", "judged", "start", "survey", "stands", "cancel"):
         assert user.seen(name), name
     user.picture("laptop_survey", whole=False)
@@ -76,9 +76,9 @@ def test_sizes(user):
     assert sides[0] > 490 and sides[1] > sides[0] + 80 and sides[2] > 750, sides
     user.size(757, 700)
     user.click("setUp")
-    user.until("document.getElementById('survey')", 30)
+    user.until("document.getElementById('survey')")
     user.click("survey")
-    user.until("document.getElementById('stands')", 30)
+    user.until("document.getElementById('stands')")
     user.js("scrollTo(0, 0)")
     assert user.seen("survey") and user.seen("start") and user.js(SIDE + ".bottom") < 700
 
@@ -89,10 +89,10 @@ def test_a_refusal_does_not_lie_over_buttons(user):
     user.set_up(FEN, "white win")
     user.play("Kg3")
     user.click("setUp")
-    user.until("document.getElementById('startEmpty')", 30)
+    user.until("document.getElementById('startEmpty')")
     user.js("scrollTo(0, 0)")
     user.fill("fen", "8/8/8/6k1/8/8/1PPP3K/7R w - - 0 1")
-    user.until("document.getElementById('setup').innerText.includes('four men')", 30)
+    user.until("document.getElementById('setup').innerText.includes('four men')")
     for name in ("startEmpty", "cancel"):
         user.js("document.getElementById(arguments[0]).scrollIntoView({block: 'nearest'})", name)
         time.sleep(0.2)
@@ -108,7 +108,7 @@ def test_names_for_a_screen_reader(user):
     assert all(re.match(r"^[KQRBNa-h][a-h1-8x=]*[+#QRBN]*: " + VALUE + "(;|$)", name) for name in names), names
     assert any(name.startswith("Kg3: White mates in 27; the only one that works; in the tree") for name in names), names
     user.go("0")
-    user.until("document.querySelector('#defences .add')", 30)
+    user.until("document.querySelector('#defences .add')")
     names = user.js(LABELS, "#defences .add")
     assert all(re.match(r"^K[a-h][1-8]: White mates in \d+", name) for name in names), names
     nameless = """return [...document.querySelectorAll('button')]
@@ -122,7 +122,7 @@ def test_keys(user):
     judged(user)
     user.js("document.querySelector('#board svg').focus()")
     user.keys(Keys.ENTER)
-    user.until("document.getElementById('san')", 30)
+    user.until("document.getElementById('san')")
     user.settle()
     focus = "return document.activeElement.tagName.toLowerCase() + (document.activeElement.id || '')"
     assert user.js(focus) == "svg", user.js(focus)
@@ -172,18 +172,18 @@ def test_a_surveyed_man_is_what_a_press_moves(user):
     small(user)
     user.set_up(FEN, "white win")
     user.click("setUp")
-    user.until("document.getElementById('survey')", 30)
+    user.until("document.getElementById('survey')")
     user.choose("surveyMan", "15")
-    user.until("document.getElementById('stands')", 30)
+    user.until("document.getElementById('stands')")
     user.press("a8")
     user.settle()
     assert user.js("return document.getElementById('fen').value").startswith("K7/8/8/6k1/8/8/1P6/8 ")
     judged(user, "White to win: ")
     user.click("survey")
-    user.until("document.getElementById('stands')", 30)
+    user.until("document.getElementById('stands')")
     user.js("document.querySelector('#board svg').focus()")
     user.keys(Keys.ESCAPE)
-    user.until("!document.getElementById('stands')", 10)
+    user.until("!document.getElementById('stands')")
 
 
 def test_tags(user):
@@ -244,7 +244,7 @@ def test_colours_and_paper(user):
     small(user)
     user.set_up("8/k1P5/2K5/8/8/8/8/8 w - - 0 1", "white mate 2")
     user.play("c8=Q")
-    user.until("document.querySelector('.faults')", 30)
+    user.until("document.querySelector('.faults')")
     for _ in range(2):
         low = [row for row in colours(user) if contrast(row[0], row[1]) < 4.5]
         assert not low, low
@@ -264,8 +264,8 @@ def test_a_draft_does_not_wait_for_a_build(user):
     the page says which class is built and how long the rest takes, KRKP at the end with those that it needs."""
     small(user)
     user.click("sample2")
-    user.until("document.getElementById('progressText').textContent.includes('K')", 30)
-    user.until("document.getElementById('head').innerText.includes('Saavedra')", 10)
+    user.until("document.getElementById('progressText').textContent.includes('K')")
+    user.until("document.getElementById('head').innerText.includes('Saavedra')")
     user.js(
         """window.texts = [];
         new MutationObserver(() => texts.push(document.getElementById('progressText').textContent))
@@ -277,9 +277,9 @@ def test_a_draft_does_not_wait_for_a_build(user):
     judged(user, "White mates in 28", 15)
     assert time.time() - began < 5 and user.by("progress").is_displayed()
     user.js("document.getElementById('start').click()")
-    user.until("document.querySelector('.moves [data-san=\"Kg3\"]')", 5)
+    user.until("document.querySelector('.moves [data-san=\"Kg3\"]')")
     user.js("document.querySelector('.moves [data-san=\"Kg3\"]').click()")
-    user.until("document.getElementById('value').textContent.includes('Kg3')", 5)
+    user.until("document.getElementById('value').textContent.includes('Kg3')")
     assert user.by("progress").is_displayed() and user.text("stamp") == "sound"
     user.until("document.getElementById('progress').hidden", 900)
     texts = user.js("return texts")
@@ -291,7 +291,7 @@ def test_a_draft_does_not_wait_for_a_build(user):
     assert len(left) > 3 and left[0] >= 17, left  # KRKP alone takes no less, and it begins when KQKR is there
     print(f"the time left: {left[0]} s at first, {len(texts) / 2:.0f} s in all", flush=True)
     user.click("undo")
-    user.until("document.getElementById('stamp').textContent.startsWith('correct')", 30)
+    user.until("document.getElementById('stamp').textContent.startsWith('correct')")
     assert not user.by("undo").is_enabled()
 
 

@@ -7,6 +7,7 @@ import time
 import traceback
 
 from selenium import webdriver
+from selenium.common.exceptions import StaleElementReferenceException
 from selenium.webdriver.chrome.service import Service
 from selenium.webdriver.common.action_chains import ActionChains
 from selenium.webdriver.common.by import By
@@ -134,6 +135,15 @@ class User:
         element = self.by(name)
         self.js("arguments[0].scrollIntoView({block: 'nearest'})", element)
         element.click()
+
+    def press_on(self, selector):
+        """A press on what a selector names; once more, if that part of the page was drawn anew meanwhile."""
+        for again in (True, True, False):
+            try:
+                return self.d.find_element(By.CSS_SELECTOR, selector).click()
+            except StaleElementReferenceException:
+                if not again:
+                    raise
 
     def text(self, name):
         return self.js("return document.getElementById(arguments[0]).innerText", name).strip()
