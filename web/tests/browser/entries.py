@@ -63,6 +63,24 @@ def test_letters_of_another_language_and_words(user):
     assert re.search(r"Qg2\+[^{]*\{gut", saved), saved
 
 
+def test_a_game_with_more_men_has_its_tails(user):
+    """Five men: a pawn is taken in the solution and in a try. Each part with four men is an entry, with its comment."""
+    if not os.path.exists(os.path.join(TABLES, "KRRK.dtm")):
+        return
+    user.open_tables(TABLES, SMALL + ["KRRK"])
+    moves = "1. Rxb2 {four are left} (1. Rc2 Kb8 2. Rcxb2 {too} Ka8 3. Rh2) 1... Kb8 2. Rbc2"
+    text = game("Five", "Autor", moves, fen="k7/8/1K6/8/8/8/1p6/1RR5 w - - 0 1")
+    opened(user, "five.pgn", text, "document.querySelectorAll('#list tbody tr').length === 2")
+    user.until("document.getElementById('list').innerText.includes('a second solution')", 60)
+    found = rows(user)
+    assert [row[:2] for row in found] == [["1.1", "Five (after 1. Rxb2)"], ["1.2", "Five (after 2. Rcxb2)"]], found
+    lines = script(user).split("\n")
+    for line in ("#> insert root Rc2", "#! note -: four are left", "#! note -: too", "insert root Ka8"):
+        assert line in lines, lines
+    user.js("document.querySelectorAll('#list tbody tr')[1].querySelector('a, button').click()")
+    user.until("(document.getElementById('tail') || {innerText: ''}).innerText.includes('beside the solution')", 20)
+
+
 def test_ten_entries_are_ten_rows(user):
     user.open_tables(TABLES, SMALL)
     pgn = "% made by hand\n" + "".join(
