@@ -5,8 +5,8 @@
 /** @typedef {import('./engine.js').Core} Core */
 
 /**
- * In bytes: one worker has room for what any position needs, both together for little more than twice as much; beside a
- * long script both have room for what one position needs and a little more.
+ * In bytes: one worker has room for what any position needs, both together for little more than twice as much, and
+ * beside a long script for a little more.
  */
 const MOST = 176e6, TOGETHER = 340e6, BESIDE_MUCH = 220e6, SPARE = 40e6, PATIENCE = 20;
 const pause = () => new Promise(on => setTimeout(on, 50));

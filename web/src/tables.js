@@ -138,13 +138,13 @@ export function makeTables({core, facts, spawn, readers, store, report, isLong =
    */
   const loadFor = async (fens, into = core) => load(await classesOf(fens), into);
   /**
-   * The worker that answers for the facts of positions, with their tables: that of moves where another one beside it
-   * would hold too much.
+   * The worker that answers for the facts of positions, with their tables: beside a long script that of moves, so that
+   * no table is held twice.
    * @param {string[]} fens
    */
   async function factsFor(fens) {
-    const names = await classesOf(fens), into = room.fits(names, facts) || !names.every(core.has) ? facts : core;
-    await load(names, into);
+    const into = isLong() ? core : facts;
+    await loadFor(fens, into);
     return into;
   }
   /**

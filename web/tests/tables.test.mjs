@@ -122,7 +122,7 @@ test('beside a long script one worker has the tables of a position, else both', 
     await tables.loadFor([PAWN]);
     assert.deepEqual(core.held().sort(), names.split(' ').sort());
     assert.equal(await tables.factsFor([PAWN]), isLong ? core : facts);
-    assert.deepEqual([await tables.factsFor([RIGHT]), facts.held().includes('KQK')], [facts, true]);
+    assert.equal(facts.held().length, isLong ? 0 : 6);
   }
 });
 test('a file that is opened is stored as it is, and read only for its digest', async () => {
