@@ -53,6 +53,7 @@ else
     try "$python" monkey.py "$tables" 1 300
     try "$python" scripts.py "$tables" 200
     try "$python" speed.py "$tables"
+    try "$python" memory.py "$tables"
     try "$python" firefox.py
 fi
 exit $status
