@@ -1,7 +1,7 @@
 // @ts-check
 // How much of the tables the two permanent workers hold. Before others are loaded, a worker drops those that nobody
-// needs now, and their memory is used again. It never becomes smaller: a worker that has too much is ended, and its next
-// question begins a new one.
+// needs now, and their memory is used again. It never becomes smaller: a worker that has too much is ended, and its
+// next question begins a new one.
 /** @typedef {import('./engine.js').Core} Core */
 
 /**

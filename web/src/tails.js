@@ -1,6 +1,6 @@
 // @ts-check
-// A game with more than four men in a script: its lines `#> ` are the whole game, and each part that begins with at most
-// four men, a tail, is a study below a heading.
+// A game with more than four men in a script: its lines `#> ` are the whole game, and each part that begins with at
+// most four men, a tail, is a study below a heading.
 import {ownRemark} from './remarks.js';
 /**
  * A tail: its number in the game, the node at which it begins and the move that leads there, and whether the solution
