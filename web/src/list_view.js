@@ -26,8 +26,15 @@ function toggleFilter(kind) {
   ui.filter = ui.filter === kind ? '' : kind;
   services.show();
 }
-/** All that the list is drawn from. */
-export const listFrom = () => [knownEntries(doc()), doc().at, ui.filter, ui.order];
+/** All that the list is drawn from, but for the study that is looked at. */
+export const listFrom = () => [knownEntries(doc()), ui.filter, ui.order];
+/** Marks the study that is looked at in the list as it is drawn. */
+export function markShown() {
+  for (const number of document.querySelectorAll('#rows [data-at]')) {
+    if (number.getAttribute('data-at') === `${doc().at}`) number.setAttribute('aria-current', 'true');
+    else number.removeAttribute('aria-current');
+  }
+}
 /**
  * What opens a game that was left out, where it can be read up to a bad move.
  * @param {Entry} entry
@@ -67,7 +74,8 @@ const cellsOf =
 /** @param {Entry} entry */
 function numberButton(entry) {
   const text = entry.number || '\u2013', here = entry.at === doc().at && 'true';
-  const props = {class: 'link', 'aria-current': here, 'aria-label': !entry.number && `Show ${entry.title}`};
+  const props =
+    {class: 'link', 'aria-current': here, 'aria-label': !entry.number && `Show ${entry.title}`, 'data-at': entry.at};
   return entry.at < 0 ? text : button(text, 'show it', () => goStudy(entry.at), props);
 }
 /** The rows that are wanted, in their order. */

@@ -17,7 +17,7 @@ import {redrawJudged, setupView} from './setup_view.js';
 import {checkWhole, openText} from './opening.js';
 import {importView} from './import_view.js';
 import {cutView} from './mend_view.js';
-import {listFrom, listView as entriesView} from './list_view.js';
+import {listFrom, listView as entriesView, markShown} from './list_view.js';
 import {knownEntries, later} from './list_facts.js';
 import {nameOf} from './entries.js';
 import {menuText} from './entry_list.js';
@@ -172,6 +172,7 @@ function drawFacts() {
   part('mend', [s, app.view !== null, app.review], () => s && faultsView(s));
   part('review', [s, app.view !== null, app.review, app.noReview], () => s && reviewView(s));
   part('list', listFrom(), entriesView);
+  markShown();
   speakVerdict();
 }
 function drawKnown() {
