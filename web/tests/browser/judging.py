@@ -126,7 +126,7 @@ def test_the_list(user):
     user.settle()
     user.press_on("[data-kind=mistake]")
     user.settle()
-    assert user.js(ROWS) == ["Three"] and "1. b4 throws it away" in user.text("list"), user.text("list")
+    assert user.js(ROWS) == ["Three"] and "fails at 1. b4: 1... K" in user.text("list"), user.text("list")
     user.press_on("[data-kind=mistake]")
     user.settle()
     assert "same position as No. 2 (mirrored), No. 3" in user.text("list"), user.text("list")
@@ -135,7 +135,7 @@ def test_the_list(user):
     name, text = user.download("saveSheet")
     assert name == "entries.checked.sheet.html" and text.count("<figure>") == 3 and "1. White to win" in text
     name, text = user.download("saveList")
-    assert "First fault,Same position" in text and "1. b4 throws it away" in text
+    assert "First fault,Same position" in text and "fails at 1. b4: 1... K" in text
 
 
 def test_accepted_duals(user):
