@@ -195,7 +195,8 @@ def composed(user, fen, aim, most=30):
             break
         user.js("arguments[0].click()", chips[0])
         user.settle()
-    assert user.text("stamp") == "sound", user.text("stamp")
+    # (a main defence may be missing: only the best one is followed)
+    assert user.text("stamp").split(";")[0] == "sound", user.text("stamp")
     return len(user.d.find_elements(By.CSS_SELECTOR, ".tree [data-path]"))
 
 
@@ -448,7 +449,7 @@ def test_a_study_given_twice(user):
     user.promise("studyboard.open(a[0])", script)
     user.settle()
     assert len(games) == 2 and user.promise("studyboard.pgn()") == "".join(games)
-    user.until("document.getElementById('stamp').textContent === '5 duals'")
+    user.until("document.getElementById('stamp').textContent === 'cook: 1... Kc7'")
     assert "White to win: does not win" in user.text("verdictsBefore")
 
 

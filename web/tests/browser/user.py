@@ -132,9 +132,8 @@ class User:
         return bool(self.d.find_elements(By.ID, name))
 
     def click(self, name):
-        element = self.by(name)
-        self.js("arguments[0].scrollIntoView({block: 'nearest'})", element)
-        element.click()
+        self.js("document.getElementById(arguments[0]).scrollIntoView({block: 'nearest'})", name)
+        self.press_on("#" + name)
 
     def press_on(self, selector):
         """A press on what a selector names; once more, if that part of the page was drawn anew meanwhile."""
