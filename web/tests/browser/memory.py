@@ -92,7 +92,7 @@ def games(user):
         text = ""
         for path in sorted(glob.glob(os.path.join(TOP, "examples", "*.script"))):
             with open(path, encoding="utf-8") as file:
-                script = file.read()
+                script = re.sub(r"^(build|load|save) .*\n", "", file.read(), flags=re.M)
             if "\nposition" in "\n" + script:
                 user.promise("studyboard.open(a[0])", script)
                 text += user.promise("studyboard.pgn()")

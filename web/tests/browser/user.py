@@ -136,13 +136,14 @@ class User:
         self.press_on("#" + name)
 
     def press_on(self, selector):
-        """A press on what a selector names; once more, if that part of the page was drawn anew meanwhile."""
-        for again in (True, True, False):
+        """A press on what a selector names; again for two seconds, if that part of the page is drawn anew meanwhile."""
+        for left in range(10, -1, -1):
             try:
                 return self.d.find_element(By.CSS_SELECTOR, selector).click()
             except StaleElementReferenceException:
-                if not again:
+                if not left:
                     raise
+                time.sleep(0.2)
 
     def text(self, name):
         return self.js("return document.getElementById(arguments[0]).innerText", name).strip()
