@@ -15,7 +15,6 @@ const KIND_WORDS = /** @type {Record<string, () => string>} */ ({
   accepted: () => 'sound but for accepted duals',
   duals: () => 'with duals',
   mistake: () => 'whose own move fails',
-  refuted: () => 'refuted tries',
   correct: () => wordOf('correct')
 });
 /** @typedef {{kind: string, against?: string[], same?: string, faults?: string[]}} Kinds */
