@@ -2,11 +2,11 @@
 
     memory.py TABLES [GAMES [PGN]]
 
-TABLES has all 36; all are opened. The games, 3000 where no number is named, are those of examples/ again and again, or
-those of a file, each with a number for its title. Memory is what all processes of the browser have beside the pages of
-files (Pss_Anon and Pss_Shmem of /proc/PID/smaps_rollup; an empty page takes 160 MB of it), the largest of a sample each
-fifth of a second. Exit status 1 if it is more than 600 MB, or 500 MB if there are more than 3000 games. A stall is the
-longest time in which the page took no input; `page` is the time of a processor that its own thread took.
+TABLES has all 36; all are opened. The games, 3000 where no number is named, are those of examples/import again and
+again, or those of a file, each with a number for its title. Memory is what all processes of the browser have beside the
+pages of files (Pss_Anon and Pss_Shmem of /proc/PID/smaps_rollup; an empty page takes 160 MB of it), the largest of a
+sample each fifth of a second. Exit status 1 if it is more than 600 MB, or 500 MB if there are more than 3000 games. A
+stall is the longest time in which the page took no input; `page` is the time of a processor that its own thread took.
 """
 import glob
 import os
@@ -83,20 +83,11 @@ class Watch(threading.Thread):
         return sum(int(n) for row in ticks for n in row) / os.sysconf("SC_CLK_TCK")
 
 
-def games(user):
+def games():
     """Texts of games, each without its title."""
-    if len(sys.argv) > 3:
-        with open(sys.argv[3], encoding="utf-8") as file:
-            text = file.read()
-    else:
-        text = ""
-        for path in sorted(glob.glob(os.path.join(TOP, "examples", "*.script"))):
-            with open(path, encoding="utf-8") as file:
-                script = re.sub(r"^(build|load|save) .*\n", "", file.read(), flags=re.M)
-            if "\nposition" in "\n" + script:
-                user.promise("studyboard.open(a[0])", script)
-                text += user.promise("studyboard.pgn()")
-    list_ = re.split(r'^(?=\[Event ")', text, flags=re.M)
+    path = sys.argv[3] if len(sys.argv) > 3 else os.path.join(TOP, "examples", "import", "three_games.pgn")
+    with open(path, encoding="utf-8") as file:
+        list_ = re.split(r'^(?=\[Event ")', file.read(), flags=re.M)
     return [re.sub(r'\[Event "[^\n]*\n', "", game) for game in list_ if game.strip()]
 
 
@@ -149,7 +140,7 @@ def main():
     rows = [stage(user, watch, "an empty page", lambda: time.sleep(2))]
     names = [os.path.basename(path)[:-4] for path in sorted(glob.glob(TABLES + "/*.dtm"))]
     rows.append(stage(user, watch, f"{len(names)} tables opened", lambda: user.open_tables(TABLES, names)))
-    texts = games(user)
+    texts = games()
     text = "".join(f'[Event "No. {n + 1}"]\n{texts[n % len(texts)]}' for n in range(MOST))
     user.open()
     begin(user)
