@@ -93,8 +93,8 @@ export function faultyStamp({faults, stamp}) {
   };
 }
 /**
- * What is called a part of a game to which the solution does not lead, as the printed page has it: refuted, if the hero
- * does not reach his goal there.
+ * The stamp of a try, a part of a game beside the solution, as the printed page has it: refuted, if the hero does not
+ * reach his goal there.
  * @param {Study} s
  * @param {string} wrong      what is wrong with its stipulation
  * @returns {{kind: string, text: string}}

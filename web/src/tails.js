@@ -9,7 +9,7 @@ import {ownRemark} from './remarks.js';
  */
 const TAIL = /^(\d+) of \d+ of game (\d+), node ([^,]*), after ([^,]*)(, beside the solution)?/;
 /**
- * The tail of which a line is the heading.
+ * The tail that a heading names; none for another line.
  * @param {string} line
  * @returns {Tail | null}
  */
