@@ -97,6 +97,20 @@ export async function countsOf(fen) {
 const reviews = /** @type {Map<string, Review>} */ (new Map());
 let last = {letters: 1, ms: 0};
 /**
+ * How many legal replies each try has that several moves refute, as the program counts them; it needs no tables.
+ * @param {Engine} worker
+ * @param {string} text
+ * @param {Review} review
+ */
+async function repliesIn(worker, text, review) {
+  const paths = review.refuted.map(r => r.path),
+        several = [...new Set(paths.filter((path, i) => paths[i - 1] === path))];
+  if (!several.length) return {};
+  const answer = await worker.answer('run', text + toText(several.map(path => 'moves ' + path)), PAGES),
+        rows = answer.text.trimEnd().split('\n').slice(-several.length);
+  return Object.fromEntries(several.map((path, i) => [path, Number(/^moves (\d+)/.exec(rows[i] || '')?.[1] || 0)]));
+}
+/**
  * Shows the review of a study, from a worker of its own, so that no move waits for it. A review that takes long is
  * requested once the user rests.
  * @param {string} text
@@ -117,6 +131,7 @@ export async function reviewOf(text, fen, stamp) {
     const began = performance.now(), answer = await worker.answer('review', text + 'pgn\n', PAGES);
     const review = readReview(answer.text);
     last = {letters: text.length, ms: performance.now() - began};
+    if (review) review.replies = await repliesIn(worker, text, review);
     if (review) remember(reviews, text, review);
     if (stamp !== app.stamp) return;
     app.review = review;

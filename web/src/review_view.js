@@ -1,50 +1,20 @@
 // @ts-check
-// The review: duals in side lines, tries and their refutations, defences that are missing, best play from open ends.
+// The review: duals in side lines, tries, mutual zugzwangs, defences that are missing, best play from open ends.
 import {h, smallButton} from './dom.js';
 import {other, sideOf} from './fen.js';
 import {change} from './actions.js';
 import {app} from './state.js';
 import {insertLines} from './edits.js';
-import {depth, nodeAt, allNodes} from './parse_answers.js';
+import {byNode, section} from './facts_parts.js';
+import {allNodes} from './parse_answers.js';
 import {table} from './table.js';
+import {triesView} from './tries_view.js';
 import {add, alsoView, nodeLink} from './verdict_view.js';
 import {wordOf, wordsNamed} from './wording.js';
 import {answersText, counted, keepText, numberedLine, valueSign, valueText, winner, zugzwangWords} from './words.js';
 /** @typedef {import('./types.js').Study} Study @typedef {import('./types.js').TreeNode} TreeNode */
 /** @typedef {import('./types.js').Review} Review @typedef {import('./types.js').Missing} Missing */
 
-const closed = new Set();
-/**
- * @param {string} id
- * @param {string} title
- * @param {any} note      a text, or parts of one
- * @param {any} body
- */
-function section(id, title, note, body) {
-  return h('details', {
-    class: 'facts',
-    id,
-    open: !closed.has(id),
-    ontoggle: (/** @type {any} */ e) => {
-      if (e.target.open) closed.delete(id);
-      else closed.add(id);
-    }
-  },
-    h('summary', {}, title), note && h('p', {class: 'note'}, note), body);
-}
-/**
- * The nodes of some facts, each once, with its facts.
- * @template {{path: string}} F
- * @param {F[]} facts
- * @param {TreeNode} root
- * @returns {[TreeNode, F[]][]}
- */
-function byNode(facts, root) {
-  const map = /** @type {Map<string, F[]>} */ (new Map());
-  for (const fact of facts) map.set(fact.path, [...(map.get(fact.path) || []), fact]);
-  return /** @type {[TreeNode, F[]][]} */ (
-    [...map].map(([path, list]) => [nodeAt(root, path), list]).filter(([n]) => n !== null));
-}
 /**
  * The duals of a study, each with what else holds.
  * @param {import('./types.js').Also[]} also
@@ -76,39 +46,6 @@ function dualsView(s, review, root) {
   return rows.length > 0 &&
     section('duals', 'Duals in side lines', null,
       table(['Move', 'Also'], rows, ([n, list]) => [nodeLink(n), alsoView(s, n, list)]));
-}
-/**
- * @param {Study} s
- * @param {Review} review
- * @param {TreeNode} root
- * @param {boolean} paper
- */
-function triesView(s, review, root, paper) {
-  const rows = byNode(review.refuted, root).sort((x, y) => depth(x[0]) - depth(y[0])), wrong = s.verdict === 'wrong';
-  return rows.length > 0 &&
-    section('tries', wrong ? 'What refutes the moves' : wordOf('tries'), null,
-      table(
-        [...wordsNamed('tries-heads'), 'In the tree'], rows, ([n, list]) => tryView(n, list, paper ? s.aim : null)));
-}
-/**
- * @param {TreeNode} n
- * @param {import('./types.js').Refutation[]} list
- * @param {import('./types.js').Aim | null} aim      on paper, where all moves are given with their values
- */
-function tryView(n, list, aim) {
-  const given = n.children.map(c => c.san), stalemate = list.some(r => r.value === null),
-        refuting = list.filter(r => r.value !== null).map(r => r.san);
-  const open = refuting.filter(san => !given.includes(san)), one = refuting.length === 1, after = other(sideOf(n.fen));
-  const cell = stalemate ? 'stalemate' : [
-    aim ? list.map(({san, value}) => [h('b', {}, san), value && h('sub', {}, valueSign(aim.hero, after, value)), ' '])
-        : open.slice(0, 10).map(san => add(n.path, [san], san)),
-    !aim && open.length > 10 && ` and ${open.length - 10} more`, !aim && one && !open.length && refuting[0],
-    one ? h('b', {}, ' only') : h('small', {}, ` (${refuting.length} in all)`)
-  ];
-  return [
-    nodeLink(n), valueText(sideOf(n.fen), n.value), cell,
-    n.children.map(c => c.san + (refuting.includes(c.san) ? '' : ' (does not refute)')).join(' ') || '–'
-  ];
 }
 /** @param {TreeNode} root */
 function zugzwangView(root) {

@@ -46,8 +46,9 @@
  * @typedef {{path: string, san: string, value: Value, count: number, answer: string}} Missing
  * @typedef {{path: string, value: Value | null, keeping: number, of: number, sans: string[]}} Ending   no value: drawn
  * @typedef {{empty: boolean, waste: string, stamp: string, worst: string, faults: Fault[], also: Also[],
- *   refuted: Refutation[], missing: Missing[], ends: Ending[]}} Review
+ *   refuted: Refutation[], missing: Missing[], ends: Ending[], replies?: Record<string, number>}} Review
  *   `empty`: the tree has no move of the hero; `stamp` and `worst` are those of a view of the study
+ *   `replies`: of a try that several moves refute, how many legal replies it has, as far as that is known
  *   `waste`: the stamp by which loss of time is no dual, as `sound but for loss of time`; empty where none loses time
  *
  * @typedef {{square: number, kind: 'none' | 'fails' | 'holds' | 'only', value: Value | null, count: number,

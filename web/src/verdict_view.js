@@ -16,6 +16,7 @@ import {
   difference,
   holds,
   lateBy,
+  lateText,
   moveName,
   numberedLine,
   otherAims,
@@ -28,6 +29,11 @@ import {atStart, wordOf} from './wording.js';
 /** @typedef {import('./types.js').Study} Study @typedef {import('./types.js').TreeNode} TreeNode */
 /** @typedef {import('./types.js').Also} Also */
 
+/**
+ * Whether a study is a part of a game beside the solution: whatever comes of it, the stipulation is the game's.
+ * @param {Study} s
+ */
+const isBeside = ({origin}) => origin.tail !== null && origin.tail.beside;
 const CUT_SHORT = 'The game was not read to its end, so there is no verdict. ';
 /** @param {Study} s */
 export function verdictView(s) {
@@ -37,7 +43,8 @@ export function verdictView(s) {
   const {kind, text} = stampOf(doc(), {...s, verdict: view.verdict, start: view.start}, judgedBy(app.review, view));
   return [
     h('p', {class: 'verdict'}, h('span', {class: 'stamp ' + kind.replace(' ', '-'), id: 'stamp'}, text),
-      h('span', {id: 'sentence'}, s.origin.cut ? `${CUT_SHORT}${atStart(view.start)}.` : verdictSentence(view, kind))),
+      h('span', {id: 'sentence'},
+        s.origin.cut ? `${CUT_SHORT}${atStart(view.start)}.` : verdictSentence(view, kind, isBeside(s)))),
     beforeView(s)
   ];
 }
@@ -177,8 +184,7 @@ function acceptView(s, root, f) {
 function mistakeView(s, n) {
   const better = n.parent ? n.parent.children.find(holds) : undefined, late = s.aim ? lateBy(s.aim, n) : 0;
   return [
-    nodeLink(n), h('b', {}, wordOf('lets-go')), valueText(sideOf(n.fen), n.value),
-    late > 0 && `, ${late === 1 ? 'one move' : `${late} moves`} too late`, ' ',
+    nodeLink(n), h('b', {}, wordOf('lets-go')), valueText(sideOf(n.fen), n.value), lateText(late), ' ',
     better && [h('button', {class: 'chip act', onclick: () => promote(better, true)}, `Put ${better.san} first`), ' '],
     cut(n, 'Delete it')
   ];
@@ -230,12 +236,12 @@ function timeView(s, root) {
     rest.length ? ['There remains: ', h('b', {}, rest.slice(0, 8).join(', ')), '.'] : 'None remains.');
 }
 /**
- * What could be said of this position instead.
+ * What could be said of this position instead: of a try nothing, since it is to fail.
  * @param {Study} s
  */
 function adviceView(s) {
   const view = app.view;
-  if (!view || !s.aim) return null;
+  if (!view || !s.aim || isBeside(s)) return null;
   const duals = app.review !== null && app.review.faults.some(f => f.kind === 'dual');
   const offers = otherAims(s.aim, view.verdict, sideOf(view.fen), view.root.value, duals);
   return offers.length > 0 && h('p', {class: 'act'}, 'Say instead: ', offers.map(words => [aimButton(words), ' ']));

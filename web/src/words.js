@@ -88,13 +88,18 @@ export function numberedLine(fen, sans) {
     .join(' ');
 }
 
+/** What the printed page says of a part of a game beside its solution. */
+const REFUTED = 'This line is a try, and it is refuted.',
+      SECOND = 'This line is a try, and it works: it is a second solution.';
 /**
  * The verdict and the value of the start: the sentences of the core.
  * @param {import('./types.js').View} view
  * @param {string} kind      of the stamp
+ * @param {boolean} [beside]      whether the study is a part of a game beside its solution
  */
-export function verdictSentence(view, kind) {
-  return kind === 'not read' ? `${wordOf('unread-sentence')} ${atStart(view.start)}.` : view.sentence;
+export function verdictSentence(view, kind, beside = false) {
+  const own = kind === 'not read' ? wordOf('unread-sentence') : beside ? (kind === 'refuted' ? REFUTED : SECOND) : '';
+  return own ? `${own} ${atStart(view.start)}.` : view.sentence;
 }
 /** @param {{mark: string}} move */
 export const markSign = ({mark}) => (mark === 'only' ? '!' : mark === 'mistake' ? '?' : '');
@@ -150,6 +155,11 @@ export function difference(aim, played, value) {
 export const lateBy = (aim, n) => (aim.goal === 'mate' && winner(sideOf(n.fen), n.value) === aim.hero
     ? Math.ceil((n.path.split('.').length + n.value.n) / 2) - aim.k
     : 0);
+/**
+ * `, one move too late`, `, 2 moves too late`
+ * @param {number} late
+ */
+export const lateText = late => (late > 0 ? `, ${late === 1 ? 'one move' : `${late} moves`} too late` : '');
 /**
  * What could be said of the position instead, by its value alone: words of stipulations.
  * @param {Aim} aim
