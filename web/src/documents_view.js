@@ -140,6 +140,7 @@ function wholeList(all) {
       one => [tickView(one, all), nameView(one, all), one.verdict || '–', when(one.time), actionsView(one, all)])
   ];
 }
+const UNKEPT = 'This browser keeps nothing for this page: save each script as a file.';
 /** The list over the page, by its button in the bar. */
 export function showDocuments() {
   if ($('documents').hidden) return;
@@ -152,7 +153,8 @@ export function showDocuments() {
     'Each script that was begun or opened, as this browser keeps it, with its undo. Save as a file what is to last.');
   const back = () => h('p', {}, button('All documents', 'back to the list', end, {id: 'endComparing'}));
   put('documents', panelHead(comparing ? 'Two versions' : 'Documents', close, 'closeDocuments'),
-    comparing ? [back(), comparingView()] : [note, all.length ? wholeList(all) : h('p', {}, 'None yet.')]);
+    comparing ? [back(), comparingView()]
+              : [note, all.length ? wholeList(all) : h('p', {}, $('unkept').hidden ? 'None yet.' : UNKEPT)]);
 }
 export async function openDocuments() {
   const panel = $('documents');

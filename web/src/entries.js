@@ -1,8 +1,8 @@
 // @ts-check
 // The entries of a script, one a row: its studies with what is said of them, and those that were left out.
 import {isKnown} from './edits.js';
-import {control, sideOf} from './fen.js';
-import {byWeight, faultKind, faultText} from './fault_kinds.js';
+import {control} from './fen.js';
+import {byWeight, faultText, kindsIn} from './fault_kinds.js';
 import {mostGames, originalsIn, sourceText} from './imported.js';
 import {leftOutBy, whyLeftOut} from './left_out.js';
 import {positionsReached, reachedText, samePositions, sameText} from './same_positions.js';
@@ -205,13 +205,13 @@ function listedAim(s) {
  */
 function faultsOf(doc, s, review) {
   if (!review || !review.faults || !review.faults.length || !s.aim) return {fault: '', faults: []};
-  const accepted = new Set(acceptedOf(doc, s, review.faults)), begins = sideOf(s.fen) === s.aim.hero,
-        left = byWeight(review.faults.filter(({path}) => !accepted.has(path)), begins);
+  const accepted = new Set(acceptedOf(doc, s, review.faults)), tree = () => bareTree(doc.lines.slice(s.from, s.end)),
+        kinds = kindsIn(review, tree), left = byWeight(review.faults.filter(({path}) => !accepted.has(path)), kinds);
   return {
-    fault: accepted.size && left.length ? faultText(left[0], review, s.fen, bareTree(doc.lines.slice(s.from, s.end)))
+    fault: accepted.size && left.length ? faultText(left[0], review, s.fen, tree())
       : left.length                     ? review.worst
                                         : '',
-    faults: [...new Set(left.map(fault => faultKind(fault, begins)))]
+    faults: [...new Set(left.map(({path}) => kinds.get(path) || ''))]
   };
 }
 /**

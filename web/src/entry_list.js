@@ -17,7 +17,7 @@ const KIND_WORDS = /** @type {Record<string, () => string>} */ ({
   mistake: () => 'whose own move fails',
   correct: () => wordOf('correct')
 });
-/** @typedef {{kind: string, against?: string[], same?: string, faults?: string[]}} Kinds */
+/** @typedef {{kind: string, against?: string[], same?: string, faults?: string[], stamp?: string}} Kinds */
 /**
  * What entries are filtered by besides their verdict, with the words behind a number.
  * @typedef {{kind: string, words: string, is: (entry: Kinds) => boolean}} More
@@ -25,6 +25,11 @@ const KIND_WORDS = /** @type {Record<string, () => string>} */ ({
 const MORE = /** @type {More[]} */ ([
   ...FAULT_KINDS.filter(([kind]) => kind !== 'fails').map(([kind,
     words]) => ({kind, words, is: (/** @type {Kinds} */ {faults = []}) => faults.includes(kind)})),
+  {
+    kind: 'defence',
+    words: 'with a main defence not given',
+    is: ({stamp = ''}) => /; main defence .* not given$/.test(stamp)
+  },
   {kind: 'differ', words: 'whose sources differ', is: ({against = []}) => against.length > 0},
   {kind: 'same', words: 'with the position of another', is: ({same = ''}) => same !== ''}
 ]);

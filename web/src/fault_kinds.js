@@ -9,22 +9,45 @@ import {wordOf} from './wording.js';
 /** Each kind with its words behind a number. */
 export const FAULT_KINDS = /** @type {[string, string][]} */ ([
   ['fails', 'whose own move fails'], ['cook', 'with another first move'], ['main', 'with a dual in the main line'],
-  ['side', 'with a dual in a variation'], ['waste', 'where a dual only wastes time']
+  ['side', 'with a dual in a variation'], ['last', 'with a dual in a last move'],
+  ['waste', 'where a dual only wastes time']
 ]);
 /** @param {string} path */
 export const isMain = path => /^0(\.0)*$/.test(path);
 /**
- * The kind of a fault: the author's move fails, a dual only wastes time, or other moves work at the first move, in the
- * main line or in a variation.
- * @param {Fault} fault
- * @param {boolean} begins      whether the hero moves first
+ * Whether the hero makes no more moves after the one that leads to a node.
+ * @param {Node} root
+ * @param {string} path
  */
-export function faultKind({path, kind, duals, time}, begins) {
+function isLast(root, path) {
+  const node = nodeAt(/** @type {any} */ (root), path);
+  return node !== null && node.children.every(({children}) => !children.length);
+}
+/**
+ * The kind of a fault: the author's move fails, a dual only wastes time, or other moves work at the first move, at a
+ * last one, in the main line or in a variation.
+ * @param {Fault} fault
+ * @param {Node} [root]      the tree, to know last moves
+ */
+export function faultKind({path, kind, duals, time}, root) {
   if (kind === 'mistake') return 'fails';
   if (duals > 0 && time === duals) return 'waste';
-  if (!isMain(path)) return 'side';
-  return path === (begins ? '0' : '0.0') ? 'cook' : 'main';
+  if (path.split('.').length < 3) return 'cook';
+  if (root && isLast(root, path)) return 'last';
+  return isMain(path) ? 'main' : 'side';
 }
+/**
+ * The kinds of all faults of a study, by the paths of these.
+ * @param {Review} review
+ * @param {() => Node} root
+ */
+export function kindsIn(review, root) {
+  const known = kinds.get(review), tree = known || !review.faults.length ? undefined : root(),
+        map = known || new Map(review.faults.map(fault => [fault.path, faultKind(fault, tree)]));
+  if (!known) kinds.set(review, map);
+  return map;
+}
+const kinds = /** @type {WeakMap<Review, Map<string, string>>} */ (new WeakMap());
 /**
  * A move by its number, from the place of its node.
  * @param {string} fen
@@ -58,16 +81,16 @@ export function faultText(fault, review, fen, root) {
   const name = numbered(fen, fault.path, fault.san), after = variation(fen, fault.path, root),
         also = review.also.filter(({path}) => path === fault.path).map(({san}) => san);
   const list = also.slice(0, 3).join(', ') + (also.length > 3 ? ' ..' : ''),
-        waste = faultKind(fault, true) === 'waste' ? wordOf('loses-time') : '';
+        waste = faultKind(fault) === 'waste' ? wordOf('loses-time') : '';
   const what = fault.kind === 'mistake' ? wordOf('lets-go').replace(/[ :]*$/, '') : list && `: also ${list}${waste}`;
   return name + what + (after && ` (${after})`);
 }
 /**
  * The worst fault first: a move that fails, then by kind, the main line first.
  * @param {Fault[]} faults
- * @param {boolean} begins
+ * @param {Map<string, string>} kinds      by path
  */
-export function byWeight(faults, begins) {
-  const weight = (/** @type {Fault} */ fault) => FAULT_KINDS.findIndex(([kind]) => kind === faultKind(fault, begins));
+export function byWeight(faults, kinds) {
+  const weight = (/** @type {Fault} */ {path}) => FAULT_KINDS.findIndex(([kind]) => kind === kinds.get(path));
   return [...faults].sort((x, y) => weight(x) - weight(y));
 }

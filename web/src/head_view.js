@@ -22,8 +22,9 @@ const LABELS =
 /** @param {string} where */
 export const messageAt = where => app.say && app.say.where === where &&
   h('p', app.say.good ? {class: 'say good'} : {class: 'say', role: 'alert'}, app.say.text);
+/** The document whose tags are open for writing. */
 const open = {
-  tags: false
+  tags: ''
 };
 
 /** @param {Study} s */
@@ -47,9 +48,9 @@ export function headView(s) {
     s.place.Date !== undefined && dateNote(t.Date), lettersNote(s), messageAt('head'),
     h('details', {
       id: 'tags',
-      open: open.tags,
+      open: open.tags !== '' && open.tags === doc().id,
       ontoggle: (/** @type {any} */ e) => {
-        open.tags = e.target.open;
+        open.tags = e.target.open ? doc().id : '';
       }
     },
       h('summary', {}, 'Title, author, source'),

@@ -36,6 +36,13 @@ const KEYS = {
 /** Of a set-up that is open the men that were put down, else the document. */
 export const back = () => (app.setup ? stepDraft(true) : undo());
 export const forth = () => (app.setup ? stepDraft(false) : redo());
+/** Closes the menu of what is saved; whether it was open. */
+export function closeMenu() {
+  const menu = $('saveMenu'), was = menu.open;
+  if (was && menu.contains(document.activeElement)) menu.firstElementChild.focus();
+  menu.open = false;
+  return was;
+}
 /**
  * In a field Escape leaves it, and what was typed and not taken yet is dropped.
  * @param {KeyboardEvent} e
@@ -67,7 +74,7 @@ function onEscape() {
 /** @param {KeyboardEvent} e */
 function onKey(e) {
   const target = /** @type {Element} */ (e.target), ctrl = e.ctrlKey || e.metaKey, n = node();
-  if (e.key === 'Escape' && (close() || closeFinding() || closeEarlier())) return;
+  if (e.key === 'Escape' && (closeMenu() || close() || closeFinding() || closeEarlier())) return;
   // The field for moves is empty after its moves were taken: Ctrl-Z there means them.
   const taken = ctrl && target.id === 'san' && !(/** @type {HTMLInputElement} */ (target).value);
   if (!taken && /INPUT|TEXTAREA|SELECT/.test(target.tagName)) return inField(e, target);

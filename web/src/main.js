@@ -4,7 +4,7 @@ import {$, download, onDocument} from './dom.js';
 import {makeApi} from './api.js';
 import {arrive, track, goStudy, judgeAgain, work} from './actions.js';
 import {learnWords} from './answer_cache.js';
-import {PAGES, app, doc, services, say, study} from './state.js';
+import {app, doc, services, say, study} from './state.js';
 import {showBoard} from './board.js';
 import {listen} from './board_input.js';
 import {firstDocument, holdLock, keep, local} from './documents.js';
@@ -13,10 +13,11 @@ import {listenToDoors, openHash} from './doors.js';
 import {close as closeEarlier} from './earlier_view.js';
 import {close as closeFinding, openFinding, startFinding} from './finding_view.js';
 import {makeCore} from './engine.js';
-import {back, forth, listenToKeys} from './keys.js';
+import {back, closeMenu, forth, listenToKeys} from './keys.js';
+import {saveReport} from './reporting.js';
 import {savedGames} from './saved_games.js';
 import {unreadIn} from './stamps.js';
-import {fensOf, reportedLines, toText, savedScript} from './script.js';
+import {fensOf, savedScript} from './script.js';
 import {begin, judgeDraft, openSetup} from './setup.js';
 import {bytesOf} from './packed.js';
 import {clearPaper, layOut} from './paper.js';
@@ -26,8 +27,7 @@ import {showLeftOut} from './list_view.js';
 import {show, showFacts, showJudged, showProgress, watch} from './show.js';
 import {makeStore} from './store.js';
 import {openFile} from './opening.js';
-import {counted, grouped, reason} from './words.js';
-import {refusalIn} from './parse_answers.js';
+import {counted, grouped} from './words.js';
 
 // ---- the module; it stands after this script, so that tables are read while it comes
 const whole = new Promise(on => onDocument('DOMContentLoaded', on));
@@ -65,11 +65,16 @@ services.show = show;
 services.showFacts = showFacts;
 services.showJudged = showJudged;
 services.keep = keep;
-services.reading = (done, of, what = 'Reading game') => {
-  const text = `${what} ${grouped(done)} of ${grouped(of)}`, ours = app.progress && app.progress.reading;
-  if (done < of) app.progress = {text, done, of, reading: true};
-  else if (ours) app.progress = null;
+/** @param {import('./tables.js').Progress | null} p      beside builds it is not shown */
+const showReading = p => {
+  const ours = app.progress && app.progress.reading;
+  if (p || ours) app.progress = p;
   showProgress();
+};
+services.telling = text => showReading(text ? {text, done: 0, of: 0, reading: true} : null);
+services.reading = (done, of, what = 'Reading game') => {
+  const text = `${what} ${grouped(done)} of ${grouped(of)}`;
+  showReading(done < of ? {text, done, of, reading: true} : null);
 };
 
 // ---- files
@@ -123,7 +128,9 @@ onDocument('pointerdown', e => {
   if (!within('#documents, #documentsButton')) close();
   if (!within('#finding, #findButton')) closeFinding();
   if (!within('#earlier, #beginEarlier')) closeEarlier();
+  if (!within('#saveMenu')) closeMenu();
 });
+on('saveMenu', e => e.target.closest('button') && closeMenu());
 on('openTables', () => $('tableFiles').click());
 on('saveTables', saveTables);
 on('saveScript', () => work(async () => {
@@ -150,19 +157,9 @@ on('savePlain', () => {
 addEventListener('beforeprint', layOut);
 addEventListener('afterprint', clearPaper);
 on('print', () => window.print());
-/** The printed pages of all studies. */
-const saveReport = () => work(async () => {
-  const {lines} = doc();
-  await services.tables.loadFor(fensOf(lines), services.facts);
-  const answer = await services.facts.answer('report', toText(reportedLines(doc())), PAGES);
-  if (answer.ended === 'done') {
-    download(fileName('.html'), answer.text);
-    return sayUnread('without a verdict');
-  }
-  say('board', `No report: ${reason(refusalIn(answer))}.`);
-  show();
-});
-on('saveReport', saveReport);
+on('saveReport', () => track((async () => {
+  if (await saveReport(fileName('.html'))) sayUnread('without a verdict');
+})()));
 on('undo', back);
 on('redo', forth);
 on('stop', () => services.tables.stop());

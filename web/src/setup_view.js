@@ -120,10 +120,14 @@ function passedView(d) {
       ['-', ...d.passed].map(
         square => h('option', {value: square, selected: square === now}, square === '-' ? 'no square' : square))));
 }
+const MOST = 4,
+      MANY = 'More than four men: take one away, or begin where four are left. Of a PGN with more men ' +
+  'each part that begins with at most four is a study.';
 /** @param {Draft} d */
 export function judgedText({judged, men, waits}) {
   if (!Object.keys(men).length) return 'Put the men on the board.';
   if (!judged) return waits.length ? `Building its tables: ${waits.join(' ')} …` : '…';
+  if (Object.keys(men).length > MOST) return MANY;
   if (judged.bad) return `Not a position yet: ${judged.bad}.`;
   const {lacking} = judged;
   return lacking.length ? `Its tables are not there yet: ${lacking.join(' ')} (${services.tables.estimate(lacking)}).`

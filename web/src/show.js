@@ -208,8 +208,9 @@ export function showProgress() {
   $('progress').hidden = !p;
   if (!p) return;
   $('progressText').textContent = p.text;
-  $('progressBar').max = p.of;
-  $('progressBar').value = p.done;
+  $('progressBar').max = p.of || 1;
+  if (p.of) $('progressBar').value = p.done;
+  else $('progressBar').removeAttribute('value');
   $('stop').hidden = Boolean(p.reading);
 }
 function welcomeView() {
@@ -224,8 +225,8 @@ function welcomeView() {
     h('p', {class: 'row'},
       button('Show a sample: king and pawn', 'its tables are built in a few seconds', sample(PAWN),
         {id: 'sample', class: 'main'}),
-      button('Saavedra, 1895 (builds tables for about a minute)', 'eleven tables are built first', sample(SAAVEDRA),
-        {id: 'sample2'})),
+      button('Saavedra, 1895 (eleven tables, built once in about a minute)', 'this browser keeps them then',
+        sample(SAAVEDRA), {id: 'sample2'})),
     keptList,
     h('p', {class: 'note keys'},
       'Keys: ← → ↑ ↓ Home End walk the tree, Delete takes a move away, Ctrl-Z and Ctrl-Y undo and redo, f turns ' +

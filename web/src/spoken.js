@@ -48,7 +48,7 @@ export function speakDraft() {
 /** What is under way, once; what came in; and that the browser keeps nothing. */
 export function speakState() {
   const p = app.progress, unkept = $('unkept');
-  hearNew('progress', p ? (p.reading ? 'The games are being read' : 'Tables are being built') : '');
+  hearNew('progress', p ? (!p.reading ? 'Tables are being built' : p.of ? 'The games are being read' : p.text) : '');
   hearNew('import', $('import').textContent);
   hearNew('unkept', unkept.hidden ? '' : unkept.textContent);
   hearNew('said', app.say && app.say.good ? app.say.text : '');

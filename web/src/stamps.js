@@ -84,7 +84,7 @@ const missesText = aim => wordOf('misses').replace('win', aim.goal === 'mate' ? 
  * @returns {{kind: string, text: string}}
  */
 export function faultyStamp({faults, stamp}) {
-  const kinds = faults.map(fault => faultKind(fault, true));
+  const kinds = faults.map(fault => faultKind(fault));
   return {
     kind: kinds.includes('fails')             ? 'mistake'
       : kinds.every(kind => kind === 'waste') ? 'time'

@@ -40,16 +40,20 @@ const [first] = judged(LINES).studies, root = bareTree(LINES.slice(0, first.end)
 
 test('kinds of faults, and the worst one in words', () => {
   const [row] = entriesOf(judged(LINES), [REVIEW]);
-  assert.deepEqual([row.faults, row.fault], [['main', 'waste'], '2. Kf6: also Kf7']);
-  assert.deepEqual(countsOf([row]), [['duals', 1], ['main', 1], ['waste', 1], ['same', 1]]);
-  const fault = (path, kind, duals = 1, time = 0) => faultKind({path, kind, duals, time}, true);
+  assert.deepEqual([row.faults, row.fault], [['last', 'waste'], '2. Kf6: also Kf7']);
+  assert.deepEqual(countsOf([row]), [['duals', 1], ['last', 1], ['waste', 1], ['same', 1]]);
+  const fault = (path, kind, duals = 1, time = 0) => faultKind({path, kind, duals, time});
   assert.deepEqual(
     [
       fault('0', 'mistake'), fault('0', 'dual'), fault('0.0.0', 'dual'), fault('0.1.0', 'dual'),
       fault('0', 'dual', 2, 2)
     ],
     ['fails', 'cook', 'main', 'side', 'waste']);
-  assert.equal(faultKind({path: '0.0', kind: 'dual', duals: 1, time: 0}, false), 'cook');
+  assert.deepEqual([fault('0.0', 'dual'), fault('1.0', 'dual')], ['cook', 'cook']);
+  const node = (path, ...children) => ({path, san: '', children}),
+        tree = node('root', node('0', node('0.0', node('0.0.0', node('0.0.0.0', node('0.0.0.0.0', node('..')))))));
+  assert.deepEqual(
+    ['0.0.0', '0.0.0.0.0'].map(path => faultKind({path, kind: 'dual', duals: 1, time: 0}, tree)), ['main', 'last']);
 });
 test('a dual that is accepted is kept as a remark, and said', () => {
   let d = judged(LINES);

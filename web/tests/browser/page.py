@@ -483,7 +483,7 @@ def test_report(user):
     tags.feed(answer)
     assert tags.count("article") >= 1 and tags.count("script") == 0
     assert '<span class="stamp sound">sound</span>' in answer
-    assert user.by("saveReport").is_displayed()
+    assert user.by("saveMenu").is_displayed() and not user.by("saveReport").is_displayed()
 
 
 def test_no_request_is_made(user):

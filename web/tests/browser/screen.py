@@ -254,7 +254,7 @@ def test_colours_and_paper(user):
     user.js("dispatchEvent(new Event('beforeprint'))")
     rows = colours(user)
     assert rows and all(contrast(text, "rgb(255, 255, 255)") > 4.5 for text, _, _ in rows), rows
-    assert not any(user.by(name).is_displayed() for name in ("saveReport", "nav", "stamp", "value"))
+    assert not any(user.by(name).is_displayed() for name in ("saveMenu", "nav", "stamp", "value"))
     assert user.d.find_element(By.CSS_SELECTOR, "#paper .stamp").is_displayed()
     user.picture("print_from_dark")
 

@@ -132,6 +132,9 @@ class User:
         return bool(self.d.find_elements(By.ID, name))
 
     def click(self, name):
+        """A press on a button; the menu that it stands in is opened first."""
+        if self.js("return Boolean(document.getElementById(arguments[0]).closest('.menu:not([open])'))", name):
+            self.press_on("#saveMenu > summary")
         self.js("document.getElementById(arguments[0]).scrollIntoView({block: 'nearest'})", name)
         self.press_on("#" + name)
 
