@@ -115,7 +115,9 @@ def compose(user, pictures):
 
     user.d.find_element(By.CSS_SELECTOR, "#tags summary").click()
     user.size(*NARROW)
+    user.d.find_element(By.CSS_SELECTOR, "#saveMenu summary").click()
     pictures.take("docs/pictures/6_save.png", [".bar", "#left", "#middle"], ["#right"])
+    user.d.find_element(By.CSS_SELECTOR, "#saveMenu summary").click()
     user.size(*SIZE)
     return report
 

@@ -79,6 +79,10 @@ def test_a_game_with_more_men_has_its_tails(user):
         assert line in lines, lines
     user.js("document.querySelectorAll('#list tbody tr')[1].querySelector('a, button').click()")
     user.until("(document.getElementById('tail') || {innerText: ''}).innerText.includes('beside the solution')", 20)
+    user.until("studyboard.last().reviewed", 60)
+    words = "This line is a try, and it works: it is a second solution. At the start: White mates in"
+    assert words in user.text("verdict"), user.text("verdict")
+    assert "stipulation is wrong" not in user.text("middle") and "Say instead" not in user.text("middle")
 
 
 def test_ten_entries_are_ten_rows(user):

@@ -85,6 +85,30 @@ def test_paper(user):
     assert user.text("middle") == before and not user.js("return document.getElementById('paper').children.length")
 
 
+def test_tries_on_paper(user):
+    """A try has on paper what the saved report says of it: how many of the legal replies refute it; so on the screen."""
+    user.open_tables(TABLES, SMALL)
+    moves = "1. Kg3 (1. b4 Kf6) Kf5"
+    user.open_file("try.pgn", GAME.format(event="One", author="A", fen=FEN, result="1-0", moves=moves))
+    user.until("document.getElementById('tries')", 60)
+    user.settle()
+    shown = user.text("tries")
+    count = re.search(r"\((\d+) of (\d+)\)", shown)
+    assert count and int(count[1]) < int(count[2]), shown
+    assert "in all" not in shown
+    user.js("dispatchEvent(new Event('beforeprint'))")
+    paper = user.js(
+        "return [...document.querySelectorAll('#paper tr')].filter(r => r.textContent.includes('1. b4'))"
+        ".map(r => [...r.cells].map(c => c.textContent.replace(/\\s+/g, ' ').trim()))")
+    user.js("dispatchEvent(new Event('afterprint'))")
+    report = user.promise("studyboard.report(studyboard.script() + 'pgn\\n')")
+    rows = user.js(
+        "const p = new DOMParser().parseFromString(arguments[0], 'text/html');"
+        "return [...p.querySelectorAll('tr')].filter(r => r.textContent.includes('1. b4'))"
+        ".map(r => [...r.cells].map(c => c.textContent.replace(/\\s+/g, ' ').trim()))", report)
+    assert paper[0] == rows[0] and count[0] in rows[0][2], (paper, rows)
+
+
 def test_words(user):
     """The comments and signs of a PGN are shown; others are written at a node and above the study, and saved."""
     opened(user)
@@ -114,6 +138,7 @@ def test_the_list(user):
     """It sorts by each column, finds names, filters by kinds of faults, and says which have the same position."""
     opened(user)
     assert user.js(ROWS) == ["One", "Two", "Three", "Four"]
+    assert user.js("return document.querySelector('.bar').offsetHeight") < 50  # one row of buttons
     sort = "#list [data-sort='{}']"
     for column, names in (("title", ["Four", "One", "Three", "Two"]), ("author", ["Two", "Three", "Four", "One"])):
         user.press_on(sort.format(column))

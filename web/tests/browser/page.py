@@ -486,6 +486,17 @@ def test_report(user):
     assert user.by("saveMenu").is_displayed() and not user.by("saveReport").is_displayed()
 
 
+def test_a_report_waits_for_its_tables(user):
+    """Where tables lack, the report says so and is saved once they are built, with the pages of all studies."""
+    lines = "position k7/8/1K6/8/8/8/8/2R5 w - - 0 1\nstipulate white mate 1\ninsert root Rc8#\n"
+    user.open_file("mate.script", lines)
+    user.until("document.getElementById('head').innerText.includes('Untitled')")
+    name, text = user.download("saveReport")
+    assert name == "mate.html" and '<span class="stamp sound">sound</span>' in text, text[-2000:]
+    user.until("document.getElementById('progress').hidden")
+    assert "waits for" not in user.text("sayBoard")
+
+
 def test_no_request_is_made(user):
     sample(user)
     assert not user.requests()
