@@ -125,8 +125,9 @@ function missingView(s, n, list) {
         more =
           h('button', {class: 'chip act more', onclick: () => more.replaceWith(...rest.flatMap(d => view(d)).flat())},
             `and ${rest.length} more`);
+  const given = n.children.length, answered = `answers ${given} of ${given + list.length}`;
   return [
-    nodeLink(n), n.children.map(c => c.san).join(' ') || '–',
+    [nodeLink(n), h('br', {}), h('small', {}, answered)], n.children.map(c => c.san).join(' ') || '–',
     [...sorted.slice(0, FIRST).map(view), rest.length > 0 && more]
   ];
 }

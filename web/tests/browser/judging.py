@@ -86,7 +86,7 @@ def test_paper(user):
 
 
 def test_tries_on_paper(user):
-    """A try has on paper what the saved report says of it: how many of the legal replies refute it; so on the screen."""
+    """A try has on paper what the saved report says of it: how many of the legal replies refute it."""
     user.open_tables(TABLES, SMALL)
     moves = "1. Kg3 (1. b4 Kf6) Kf5"
     user.open_file("try.pgn", GAME.format(event="One", author="A", fen=FEN, result="1-0", moves=moves))
