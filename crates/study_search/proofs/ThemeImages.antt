@@ -30,7 +30,7 @@ use Rattle.study_search.specs.declared.themes.Theme.{Theme}
 use Rattle.study_search.specs.declared.themes.Theme.TheVariants as theme
 use Rattle.study_zugzwang.specs.Zugzwang.{IsZugzwang, Scores, handed_on}
 use Rattle.study_search.specs.OnlyMoves.{Has, Holds, IsOnlyMove, IsKey, HasOnlyMoves}
-use Rattle.study_search.specs.Themes.{Underpromotes, LeadsIntoZugzwang, spoiling_outcome, FailsIntoZugzwang, HasTheme}
+use Rattle.study_search.specs.Themes.{Underpromotes, LeadsIntoZugzwang, spoiling_outcome, IsZugzwangOf, FailsIntoZugzwang, HasTheme}
 
 module _ (s : Symmetry) (p : Position) (t : IsTurnable s p) where
   won-image : (k : ℕ) → IsWon p k → IsWon (image s p) k
@@ -120,6 +120,17 @@ zugzwang-after : (s : Symmetry) (p : Position) → IsTurnable s p → (m : Move)
 zugzwang-after s p t m l z =
     subst (λ (q : Position). IsZugzwang q) (sym (after-turned s p t m l)) (zugzwang-image s (after p m) (IsTurnable-after s p t m l) z)
 
+-- the hero's
+of-image : (o : Outcome) (s : Symmetry) (p : Position) → IsTurnable s p → IsZugzwangOf o p → IsZugzwangOf o (image s p)
+of-image o s p t z =
+    let u : IsTurnable s (handed_on p) = record { seats = t.seats; ordered = t.ordered; passed = tt } in
+    (zugzwang-image s p t z.0, subst (Holds o) (sym (handed-image s p)) (Holds-image o s (handed_on p) u z.1))
+
+of-after : (o : Outcome) (s : Symmetry) (p : Position) → IsTurnable s p → (m : Move) → IsLegal p m → IsZugzwangOf o (after p m)
+    → IsZugzwangOf o (after (image s p) (image_move s m))
+of-after o s p t m l z =
+    subst (λ (q : Position). IsZugzwangOf o q) (sym (after-turned s p t m l)) (of-image o s (after p m) (IsTurnable-after s p t m l) z)
+
 -- ---- only moves
 
 only-image : (o : Outcome) (s : Symmetry) (p : Position) → IsTurnable s p → (m : Move) → IsOnlyMove o p m → IsOnlyMove o (image s p) (image_move s m)
@@ -170,7 +181,7 @@ module _ (s : Symmetry) (p : Position) (t : IsTurnable s p) where
   into-image o u = (image_move s u.0, key-image o s p t u.0 u.1, zugzwang-after s p t u.0 u.1.1.legal u.2)
 
   fails-image : (o : Outcome) → FailsIntoZugzwang o p → FailsIntoZugzwang o (image s p)
-  fails-image o u = (image_move s u.0, only-image (spoiling_outcome o) s p t u.0 u.1, zugzwang-after s p t u.0 u.1.legal u.2)
+  fails-image o u = (image_move s u.0, only-image (spoiling_outcome o) s p t u.0 u.1, of-after o s p t u.0 u.1.legal u.2)
 
 pub theme-image : (x : Theme) (s : Symmetry) (p : Position) → IsTurnable s p → HasTheme x p → HasTheme x (image s p)
 theme-image theme.Zugzwang s p t h = zugzwang-image s p t h

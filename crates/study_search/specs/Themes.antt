@@ -10,8 +10,8 @@ use Rattle.study_search.specs.declared.only_moves.Outcome.{Outcome}
 use Rattle.study_search.specs.declared.only_moves.Outcome.TheVariants.{Win, Draw}
 use Rattle.study_search.specs.declared.themes.Theme.{Theme}
 use Rattle.study_search.specs.declared.themes.Theme.TheVariants as theme
-use Rattle.study_zugzwang.specs.Zugzwang.{IsZugzwang}
-use Rattle.study_search.specs.OnlyMoves.{IsOnlyMove, IsKey, HasOnlyMoves}
+use Rattle.study_zugzwang.specs.Zugzwang.{handed_on, IsZugzwang}
+use Rattle.study_search.specs.OnlyMoves.{Holds, IsOnlyMove, IsKey, HasOnlyMoves}
 
 -- a rook, a bishop or a knight
 abbrev pub is_less_than_a_queen : Kind → Bool
@@ -37,9 +37,13 @@ abbrev pub spoiling_outcome : Outcome → Outcome
 spoiling_outcome Win = Draw
 spoiling_outcome Draw = Win
 
--- with the opponent to move, exactly one reply spoils the outcome, and it leads to a mutual zugzwang with the hero to move
+-- a mutual zugzwang in which the hero, who is to move, would keep the outcome if the opponent were to move
+abbrev pub IsZugzwangOf : Outcome → Position → Type 0
+IsZugzwangOf o p = IsZugzwang p × Holds o (handed_on p)
+
+-- with the opponent to move, exactly one reply spoils the outcome, and only since the hero is to move after it, in a mutual zugzwang
 abbrev pub FailsIntoZugzwang : Outcome → Position → Type 0
-FailsIntoZugzwang o q = (r : Move) × IsOnlyMove (spoiling_outcome o) q r × IsZugzwang (after q r)
+FailsIntoZugzwang o q = (r : Move) × IsOnlyMove (spoiling_outcome o) q r × IsZugzwangOf o (after q r)
 
 abbrev pub HasTheme : Theme → Position → Type 0
 HasTheme theme.Zugzwang p = IsZugzwang p

@@ -64,7 +64,11 @@ pub(crate) fn has<V: Values>(
 }
 
 /// Whether the move that led here keeps the outcome.
-fn holds<V: Values>(q: &Position, outcome: Outcome, values: &mut V) -> Result<bool, ProbeFault>
+pub(crate) fn holds<V: Values>(
+    q: &Position,
+    outcome: Outcome,
+    values: &mut V,
+) -> Result<bool, ProbeFault>
     ensures game { V.source.is_honest values.old
         → IfOk result (λ b. (b ≡ true) ↔ Holds outcome q.now) }
     ensures faults { IfErr result (CanReport V.source (NeedsClass q.now) values.old) }

@@ -9,11 +9,12 @@ ghost use Rattle.study_zugzwang.specs.Zugzwang.{IsZugzwang};
 ghost use Rattle.study_material.specs.Needs.{NeedsClass};
 ghost use Rattle.study_search.specs.Faults.{CanReport, HasSameTables};
 ghost use Rattle.study_search.specs.Listed.{SomeLeads};
-ghost use Rattle.study_search.specs.Themes.{is_underpromoted, Underpromotes, LeadsIntoZugzwang, spoiling_outcome, FailsIntoZugzwang, HasTheme};
+ghost use Rattle.study_search.specs.Themes.{is_underpromoted, Underpromotes, LeadsIntoZugzwang, spoiling_outcome, HasTheme};
+ghost use Rattle.study_search.specs.Themes.{IsZugzwangOf, FailsIntoZugzwang};
 
 use crate::longest::mate_of;
 use crate::only_moves::{Outcome, has_only_moves, key_move, only_move};
-use crate::zugzwang::is_zugzwang;
+use crate::zugzwang::{is_zugzwang, is_zugzwang_of};
 use study_board::{Kind, Position};
 use study_moves::{Move, legal_moves, played};
 use study_values::{ProbeFault, Values};
@@ -29,7 +30,7 @@ pub enum Theme {
     Underpromotion,
     /// The hero has the outcome, exactly one move keeps it, and it leads to a mutual zugzwang.
     IntoZugzwang(Outcome),
-    /// The same, and another move fails to exactly one reply, which leads to a mutual zugzwang with the hero to move.
+    /// The same, and another move fails to exactly one reply, only since the hero is to move after it, in a mutual zugzwang.
     ZugzwangTry(Outcome),
     /// The hero mates in so many plies, and not in fewer.
     MateIn(u8),
@@ -144,7 +145,27 @@ fn spoiling_outcome(outcome: Outcome) -> Outcome
     }
 }
 
-/// Whether the opponent, who is to move, has exactly one reply that spoils the outcome, and it leads to a mutual zugzwang.
+/// Whether the move leads to a mutual zugzwang in which the hero, who is then to move, would keep the outcome if the opponent were to move.
+fn leads_to_zugzwang_of<V: Values>(
+    p: &Position,
+    m: Move,
+    outcome: Outcome,
+    values: &mut V,
+) -> Result<bool, ProbeFault>
+    requires legal { is_legal p.now m ≡ true }
+    ensures game { V.source.is_honest values.old
+        → IfOk result (λ b. (b ≡ true) ↔ IsZugzwangOf outcome (after p.now m)) }
+    ensures faults { IfErr result (CanReport V.source (NeedsClass p.now) values.old) }
+    ensures honest { V.source.is_honest values.old → V.source.is_honest values.new }
+    ensures tables { HasSameTables V.source values.old values.new }
+{
+    let _men = p.men();
+    let next = played(p, m);
+    is_zugzwang_of(&next, outcome, values)
+}
+
+/// Whether the opponent, who is to move, has exactly one reply that spoils the outcome, and only since the hero is to move after it, in a mutual
+/// zugzwang.
 fn fails_into_zugzwang<V: Values>(
     q: &Position,
     outcome: Outcome,
@@ -159,11 +180,11 @@ fn fails_into_zugzwang<V: Values>(
     match only_move(q, spoiling_outcome(outcome), values) {
         Err(fault) => Err(fault),
         Ok(None) => Ok(false),
-        Ok(Some(r)) => leads_to_zugzwang(q, r, values),
+        Ok(Some(r)) => leads_to_zugzwang_of(q, r, outcome, values),
     }
 }
 
-/// Whether one of these moves fails to exactly one reply, which leads to a mutual zugzwang with the hero to move.
+/// Whether one of these moves fails to exactly one reply, only since the hero is to move after it, in a mutual zugzwang.
 fn some_fails_into_zugzwang<V: Values>(
     p: &Position,
     outcome: Outcome,

@@ -2,16 +2,20 @@
 #![tactic(auto, using(crate::proofs::Faults::can_report, crate::proofs::Faults::if_reported))]
 
 ghost use Rattle.std.specs.Prelude.{◌≡◌, ◌<◌, ◌↔◌, true, IfOk, IfErr};
-ghost use Rattle.study_zugzwang.specs.Zugzwang.{Scores, ScoresLessThan, IsZugzwang};
+ghost use Rattle.study_board.specs.Position.{IsValid};
+ghost use Rattle.study_zugzwang.specs.Zugzwang.{Scores, ScoresLessThan, handed_on, IsZugzwang};
 ghost use Rattle.study_material.specs.Needs.{NeedsClass};
 ghost use Rattle.study_search.specs.Faults.{CanReport, HasSameTables};
 ghost use Rattle.study_search.specs.Listed.{OtherScoresLess};
+ghost use Rattle.study_search.specs.OnlyMoves.{Holds};
+ghost use Rattle.study_search.specs.Themes.{IsZugzwangOf};
 
+use crate::only_moves::{Outcome, holds};
 use crate::value::value_of;
 use study_board::Position;
 use study_moves::{has_legal_en_passant, values_are_unique};
 use study_values::{ProbeFault, Values};
-use study_zugzwang::{half_points, with_other_to_move};
+use study_zugzwang::{half_points, handed_on, with_other_to_move};
 
 /// The number of half points that the side to move scores.
 fn score<V: Values>(p: &Position, values: &mut V) -> Result<u8, ProbeFault>
@@ -76,5 +80,38 @@ pub fn is_zugzwang<V: Values>(p: &Position, values: &mut V) -> Result<bool, Prob
             }
             other_scores_less(p, 2 - points, values)
         }
+    }
+}
+
+/// Whether the hero, who is to move, would keep the outcome if the opponent were to move.
+fn holds_on<V: Values>(p: &Position, outcome: Outcome, values: &mut V) -> Result<bool, ProbeFault>
+    ensures game { V.source.is_honest values.old → IsValid (handed_on p.now)
+        → IfOk result (λ b. (b ≡ true) ↔ Holds outcome (handed_on p.now)) }
+    ensures faults { IfErr result (CanReport V.source (NeedsClass p.now) values.old) }
+    ensures honest { V.source.is_honest values.old → V.source.is_honest values.new }
+    ensures tables { HasSameTables V.source values.old values.new }
+{
+    match handed_on(p) {
+        None => Ok(false),
+        Some(q) => holds(&q, outcome, values),
+    }
+}
+
+/// Whether the position is a mutual zugzwang in which the hero, who is to move, would keep the outcome if the opponent were to move.
+pub(crate) fn is_zugzwang_of<V: Values>(
+    p: &Position,
+    outcome: Outcome,
+    values: &mut V,
+) -> Result<bool, ProbeFault>
+    ensures game { V.source.is_honest values.old
+        → IfOk result (λ b. (b ≡ true) ↔ IsZugzwangOf outcome p.now) }
+    ensures faults { IfErr result (CanReport V.source (NeedsClass p.now) values.old) }
+    ensures honest { V.source.is_honest values.old → V.source.is_honest values.new }
+    ensures tables { HasSameTables V.source values.old values.new }
+{
+    match is_zugzwang(p, values) {
+        Err(fault) => Err(fault),
+        Ok(false) => Ok(false),
+        Ok(true) => holds_on(p, outcome, values),
     }
 }

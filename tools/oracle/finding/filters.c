@@ -1,12 +1,14 @@
-// Counts positions by the filters of studymine, and writes studies with their rows of only moves, from tables of wins, draws and losses of its own. It
-// shares no code with the repository.
+// Counts positions by the filters of studymine, and writes studies with their rows of only moves, from tables of wins, draws and losses of its own, or
+// from cells that tools/speed/fast.rs wrote to a folder: `./filters CELLS/ tries KPKP`. It shares no code with the repository.
 //
 //   cc -O2 -o filters filters.c
 //   ./filters counts KRKP KPKP KQKP          a line each: the class, the theme and its filters, and how many there are
 //   ./filters rows KRKP win 8                the studies with eight only moves in a row or more, a line each, in no order
+//   ./filters tries KPPK KPKP                how many have a zugzwang try; how many would have one if any zugzwang counted; and those that differ
+//   ./filters within KRKP 3                  how many have one, two, three only moves in a row, and one of them of each kind
 //
-// A class has three men, or four with one more man a side at most, and a pawn; White has the men named first. A pawn's class takes 17 MB for each class
-// that its moves lead to.
+// A class has three men, or four with a pawn, for `counts` and `rows` with one more man a side at most; White has the men named first. A pawn's class takes
+// 17 MB for each class that its moves lead to.
 #include <stdint.h>
 #include <stdio.h>
 #include <stdlib.h>
@@ -297,10 +299,59 @@ static void put_before(const Pos *p, const Table *t) {
     }
 }
 
+static const char *cells_from;
+
+// The file of a class: both kings, then its men in this order, a byte for each side to move and placement; one image of each is there.
+// With pawns on both sides the positions in which a capture en passant is legal follow, which are not needed.
+static void read_cells(Table *t) {
+    char name[512], men[16] = "K";
+    int like = t->n == 4 && t->side[0] == t->side[1] && t->kind[0] == t->kind[1], pawns = 0;
+    for (int i = 0; i < t->n - 2; i++) if (!t->side[i]) strncat(men, &letters[t->kind[i]], 1);
+    strcat(men, "K");
+    for (int i = 0; i < t->n - 2; i++) { if (t->side[i]) strncat(men, &letters[t->kind[i]], 1); pawns |= t->kind[i] == P; }
+    snprintf(name, sizeof name, "%s/%s.cells", cells_from, men);
+    FILE *f = fopen(name, "rb");
+    if (!f) { perror(name); exit(1); }
+    static const int corner[] = {0, 1, 2, 3, 9, 10, 11, 18, 19, 27};
+    size_t rest = 1, places = pawns ? 32 : 10;
+    for (int j = 1; j < t->n; j++) rest *= 64;
+    memset(t->cells, INVALID, size_of(t->n));
+    size_t all = 2 * places * rest;
+    uint8_t *read = malloc(all);
+    if (fread(read, 1, all, f) != all) { fprintf(stderr, "%s is short\n", name); exit(1); }
+    for (size_t i = 0; i < all; i++) {
+        int c = read[i], place = (int)(i / rest % places);
+        Pos p = {t->n, (int)(i / rest / places), -1, {0, 1}, {0}, {0}};
+        p.at[0] = pawns ? place / 4 * 8 + place % 4 : corner[place];
+        size_t k = i % rest;
+        for (int j = t->n - 1; j >= 1; j--) { p.at[j] = k & 63; k >>= 6; }
+        for (int g = 0; g < (pawns ? 1 : 8); g++) {
+            Pos q = p;
+            for (int j = 0; j < q.n; j++) {
+                if (g & 1) q.at[j] ^= 7;
+                if (g & 2) q.at[j] ^= 56;
+                if (g & 4) q.at[j] = q.at[j] % 8 * 8 + q.at[j] / 8;
+            }
+            for (int w = 0; w <= like; w++) {
+                if (w) { int a = q.at[2]; q.at[2] = q.at[3]; q.at[3] = a; }
+                uint8_t *to = &t->cells[cell(&q)];
+                if (*to == INVALID || *to == DRAW) *to = c == 0 ? DRAW : c % 2 ? LOSS : WIN;
+            }
+        }
+    }
+    free(read);
+    fclose(f);
+}
+
 static Table *build(const Pos *like) {
     Table made = {like->n, {like->side[2], like->side[3]}, {like->kind[2], like->kind[3]}, NULL};
     size_t size = size_of(made.n);
     made.cells = calloc(size, 1);
+    if (cells_from) {
+        tables[known] = made;
+        read_cells(&tables[known]);
+        return &tables[known++];
+    }
     // the classes that moves lead to first
     for (int i = 2; i < made.n; i++) {
         if (made.n == 4) { Pos q = *like; q.n = 3; q.side[2] = like->side[5 - i]; q.kind[2] = like->kind[5 - i]; q = normal(&q); table_of(&q); }
@@ -337,7 +388,7 @@ static int result(const Pos *p) { int v = value(p); return v == LOSS ? 0 : v; }
 static int only_move(const Pos *p, int outcome, Mv *key) {
     Mv ms[256];
     int n = moves(p, ms), kept = 0;
-    for (int i = 0; i < n; i++) {
+    for (int i = 0; i < n && kept < 2; i++) {
         Pos q = play(p, ms[i]);
         int v = value(&q);
         if (v == LOSS || (outcome == DRAW && v == DRAW)) { kept++; *key = ms[i]; }
@@ -403,6 +454,7 @@ static void each(const char *class, void (*look)(const Pos *)) {
     like_sides = t.n == 4 && t.side[0] != t.side[1] && t.kind[0] == t.kind[1];
     for (size_t i = 0; i < size_of(t.n); i++) {
         if (!read_cell(&t, i, &p) || (like_sides && p.stm)) continue;
+        if (p.n == 4 && p.side[2] == p.side[3] && p.kind[2] == p.kind[3] && p.at[2] > p.at[3]) continue;
         look(&p);
         // a capture en passant that is legal makes it another position
         for (int j = 2; j < p.n; j++) {
@@ -447,8 +499,104 @@ static void write_it(const Pos *p) {
     printf("pgn\n");
 }
 
+// ---- mutual zugzwangs
+
+static Pos handed_on(const Pos *p) { Pos q = *p; q.stm = !p->stm; q.ep = -1; return q; }
+
+static int half_points(const Pos *p) { int v = value(p); return v == WIN ? 2 : v == DRAW; }
+
+static int is_zugzwang(const Pos *p) {
+    Pos q = handed_on(p);
+    Mv ms[256];
+    if (in_check(&q, !q.stm) || half_points(p) == 2) return 0;
+    int n = moves(p, ms);
+    for (int i = 0; i < n; i++) if (p->ep >= 0 && ms[i].to == p->ep && p->kind[man_at(p, ms[i].from)] == P) return 0;
+    return n && moves(&q, ms) && half_points(p) + half_points(&q) < 2;
+}
+
+// The other move fails to one reply into a zugzwang; in the strict sense the hero would reach his goal there if the opponent were to move.
+static int fails_into(const Pos *q, int outcome, int strict) {
+    Mv reply;
+    if (!only_move(q, outcome == WIN ? DRAW : WIN, &reply)) return 0;
+    Pos z = play(q, reply);
+    if (!is_zugzwang(&z)) return 0;
+    Pos other = handed_on(&z);
+    int v = value(&other);
+    return !strict || v == LOSS || (outcome == DRAW && v == DRAW);
+}
+
+static long tries[2][2];
+static void try_it(const Pos *p) {
+    int o = result(p), any = 0, strict = 0;
+    Mv key, ms[256];
+    if (!o || !only_move(p, o, &key)) return;
+    Pos next = play(p, key);
+    if (!is_zugzwang(&next)) return;
+    int n = moves(p, ms);
+    for (int i = 0; i < n; i++) { Pos q = play(p, ms[i]); any |= fails_into(&q, o, 0); strict |= fails_into(&q, o, 1); }
+    tries[o == DRAW][0] += any;
+    tries[o == DRAW][1] += strict;
+    if (any != strict) { char text[128]; fen(p, text); printf("# %s %s\n", text, o == WIN ? "win" : "draw"); }
+}
+
+// ---- a move of some row of only moves
+
+enum { UNDERPROMOTION, SACRIFICE, ZUGZWANG, STALEMATE, KINDS };
+static const char *kinds[] = {"underpromotion", "sacrifice", "zugzwang", "stalemate"};
+
+// The move that led from p to q promotes to less than a queen; its man can be taken, in passing too; leads into a mutual zugzwang; stalemates.
+static int is_such(const Pos *p, Mv m, const Pos *q, int kind) {
+    Mv ms[256];
+    if (kind == UNDERPROMOTION) return m.promoted > Q;
+    if (kind == ZUGZWANG) return is_zugzwang(q);
+    int n = moves(q, ms);
+    if (kind == STALEMATE) return !n && !in_check(q, q->stm);
+    for (int i = 0; i < n; i++) { Pos r = play(q, ms[i]); int k = man_at(&r, m.to); if (k < 0 || r.side[k] != p->stm) return 1; }
+    return 0;
+}
+
+static int has_row_with(const Pos *p, int outcome, int n, int kind) {
+    Mv key, ms[256];
+    if (!n || result(p) != outcome || !only_move(p, outcome, &key)) return 0;
+    Pos q = play(p, key);
+    if (is_such(p, key, &q, kind)) return has_row(p, outcome, n);
+    int replies = n > 1 ? moves(&q, ms) : 0;
+    for (int i = 0; i < replies; i++) { Pos r = play(&q, ms[i]); if (has_row_with(&r, outcome, n - 1, kind)) return 1; }
+    return 0;
+}
+
+static int longest;
+static long withs[2][64][KINDS + 1];
+static void row_it(const Pos *p) {
+    int o = result(p);
+    for (int n = 1; o && n <= longest && has_row(p, o, n); n++) {
+        withs[o == DRAW][n][KINDS]++;
+        for (int k = 0; k < KINDS; k++) withs[o == DRAW][n][k] += has_row_with(p, o, n, k);
+    }
+}
+
 int main(int argc, char **argv) {
     geometry();
+    setvbuf(stdout, NULL, _IOLBF, 0);
+    if (argc > 1 && strchr(argv[1], '/')) { cells_from = argv[1]; argc--; argv++; }
+    if (argc >= 3 && !strcmp(argv[1], "tries")) {
+        for (int a = 2; a < argc; a++) {
+            memset(tries, 0, sizeof tries);
+            each(argv[a], try_it);
+            for (int o = 0; o < 2; o++)
+                printf("%s\ttry %s\t%ld\n# %s\ttry %s into any zugzwang\t%ld\n", argv[a], o ? "draw" : "win", tries[o][1], argv[a], o ? "draw" : "win", tries[o][0]);
+        }
+        return 0;
+    }
+    if (argc == 4 && !strcmp(argv[1], "within") && (longest = atoi(argv[3])) < 64) {
+        each(argv[2], row_it);
+        for (int o = 0; o < 2; o++)
+            for (int n = 1; n <= longest; n++) {
+                printf("%s\t%s %d\t%ld\n", argv[2], o ? "draw" : "win", n, withs[o][n][KINDS]);
+                for (int k = 0; k < KINDS; k++) printf("%s\t%s %d with-%s\t%ld\n", argv[2], o ? "draw" : "win", n, kinds[k], withs[o][n][k]);
+            }
+        return 0;
+    }
     if (argc >= 3 && !strcmp(argv[1], "counts")) {
         for (int a = 2; a < argc; a++) {
             memset(sums, 0, sizeof sums);
@@ -468,6 +616,6 @@ int main(int argc, char **argv) {
         each(argv[2], write_it);
         return 0;
     }
-    fprintf(stderr, "usage: filters counts CLASS.. | rows CLASS win|draw N\n");
+    fprintf(stderr, "usage: filters counts CLASS.. | rows CLASS win|draw N | tries CLASS.. | within CLASS N\n");
     return 2;
 }
