@@ -45,6 +45,10 @@ class Position:
                     file += 1
         return Position(men, side == "w", None if passed == "-" else (ord(passed[0]) - 97, int(passed[1]) - 1))
 
+    def known(self):
+        """What tells it from other positions: the men, the side to move, and the square that a pawn has just jumped over."""
+        return sorted(self.men.items()), self.white, self.passed
+
     def sorted(self):
         return sorted(self.men.items(), key=lambda m: (not m[1][0], KINDS.index(m[1][1]), m[0][1] * 8 + m[0][0]))
 
@@ -202,6 +206,11 @@ class Study:
 
     def hero(self, path):
         return self.position[path].white == self.hero_white
+
+    def elsewhere(self, path, san):
+        """The first move of the tree that leads to where this one from the node leads, by its name, if one does."""
+        there = self.position[path].played(san).known()
+        return next((self.label(other) for other in self.order if other and self.position[other].known() == there), "")
 
     def front(self, path):
         """The number before a move from the node at a path."""
@@ -466,9 +475,9 @@ KINDS_OF_DUALS = ("cook", "main", "variations", "last", "time")
 class Facts:
     """What a judge asks of a solution beside its marks: its duals by their kinds and the worst in words, a refutation of its first mistake, and the
     first main defence that is not given. `of(kind)` has the facts of the lines, `label` names the node at a path, `front` is the number before a move
-    from it, and `children` has the numbers of children of its children."""
+    from it, `children` has the numbers of children of its children, and `elsewhere` the move of the tree that leads to where another leads."""
 
-    def __init__(self, faults, also, refuted, missing, value, label, front, children):
+    def __init__(self, faults, also, refuted, missing, value, label, front, children, elsewhere):
         self.counts, self.worst, self.reply, self.missing, self.mistake = dict.fromkeys(KINDS_OF_DUALS, 0), None, "", "", None
         found = {}
         for fact in faults:
@@ -497,7 +506,7 @@ class Facts:
             given = value(path + (0,))
             if any(path) or given is None or fact[2] != "win" or fact[4] != "1" or "mates" not in given:
                 continue
-            if moves_of(f"win {fact[3]}") >= moves_of(given):
+            if moves_of(f"win {fact[3]}") >= moves_of(given) and not elsewhere(path, fact[1]):
                 self.missing = f"{front(path)}{fact[1]}"
                 break
 
@@ -508,7 +517,7 @@ def facts_of(study):
         return study.node[path].value if path in study.node else None
 
     return Facts(study.of("fault"), study.of("also"), study.of("refuted"), study.of("missing"), value, study.label, study.front,
-                 lambda path: [len(child.children) for child in study.node[path].children])
+                 lambda path: [len(child.children) for child in study.node[path].children], study.elsewhere)
 
 
 def several(number, one, many):
@@ -689,7 +698,9 @@ def defences(study):
                 several += inside("span", move + say(" " + words), 'class="nb"') + " "
         groups = "".join(inside("div", inside("i", say(answer)) + " after " + moves) for answer, moves in one.items())
         all_moves = legal(study, path)
-        answered = inside("small", f"answers {all_moves - len(missing)} of {all_moves}")
+        twins = [(fact[1], study.elsewhere(path, fact[1])) for fact in missing]
+        answered = inside("small", say(f"answers {all_moves - len(missing)} of {all_moves}" +
+                                       "".join(f", {san} (as after {twin})" for san, twin in twins if twin)))
         rows += inside("tr", inside("td", say(study.label(path)) + "<br>" + answered) + inside("td", groups) + inside("td", several))
     return table("Defences not given", ("After", "One answer", "Several"), rows)
 

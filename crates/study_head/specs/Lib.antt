@@ -5,6 +5,7 @@ pub mod Counts
 pub mod Head
 pub mod Mistake
 pub mod MainLine
+pub mod Reached
 pub mod Solution
 pub mod Verdict
 pub mod Laws

@@ -4,8 +4,9 @@ use Rattle.std.specs.Prelude.{◌≡◌, ℕ, ◌+◌, ◌-◌, ◌==◌, nat_lt
 use Rattle.std.specs.Prelude.{Option, Some, None, is_some, MatchOption, slice_get, if◌then◌else◌}
 use Rattle.study_board.specs.Position.{Position}
 use Rattle.study_moves.specs.declared.moves.Move.{Move}
+use Rattle.study_moves.specs.Rules.{after}
 use Rattle.study_values.specs.declared.value.Value.{Value}
-use Rattle.study_values.specs.declared.value.Value.TheVariants.{Win, Loss, Draw}
+use Rattle.study_values.specs.declared.value.Value.TheVariants.{Win}
 use Rattle.study_tree.specs.Tree.{spot_at}
 use Rattle.study_marks.specs.declared.mark.Mark.{Mark}
 use Rattle.study_marks.specs.declared.mark.MoveMark.{MoveMark}
@@ -32,6 +33,8 @@ use Rattle.study_head.specs.declared.solution.DualCounts.{DualCounts}
 use Rattle.study_head.specs.declared.solution.NamedDual.{NamedDual}
 use Rattle.study_head.specs.declared.solution.SolutionFacts.{SolutionFacts}
 use Rattle.study_head.specs.MainLine.{is_main}
+use Rattle.study_head.specs.declared.reached.Reached.{Reached}
+use Rattle.study_head.specs.Reached.{named_at, first_to, all_reached}
 use Rattle.study_head.specs.Words.{number_at}
 
 -- ---- duals
@@ -90,9 +93,6 @@ abbrev pub first_other : List Alternative → Option Move
 first_other [] = None
 first_other (x ∷ xs) = Some x.played
 
-abbrev pub named_at : Study Mark → List ℕ → Move → NamedMove
-named_at s path m = record { number = number_at s.start (length (parent_path path)); position = position_at s (parent_path path); played = m }
-
 -- the dual m, the last move of the path, beside which these moves hold
 abbrev pub dual_at : Study Mark → List ℕ → Move → List Alternative → NamedDual
 dual_at s path m list = record {
@@ -143,13 +143,16 @@ abbrev pub lasts_as_long : Value → Value → Bool
 lasts_as_long (Win k) (Win n) = not (nat_lt n k)
 lasts_as_long _ _ = false
 
-abbrev pub is_main_defence : Value → Defence → Bool
-is_main_defence given y = is_some y.only && lasts_as_long given y.value
+-- the moves of the study lead to these positions
+module _ (known : List Reached) (p : Position) (given : Value) where
+  -- a defence from p that lasts at least as long as the one that is given, has one answer, and leads to no position of the study
+  abbrev pub is_main_defence : Defence → Bool
+  is_main_defence y = is_some y.only && (lasts_as_long given y.value && not (is_some (first_to known (after p y.played))))
 
--- the first of these defences that lasts at least as long as the one that is given, and has one answer
-abbrev pub main_defence : Value → List Defence → Option Move
-main_defence given [] = None
-main_defence given (y ∷ ys) = if is_main_defence given y then Some y.played else main_defence given ys
+  -- the first of these
+  abbrev pub main_defence : List Defence → Option Move
+  main_defence [] = None
+  main_defence (y ∷ ys) = if is_main_defence y then Some y.played else main_defence ys
 
 abbrev pub named_defence : Study Mark → List ℕ → Option Move → Option NamedMove
 named_defence s path None = None
@@ -191,25 +194,26 @@ AddsHeroMove s path m (Some Only) old new = new ≡ old
 AddsHeroMove s path m (Some Idle) old new = new ≡ old
 AddsHeroMove s path m (Some Reply) old new = new ≡ old
 
--- what a defence in the main line adds, the last move of the path: whether a main defence is not given beside it
-abbrev pub AddsDefence : Study Mark → List ℕ → SolutionFacts → SolutionFacts → Type 0
-AddsDefence s path old new =
+-- What a defence in the main line adds, the last move of the path: whether a main defence is not given beside it, in a study whose moves lead to these
+-- positions.
+abbrev pub AddsDefence : Study Mark → List Reached → List ℕ → SolutionFacts → SolutionFacts → Type 0
+AddsDefence s known path old new =
     (list : List Defence)
     × AreDefences (aim_of s) (length (parent_path path)) (position_at s (parent_path path)) (moves_of (below_at s.tree.below (parent_path path))) list
-    × (new ≡ with_missing old (named_defence s path (main_defence (value_at s path) list)))
+    × (new ≡ with_missing old (named_defence s path (main_defence known (position_at s (parent_path path)) (value_at s path) list)))
 
 -- the opponent made the last move of the path, and all its moves are of the main line
 abbrev pub is_given_defence : Study Mark → List ℕ → Bool
 is_given_defence s path = not (hero_moves (aim_of s) (length (parent_path path))) && is_main path
 
-abbrev pub AddsMove : Study Mark → List ℕ → Move → SolutionFacts → SolutionFacts → Type 0
-AddsMove s path m old new =
+abbrev pub AddsMove : Study Mark → List Reached → List ℕ → Move → SolutionFacts → SolutionFacts → Type 0
+AddsMove s known path m old new =
     Either (is_solution_move s path) (AddsHeroMove s path m (mark_at s path) old new)
-    (Either (is_given_defence s path) (AddsDefence s path old new) (new ≡ old))
+    (Either (is_given_defence s path) (AddsDefence s known path old new) (new ≡ old))
 
 -- what the node at the path adds
-abbrev pub AddsNode : Study Mark → List ℕ → SolutionFacts → SolutionFacts → Type 0
-AddsNode s path old new = MatchOption (played_by (spot_at s.tree path)) (new ≡ old) (λ m. AddsMove s path m old new)
+abbrev pub AddsNode : Study Mark → List Reached → List ℕ → SolutionFacts → SolutionFacts → Type 0
+AddsNode s known path old new = MatchOption (played_by (spot_at s.tree path)) (new ≡ old) (λ m. AddsMove s known path m old new)
 
 abbrev pub no_counts : DualCounts
 no_counts = record { cooks = 0; main = 0; variations = 0; last = 0; time = 0 }
@@ -219,7 +223,7 @@ no_facts = record { counts = no_counts; worst = None; fails = false; refutation 
 
 -- the facts of an annotated study
 abbrev pub AreSolutionFacts : Study Mark → SolutionFacts → Type 0
-AreSolutionFacts s facts = AddsEach (AddsNode s) (written_order s) no_facts facts
+AreSolutionFacts s facts = AddsEach (AddsNode s (all_reached s)) (written_order s) no_facts facts
 
 -- an annotated study has one set of facts
 abbrev pub SolutionFactsAreUnique : Type 0

@@ -7,6 +7,7 @@ mod head;
 mod known_tags;
 mod laws;
 mod mistake;
+mod reached;
 mod solution;
 mod solution_walk;
 mod verdict;
@@ -19,10 +20,12 @@ pub use head::{moves_first, put_figure, put_head, title_words};
 pub use known_tags::known_tag;
 pub use laws::{duals_are_counted, solution_facts_are_unique, sound_has_no_fault};
 pub use mistake::{NamedMove, add_move_name, first_mistake};
+pub use reached::{Reached, first_to, reached_in};
 pub use solution::{DualCounts, DualKind, NamedDual, SolutionFacts};
 pub use solution_walk::solution_facts;
 pub use verdict::{Judgement, Stamp, entry_judgement, judgement_of};
 pub use verdict_words::{
-    add_first_fault, add_sentence, add_stamp_words, add_start_value, add_verdict_words,
+    add_first_fault, add_legal_name, add_sentence, add_stamp_words, add_start_value,
+    add_verdict_words,
 };
 pub use words::{Ply, add_label, add_line_start, add_mate_distance};

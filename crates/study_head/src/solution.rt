@@ -1,13 +1,17 @@
 //! What a judge asks of a solution beside the marks of its moves.
 ghost use Rattle.std.specs.Prelude.{◌≡◌, ◌<◌, ◌≤◌, ◌^◌, length};
+ghost use Rattle.std.specs.List.{All};
 ghost use Rattle.study_marks.specs.BenchState.{marked_study};
+ghost use Rattle.study_facts.specs.Play.{IsPlayed};
 ghost use Rattle.study_facts.specs.StudyNode.{IsStudyMove, IsStudyNode};
+ghost use Rattle.study_head.specs.Reached.{named_at};
 ghost use Rattle.study_head.specs.Solution.{kind_at, dual_kind, one_more, counted, rank, turn_depth, turn_at};
-ghost use Rattle.study_head.specs.Solution.{first_other, named_at, dual_at, is_worse, worse_of, with_dual, first_reply, with_mistake, lasts_as_long};
-ghost use Rattle.study_head.specs.Solution.{main_defence, named_defence, with_missing, is_given_defence, no_facts};
+ghost use Rattle.study_head.specs.Solution.{first_other, dual_at, is_worse, worse_of, with_dual, first_reply, with_mistake, lasts_as_long};
+ghost use Rattle.study_head.specs.Solution.{is_main_defence, main_defence, named_defence, with_missing, is_given_defence, no_facts};
 ghost use Rattle.study_head.specs.MainLine.{is_main};
 
 use crate::mistake::NamedMove;
+use crate::reached::{Reached, first_to, named_at};
 use crate::words::number_at;
 use std::alloc::Allocator;
 use study_board::Position;
@@ -15,7 +19,7 @@ use study_facts::{
     Alternative, Defence, EvaluatedMove, StudyMove, StudyNode, all_lose_time, ends_with, move_to,
 };
 use study_marks::{Bench, hero_moves};
-use study_moves::Move;
+use study_moves::{Move, played};
 use study_values::Value;
 
 /// How a judge counts a dual.
@@ -63,7 +67,8 @@ pub struct SolutionFacts {
     pub fails: bool,
     /// A refutation of the first mistake. There is none if it stalemates, or mates too late.
     pub refutation: Option<NamedMove>,
-    /// The first main defence that is not given: it lasts at least as long as the one of the main line, and has one answer.
+    /// The first main defence that is not given: it lasts at least as long as the one of the main line, has one answer, and leads to no position that a
+    /// move of the study leads to.
     pub missing: Option<NamedMove>,
 }
 
@@ -249,18 +254,6 @@ fn first_other(list: &[Alternative]) -> Option<Move>
     }
 }
 
-/// The name of a move that is made where a step begins.
-fn named_at<'b, B: Allocator>(bench: &Bench<'b, B>, step: &StudyMove<'_>, m: Move) -> NamedMove
-    requires { IsStudyMove (marked_study bench.now) step.now }
-    ensures { result ≡ named_at (marked_study bench.now) step.now.steps.now m }
-{
-    NamedMove {
-        number: number_at(bench.start(), step.before.depth),
-        position: step.before.position.copied(),
-        played: m,
-    }
-}
-
 /// The dual by a step, beside which these moves hold.
 pub fn dual_at<'b, B: Allocator>(
     bench: &Bench<'b, B>,
@@ -313,28 +306,46 @@ fn lasts_as_long(given: Value, other: Value) -> bool
     }
 }
 
-/// The first of these defences that lasts at least as long as the one with this value, and has one answer.
-fn main_defence(given: Value, list: &[Defence]) -> Option<Move>
-    ensures { result ≡ main_defence given list.now }
+/// Whether a defence lasts at least as long as the one with this value, has one answer, and leads to no position that a move of the study leads to.
+fn is_main_defence(known: &[Reached], p: &Position, given: Value, y: &Defence) -> bool
+    requires { IsPlayed p.now y.now }
+    ensures { result ≡ is_main_defence known.now p.now given y.now }
 {
-    let (first, rest) = list.split_first()?;
-    if first.only.is_some() && lasts_as_long(given, first.value) {
-        return Some(first.played);
+    if y.only.is_none() || !lasts_as_long(given, y.value) {
+        return false;
     }
-    main_defence(given, rest)
+    first_to(known, &played(p, y.played)).is_none()
 }
 
-/// The first main defence beside a given one.
+/// The first main defence of these, beside the one with this value.
+fn main_defence(known: &[Reached], p: &Position, given: Value, list: &[Defence]) -> Option<Move>
+    requires { All (IsPlayed p.now) list.now }
+    ensures { result ≡ main_defence known.now p.now given list.now }
+{
+    match list.split_first() {
+        None => None,
+        Some((y, rest)) => {
+            if is_main_defence(known, p, given, y) {
+                return Some(y.played);
+            }
+            main_defence(known, p, given, rest)
+        }
+    }
+}
+
+/// The first main defence beside a given one, of a study whose moves lead to these positions.
 pub fn missing_beside<'b, B: Allocator>(
     bench: &Bench<'b, B>,
+    known: &[Reached],
     step: &StudyMove<'_>,
     list: &[Defence],
 ) -> Option<NamedMove>
-    requires { IsStudyMove (marked_study bench.now) step.now }
+    requires step { IsStudyMove (marked_study bench.now) step.now }
+    requires legal { All (IsPlayed step.now.before.position.now) list.now }
     ensures { result ≡ named_defence (marked_study bench.now) step.now.steps.now
-        (main_defence step.now.mark.value list.now) }
+        (main_defence known.now step.now.before.position.now step.now.mark.value list.now) }
 {
-    let defence = main_defence(step.mark.value, list)?;
+    let defence = main_defence(known, step.before.position, step.mark.value, list)?;
     Some(named_at(bench, step, defence))
 }
 

@@ -7,6 +7,7 @@ ghost use Rattle.study_facts.specs.Nodes.{mark_at};
 ghost use Rattle.study_facts.specs.StudyNode.{IsStudyMove, IsStudyNode};
 ghost use Rattle.study_head.specs.Solution.{AddsDual, AddsMistake, AddsHeroMove, AddsDefence, AreSolutionFacts};
 
+use crate::reached::{Reached, reached_in};
 use crate::solution::{SolutionFacts, dual_at, first_reply, is_given_defence, missing_beside};
 use std::alloc::Allocator;
 use study_facts::{
@@ -16,10 +17,11 @@ use study_facts::{
 use study_marks::{Aim, Bench, MoveMark};
 use study_values::Values;
 
-/// The facts that a walk has found, and what allocates the lists that it needs.
+/// The facts that a walk has found, what allocates the lists that it needs, and the positions that the moves of the study lead to.
 #[derive(Drop)]
-struct SolutionFindings<'a, A: Allocator> {
+struct SolutionFindings<'a, 'k, A: Allocator> {
     alloc: &'a A,
+    known: &'k [Reached],
     facts: SolutionFacts,
 }
 
@@ -101,9 +103,8 @@ fn add_hero_move<'b, B: Allocator, V: Values>(
 }
 
 /// Adds the first main defence beside the one by this step, which begins at the node with this path.
-fn add_beside<'a, 'b, A: Allocator, B: Allocator, V: Values>(
-    alloc: &'a A,
-    facts: &mut SolutionFacts,
+fn add_beside<'a, 'k, 'b, A: Allocator, B: Allocator, V: Values>(
+    findings: &mut SolutionFindings<'a, 'k, A>,
     bench: &Bench<'b, B>,
     step: &StudyMove<'_>,
     front: &[u16],
@@ -112,18 +113,20 @@ fn add_beside<'a, 'b, A: Allocator, B: Allocator, V: Values>(
     requires step { IsStudyMove (marked_study bench.now) step.now }
     requires front { (k : ℕ) × (step.now.steps.now ≡ front.now ++ k ∷ []) }
     requires depth { step.now.before.depth + 2 < 2 ^ 64 }
+    ensures known { findings.new.known ≡ findings.old.known }
     ensures added { V.source.is_honest values.old
-        → OnOk result (AddsDefence (marked_study bench.now) step.now.steps.now
-        facts.old facts.new) }
+        → OnOk result (AddsDefence (marked_study bench.now) findings.old.known.now
+        step.now.steps.now findings.old.facts findings.new.facts) }
     ensures asked { HasAsked (within step.now.before.position.now V.source)
         values.old result values.new }
 {
-    match children_in(alloc, bench, front)? {
+    match children_in(findings.alloc, bench, front)? {
         None => Ok(()),
         Some(there) => match defences(&step.before, there.as_slice(), values) {
             Err(fault) => Err(TextFault::NoValue(fault)),
             Ok(list) => {
-                facts.note_missing(missing_beside(bench, step, list.as_slice()));
+                let missing = missing_beside(bench, findings.known, step, list.as_slice());
+                findings.facts.note_missing(missing);
                 Ok(())
             }
         },
@@ -132,31 +135,33 @@ fn add_beside<'a, 'b, A: Allocator, B: Allocator, V: Values>(
 
 /// Adds the first main defence beside the one by this step, if there is such a defence.
 #[inline(never)]
-fn add_defence<'a, 'b, A: Allocator, B: Allocator, V: Values>(
-    alloc: &'a A,
-    facts: &mut SolutionFacts,
+fn add_defence<'a, 'k, 'b, A: Allocator, B: Allocator, V: Values>(
+    findings: &mut SolutionFindings<'a, 'k, A>,
     bench: &Bench<'b, B>,
     step: &StudyMove<'_>,
     values: &mut V,
 ) -> Result<(), TextFault>
     requires step { IsStudyMove (marked_study bench.now) step.now }
     requires some { 0 < length step.now.steps.now }
+    ensures known { findings.new.known ≡ findings.old.known }
     ensures added { V.source.is_honest values.old
-        → OnOk result (AddsDefence (marked_study bench.now) step.now.steps.now
-        facts.old facts.new) }
+        → OnOk result (AddsDefence (marked_study bench.now) findings.old.known.now
+        step.now.steps.now findings.old.facts findings.new.facts) }
     ensures asked { HasAsked (within step.now.before.position.now V.source)
         values.old result values.new }
 {
     match step.steps.split_last() {
         None => unreachable!(),
-        Some((_, front)) => add_beside(alloc, facts, bench, step, front, values),
+        Some((_, front)) => add_beside(findings, bench, step, front, values),
     }
 }
 
-impl<'a, A: Allocator> Findings for SolutionFindings<'a, A> {
+impl<'a, 'k, A: Allocator> Findings for SolutionFindings<'a, 'k, A> {
+    ghost use Rattle.std.specs.Prelude.{◌≡◌};
     ghost use Rattle.study_head.specs.Solution.{AddsNode};
 
-    ghost adds = { λ s path old new. AddsNode s path old.facts new.facts };
+    ghost adds = { λ s path old new.
+        AddsNode s old.known.now path old.facts new.facts × (new.known ≡ old.known) };
 
     fn add_root<'b, B: Allocator, V: Values>(
         &mut self,
@@ -182,13 +187,13 @@ impl<'a, A: Allocator> Findings for SolutionFindings<'a, A> {
             return add_hero_move(&mut self.facts, bench, &made, &node, values);
         }
         if is_given_defence(bench, &made) {
-            return add_defence(self.alloc, &mut self.facts, bench, &made, values);
+            return add_defence(self, bench, &made, values);
         }
         Ok(())
     }
 }
 
-/// The facts of the solution, which a walk of the study finds: they ask values of no class that the start does not lead to.
+/// The facts of the solution, which walks of the study find: they ask values of no class that the start does not lead to.
 pub fn solution_facts<'a, 'b, A: Allocator, B: Allocator, V: Values>(
     alloc: &'a A,
     bench: &Bench<'b, B>,
@@ -199,8 +204,10 @@ pub fn solution_facts<'a, 'b, A: Allocator, B: Allocator, V: Values>(
     ensures asked { HasAsked (within (marked_study bench.now).start.position V.source)
         values.old result values.new }
 {
+    let known = reached_in(alloc, bench, values)?;
     let mut findings = SolutionFindings {
         alloc,
+        known: known.as_slice(),
         facts: SolutionFacts::none(),
     };
     walk_study(alloc, &mut findings, bench, values)?;

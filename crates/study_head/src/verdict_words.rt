@@ -100,7 +100,10 @@ fn add_wrong_mate<A: Allocator>(
 }
 
 /// Adds the name of a move, if it is legal.
-fn add_legal_name<A: Allocator>(text: &mut Text<'_, A>, named: &NamedMove) -> Result<(), AllocError>
+pub fn add_legal_name<A: Allocator>(
+    text: &mut Text<'_, A>,
+    named: &NamedMove,
+) -> Result<(), AllocError>
     ensures { OnOk result (text.new ≡ text.old ++ legal_name named.now) }
 {
     if is_legal(&named.position, named.played) {

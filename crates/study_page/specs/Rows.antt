@@ -47,6 +47,10 @@ use Rattle.study_html.specs.Elements.{element_text}
 use Rattle.study_html.specs.Drawings.{drawing_text}
 use Rattle.study_head.specs.Diagram.{mini}
 use Rattle.study_head.specs.Words.{front_words, short_words, label}
+use Rattle.study_head.specs.declared.mistake.NamedMove.{NamedMove}
+use Rattle.study_head.specs.declared.reached.Reached.{Reached}
+use Rattle.study_head.specs.Reached.{first_to, all_reached}
+use Rattle.study_head.specs.Verdict.{legal_name}
 use Rattle.study_page.specs.Words.{where_words}
 
 -- ---- late mates
@@ -342,22 +346,36 @@ unfoldable pub answered_words : Position → List Defence → List ℕ
 answered_words p list =
     codes "answers " ++ (decimal (length (legal_list p) - length list) ++ (codes " of " ++ decimal (length (legal_list p))))
 
-unfoldable pub answered_cell : List ℕ → Position → List Defence → List ℕ
-answered_cell node p list = element_text Cell (escaped_text node ++ (drawing_text Break ++ element_text Small (escaped_text (answered_words p list))))
+-- `, Ke7 (as after 3... Kd6)`: the move m from p leads to where this move of the study leads
+abbrev pub as_after : Position → Move → Option NamedMove → List ℕ
+as_after p m None = []
+as_after p m (Some by) = codes ", " ++ (move_text p m ++ (codes " (as after " ++ (legal_name by ++ codes ")")))
 
--- the node, the defences with one answer by this answer, and those with none or several
-abbrev pub defence_row : List ℕ → Position → List Defence → List ℕ
-defence_row node p [] = []
-defence_row node p (y ∷ ys) =
-    element_text Row (answered_cell node p (y ∷ ys) ++ (element_text Cell (groups_from p (y ∷ ys) [] (y ∷ ys))
+-- the defences that lead to where a move of the study leads, each with the first such move
+abbrev pub elsewhere_words : List Reached → Position → List Defence → List ℕ
+elsewhere_words known p [] = []
+elsewhere_words known p (y ∷ ys) = as_after p y.played (first_to known (after p y.played)) ++ elsewhere_words known p ys
+
+unfoldable pub answered_cell : List ℕ → Position → List ℕ → List Defence → List ℕ
+answered_cell node p elsewhere list =
+    element_text Cell (escaped_text node ++ (drawing_text Break ++ element_text Small (escaped_text (answered_words p list ++ elsewhere))))
+
+-- the node, the defences with one answer by this answer, and those with none or several; `elsewhere` says which of them the tree has elsewhere
+abbrev pub defence_row : List ℕ → Position → List ℕ → List Defence → List ℕ
+defence_row node p elsewhere [] = []
+defence_row node p elsewhere (y ∷ ys) =
+    element_text Row (answered_cell node p elsewhere (y ∷ ys) ++ (element_text Cell (groups_from p (y ∷ ys) [] (y ∷ ys))
     ++ element_text Cell (flat_map (each_several p) (y ∷ ys))))
 
--- a row for each position of the solution in which a defence is missing
-abbrev pub DefenceRows : Study Mark → List ℕ → List ℕ → Type 0
-DefenceRows s path text =
+-- a row for each position of the solution in which a defence is missing, in a study whose moves lead to these positions
+abbrev pub DefenceRowsAmong : List Reached → Study Mark → List ℕ → List ℕ → Type 0
+DefenceRowsAmong known s path text =
     EmptyUnless (is_defended s path) (λ t. (list : List Defence)
     × AreDefences (aim_of s) (length path) (position_at s path) (moves_of (below_at s.tree.below path)) list
-    × (t ≡ defence_row (where_words s path) (position_at s path) list)) text
+    × (t ≡ defence_row (where_words s path) (position_at s path) (elsewhere_words known (position_at s path) list) list)) text
+
+abbrev pub DefenceRows : Study Mark → List ℕ → List ℕ → Type 0
+DefenceRows s = DefenceRowsAmong (all_reached s) s
 
 -- ---- ends
 

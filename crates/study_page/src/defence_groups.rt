@@ -1,16 +1,19 @@
 //! What is written of defences that the tree lacks: those with one answer by this answer.
-ghost use Rattle.std.specs.Prelude.{◌≡◌, ◌++◌, ◌-◌, ◌<◌, ◌≤◌, ◌^◌, true, length, take, drop, OnOk, IfSome};
+ghost use Rattle.std.specs.Prelude.{◌≡◌, ◌++◌, ◌-◌, ◌<◌, ◌≤◌, ◌^◌, true, length, take, drop, OnOk, Some, IfSome};
 ghost use Rattle.std.specs.List.{All, flat_map};
+ghost use Rattle.std.specs.Option.{option_map};
 ghost use Rattle.study_moves.specs.Rules.{is_legal};
 ghost use Rattle.study_moves.specs.LegalList.{legal_list};
 ghost use Rattle.study_facts.specs.Play.{IsPlayed};
 ghost use Rattle.study_page.specs.Rows.{several_words, several_item, each_several, is_answer, has_answer, defence_item, with_answer};
-ghost use Rattle.study_page.specs.Rows.{group, any_has, group_of, group_at, groups_from, answered_words, answered_cell, defence_row};
+ghost use Rattle.study_page.specs.Rows.{group, any_has, group_of, group_at, groups_from};
+ghost use Rattle.study_page.specs.Rows.{answered_words, as_after, elsewhere_words, answered_cell, defence_row};
 
 use crate::cards_and_tries::put_move_and_value;
 use std::alloc::{AllocError, Allocator};
 use study_board::Position;
 use study_facts::Defence;
+use study_head::{NamedMove, Reached, add_legal_name, first_to};
 use study_html::{Drawing, Element, Html, put_words};
 use study_moves::{Move, legal_moves, played};
 use study_notation::write_san;
@@ -282,38 +285,97 @@ fn add_answered<A: Allocator>(
     text.add_number(all)
 }
 
-/// The cell with the node, and how many of the opponent's moves the tree has there.
+/// Adds `, Ke7 (as after 3... Kd6)`.
+fn add_twin<A: Allocator>(
+    text: &mut Text<'_, A>,
+    p: &Position,
+    m: Move,
+    by: &NamedMove,
+) -> Result<(), AllocError>
+    requires { is_legal p.now m ≡ true }
+    ensures { OnOk result (text.new ≡ text.old ++ as_after p.now m (Some by.now)) }
+{
+    text.add(b", ")?;
+    add_san(text, p, m)?;
+    text.add(b" (as after ")?;
+    add_legal_name(text, by)?;
+    text.add(b")")
+}
+
+/// The same, if there is such a move of the study.
+fn add_as_after<A: Allocator>(
+    text: &mut Text<'_, A>,
+    p: &Position,
+    m: Move,
+    by: Option<&NamedMove>,
+) -> Result<(), AllocError>
+    requires { is_legal p.now m ≡ true }
+    ensures { OnOk result (text.new ≡ text.old
+        ++ as_after p.now m (option_map (λ named. named.now) by.entry)) }
+{
+    match by {
+        None => Ok(()),
+        Some(by) => add_twin(text, p, m, by),
+    }
+}
+
+/// Adds the defences that lead to where a move of the study leads, each with the first such move.
+pub fn add_elsewhere<A: Allocator>(
+    text: &mut Text<'_, A>,
+    known: &[Reached],
+    p: &Position,
+    list: &[Defence],
+) -> Result<(), AllocError>
+    requires { All (IsPlayed p.now) list.now }
+    ensures { OnOk result (text.new ≡ text.old ++ elsewhere_words known.now p.now list.now) }
+{
+    match list.split_first() {
+        None => Ok(()),
+        Some((y, rest)) => {
+            let next = played(p, y.played);
+            add_as_after(text, p, y.played, first_to(known, &next))?;
+            add_elsewhere(text, known, p, rest)
+        }
+    }
+}
+
+/// The cell with the node, how many of the opponent's moves the tree has there, and what it has elsewhere.
 #[tactic(auto, unfolding(crate::specs::Rows::answered_cell))]
 fn put_answered<'a, A: Allocator>(
     alloc: &'a A,
     html: &mut Html<'_, A>,
     node: &[u8],
     p: &Position,
+    elsewhere: &[u8],
     list: &[Defence],
 ) -> Result<(), AllocError>
     requires { length list.now < 2 ^ 32 }
-    ensures { OnOk result (html.new ≡ html.old ++ answered_cell node.now p.now list.now) }
+    ensures { OnOk result (html.new ≡ html.old
+        ++ answered_cell node.now p.now elsewhere.now list.now) }
 {
     let mut cell = Html::new(alloc);
     let mut text = Text::new(alloc);
     cell.say(node)?;
     cell.draw(&Drawing::Break)?;
     add_answered(&mut text, p, list)?;
+    text.add(elsewhere)?;
     put_words(alloc, &mut cell, Element::Small, text.as_slice())?;
     html.put(Element::Cell, &cell)
 }
 
-/// The row of the defences that are missing.
+/// The row of the defences that are missing; `elsewhere` says which of them the tree has elsewhere.
 pub fn put_defences<'a, A: Allocator>(
     alloc: &'a A,
     html: &mut Html<'_, A>,
     node: &[u8],
     p: &Position,
+    elsewhere: &[u8],
     list: &[Defence],
 ) -> Result<(), AllocError>
     requires few { length list.now < 2 ^ 32 }
     requires all { All (IsPlayed p.now) list.now }
-    ensures { OnOk result (html.new ≡ html.old ++ defence_row node.now p.now list.now) }
+    ensures { OnOk result (html.new ≡ html.old
+        ++ defence_row node.now p.now elsewhere.now list.now) }
 {
     match list.split_first() {
         None => Ok(()),
@@ -321,7 +383,7 @@ pub fn put_defences<'a, A: Allocator>(
             let mut row = Html::new(alloc);
             let mut single = Html::new(alloc);
             let mut several = Html::new(alloc);
-            put_answered(alloc, &mut row, node, p, list)?;
+            put_answered(alloc, &mut row, node, p, elsewhere, list)?;
             put_groups(alloc, &mut single, p, list, 0)?;
             row.put(Element::Cell, &single)?;
             put_each_several(alloc, &mut several, p, list)?;

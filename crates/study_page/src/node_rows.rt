@@ -7,12 +7,12 @@ ghost use Rattle.study_facts.specs.Asked.{within};
 ghost use Rattle.study_facts.specs.Made.{Grew, HasAsked};
 ghost use Rattle.study_facts.specs.Play.{IsPlayed, ArePlayed};
 ghost use Rattle.study_page.specs.PageNode.{IsPageNode};
-ghost use Rattle.study_page.specs.Rows.{try_row, TryRows, zugzwang_rows, ZugzwangRows, defence_row, DefenceRows};
+ghost use Rattle.study_page.specs.Rows.{try_row, TryRows, zugzwang_rows, ZugzwangRows, elsewhere_words, defence_row, DefenceRowsAmong};
 ghost use Rattle.study_page.specs.Rows.{play_words, keep_words, end_row, IsEnd, EndRows};
 ghost use Rattle.study_page.specs.Words.{where_words};
 
 use crate::cards_and_tries::{put_try, put_zugzwang};
-use crate::defence_groups::put_defences;
+use crate::defence_groups::{add_elsewhere, put_defences};
 use crate::draft::Sections;
 use crate::play_rows::{add_keep, add_moves, put_end};
 use std::alloc::{AllocError, Allocator};
@@ -21,25 +21,26 @@ use study_facts::{
     Defence, EvaluatedMove, StudyMove, StudyNode, TextFault, Zugzwang, best_play, children_in,
     defences, drawing_moves, refutations, zugzwang_at,
 };
-use study_head::add_label;
+use study_head::{Reached, add_label};
 use study_html::Html;
 use study_marks::Bench;
 use study_notation::Start;
 use study_text::Text;
 use study_values::{Value, Values};
 
-/// A node, and the move to it, `None` for the root.
+/// A node, the move to it, `None` for the root, and the positions that the moves of the study lead to.
 #[derive(Clone, Copy)]
-pub struct PageNode<'n> {
+pub struct PageNode<'n, 'k> {
     pub here: StudyNode<'n>,
     pub by: Option<StudyMove<'n>>,
+    pub known: &'k [Reached],
 }
 
 /// The move to the node, or that it is the start.
 fn add_node_name<'b, A: Allocator, B: Allocator>(
     text: &mut Text<'_, A>,
     bench: &Bench<'b, B>,
-    node: &PageNode<'_>,
+    node: &PageNode<'_, '_>,
 ) -> Result<(), AllocError>
     requires { IsPageNode (marked_study bench.now) node.now }
     ensures { OnOk result (text.new ≡ text.old
@@ -62,7 +63,7 @@ fn put_try_at<'a, 'b, A: Allocator, B: Allocator>(
     alloc: &'a A,
     html: &mut Html<'_, A>,
     bench: &Bench<'b, B>,
-    node: &PageNode<'_>,
+    node: &PageNode<'_, '_>,
     list: &[EvaluatedMove],
 ) -> Result<(), AllocError>
     requires node { IsPageNode (marked_study bench.now) node.now }
@@ -85,7 +86,7 @@ fn add_try<'a, 'b, A: Allocator, B: Allocator, V: Values>(
     alloc: &'a A,
     html: &mut Html<'_, A>,
     bench: &Bench<'b, B>,
-    node: &PageNode<'_>,
+    node: &PageNode<'_, '_>,
     values: &mut V,
 ) -> Result<(), TextFault>
     requires { IsPageNode (marked_study bench.now) node.now }
@@ -112,7 +113,7 @@ fn put_defences_at<'a, 'b, A: Allocator, B: Allocator>(
     alloc: &'a A,
     html: &mut Html<'_, A>,
     bench: &Bench<'b, B>,
-    node: &PageNode<'_>,
+    node: &PageNode<'_, '_>,
     list: &[Defence],
 ) -> Result<(), AllocError>
     requires node { IsPageNode (marked_study bench.now) node.now }
@@ -120,11 +121,15 @@ fn put_defences_at<'a, 'b, A: Allocator, B: Allocator>(
     requires all { All (IsPlayed node.now.here.node.position.now) list.now }
     ensures { OnOk result (html.new ≡ html.old
         ++ defence_row (where_words (marked_study bench.now) node.now.here.steps.now)
-        node.now.here.node.position.now list.now) }
+        node.now.here.node.position.now
+        (elsewhere_words node.now.known.now node.now.here.node.position.now list.now) list.now) }
 {
+    let p = node.here.node.position;
     let mut name = Text::new(alloc);
+    let mut elsewhere = Text::new(alloc);
     add_node_name(&mut name, bench, node)?;
-    put_defences(alloc, html, name.as_slice(), node.here.node.position, list)
+    add_elsewhere(&mut elsewhere, node.known, p, list)?;
+    put_defences(alloc, html, name.as_slice(), p, elsewhere.as_slice(), list)
 }
 
 /// The row of the defences that are missing.
@@ -133,13 +138,14 @@ fn add_defences<'a, 'b, A: Allocator, B: Allocator, V: Values>(
     alloc: &'a A,
     html: &mut Html<'_, A>,
     bench: &Bench<'b, B>,
-    node: &PageNode<'_>,
+    node: &PageNode<'_, '_>,
     values: &mut V,
 ) -> Result<(), TextFault>
     requires { IsPageNode (marked_study bench.now) node.now }
     ensures text { V.source.is_honest values.old
         → OnOk result
-        (Grew (DefenceRows (marked_study bench.now) node.now.here.steps.now) html.old html.new) }
+        (Grew (DefenceRowsAmong node.now.known.now (marked_study bench.now) node.now.here.steps.now)
+        html.old html.new) }
     ensures asked { HasAsked (within node.now.here.node.position.now V.source)
         values.old result values.new }
 {
@@ -238,7 +244,7 @@ fn add_end<'a, 'b, A: Allocator, B: Allocator, V: Values>(
     alloc: &'a A,
     html: &mut Html<'_, A>,
     bench: &Bench<'b, B>,
-    node: &PageNode<'_>,
+    node: &PageNode<'_, '_>,
     values: &mut V,
 ) -> Result<(), TextFault>
     requires { IsPageNode (marked_study bench.now) node.now }
@@ -267,7 +273,7 @@ fn put_zugzwang_at<'a, 'b, A: Allocator, B: Allocator>(
     alloc: &'a A,
     html: &mut Html<'_, A>,
     bench: &Bench<'b, B>,
-    node: &PageNode<'_>,
+    node: &PageNode<'_, '_>,
     zugzwang: Option<Zugzwang>,
 ) -> Result<(), AllocError>
     requires { IsPageNode (marked_study bench.now) node.now }
@@ -290,7 +296,7 @@ fn add_zugzwang<'a, 'b, A: Allocator, B: Allocator, V: Values>(
     alloc: &'a A,
     html: &mut Html<'_, A>,
     bench: &Bench<'b, B>,
-    node: &PageNode<'_>,
+    node: &PageNode<'_, '_>,
     values: &mut V,
 ) -> Result<(), TextFault>
     requires { IsPageNode (marked_study bench.now) node.now }
@@ -315,7 +321,7 @@ pub fn add_rows<'a, 'b, A: Allocator, B: Allocator, V: Values>(
     alloc: &'a A,
     parts: &mut Sections<'_, A>,
     bench: &Bench<'b, B>,
-    node: &PageNode<'_>,
+    node: &PageNode<'_, '_>,
     values: &mut V,
 ) -> Result<(), TextFault>
     // Many clauses: one for each part of the page, and those of the probes.
@@ -332,7 +338,7 @@ pub fn add_rows<'a, 'b, A: Allocator, B: Allocator, V: Values>(
         parts.old.zugzwangs parts.new.zugzwangs) }
     ensures defences { V.source.is_honest values.old
         → OnOk result
-        (Grew (DefenceRows (marked_study bench.now) node.now.here.steps.now)
+        (Grew (DefenceRowsAmong node.now.known.now (marked_study bench.now) node.now.here.steps.now)
         parts.old.defences parts.new.defences) }
     ensures ends { V.source.is_honest values.old
         → OnOk result

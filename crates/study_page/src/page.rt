@@ -29,7 +29,8 @@ use std::alloc::{AllocError, Allocator};
 use std::io::Write;
 use study_facts::{EntryInfo, ReviewFault, TextFault, walk_study};
 use study_head::{
-    Judgement, SolutionFacts, Stamp, entry_judgement, put_figure, put_head, solution_facts,
+    Judgement, SolutionFacts, Stamp, entry_judgement, put_figure, put_head, reached_in,
+    solution_facts,
 };
 use study_html::{Element, Html, put_words};
 use study_marks::Bench;
@@ -52,7 +53,8 @@ pub fn parts_of<'a, 'b, A: Allocator, B: Allocator, V: Values>(
     ensures asked { HasAsked (within (marked_study bench.now).start.position V.source)
         values.old result values.new }
 {
-    let mut findings = PageFindings::new(alloc);
+    let known = reached_in(alloc, bench, values)?;
+    let mut findings = PageFindings::new(alloc, known.as_slice());
     walk_study(alloc, &mut findings, bench, values)?;
     Ok(findings.sections)
 }

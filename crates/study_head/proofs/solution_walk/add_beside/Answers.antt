@@ -6,7 +6,6 @@ use Rattle.study_marks.specs.FaultSums.{below_at}
 use Rattle.study_facts.specs.declared.missing_defences.Defence.{Defence}
 use Rattle.study_facts.specs.Defences.{AreDefences}
 use Rattle.study_facts.specs.Line.{moves_of}
-use Rattle.study_facts.specs.Nodes.{parent_path}
 use Rattle.study_facts.proofs.NodesShown.{front-is}
 use Rattle.study_head.specs.Solution.{with_missing}
 use Rattle.study_head.proofs.FactsMade.{move-begins, defence-added}
@@ -25,8 +24,9 @@ returns-clause-added g c h =
     let step = c.args.step.now in
     let there : c.in-Some.there.items ≡ moves_of (below_at s.tree.below c.args.front.now) = rw c.in-Some.is at c.in_ok-children_in.ensures in
     let front = front-is step.steps.now c.args.front.now c.requires.front.0 c.requires.front.1 in
-    defence-added s step c.requires.step c.as_slice.result.now c.as_slice-in-Ok.result.now c.args.facts.now c.note_missing.new.self
+    let known = c.args.findings.now.known.now in
+    defence-added s known step c.requires.step c.as_slice.result.now c.as_slice-in-Ok.result.now c.args.findings.now.facts c.note_missing.new.self
     (c.as_slice.ensures.value ∙ there ∙ ap (λ (u : List ℕ). moves_of (below_at s.tree.below u)) front)
     (subst (λ (l : List Defence). AreDefences step.before.aim.now step.before.depth step.before.position.now c.as_slice.result.now l)
     (sym c.as_slice-in-Ok.ensures.value) (c.in-Ok.ensures.game h))
-    (c.note_missing.ensures ∙ ap (with_missing c.args.facts.now) c.missing_beside.ensures)
+    (c.note_missing.ensures ∙ ap (with_missing c.args.findings.now.facts) c.missing_beside-missing.ensures)

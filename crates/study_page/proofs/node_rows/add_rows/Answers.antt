@@ -1,7 +1,7 @@
 use Rattle.study_marks.specs.BenchState.{marked_study}
 use Rattle.study_facts.specs.Asked.{within}
 use Rattle.study_facts.specs.Made.{Grew}
-use Rattle.study_page.specs.Rows.{TryRows, ZugzwangRows, DefenceRows}
+use Rattle.study_page.specs.Rows.{TryRows, ZugzwangRows, DefenceRowsAmong}
 use Rattle.study_facts.proofs.Asking.{all-then, asks-then, same-asks}
 use Rattle.study_page.proofs.MadeRows.{on-ok}
 use Rattle.study_page.proofs.node_rows.add_rows.Goals as goal
@@ -19,7 +19,8 @@ returns-clause-zugzwangs g c h =
 
 pub returns-clause-defences : goal.returns-clause-defences
 returns-clause-defences g c h =
-    on-ok c.add_end.result (Grew (DefenceRows (marked_study c.args.bench.now) c.args.node.now.here.steps.now) c.args.parts.now.defences c.add_defences.new.html)
+    on-ok c.add_end.result (Grew (DefenceRowsAmong c.args.node.now.known.now (marked_study c.args.bench.now) c.args.node.now.here.steps.now)
+    c.args.parts.now.defences c.add_defences.new.html)
     (c.in_ok-add_defences.ensures.text (c.in_ok-add_zugzwang.ensures.asked.honest (c.in_ok-add_try.ensures.asked.honest h)))
 
 pub returns-clause-ends : goal.returns-clause-ends
