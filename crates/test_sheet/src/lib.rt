@@ -19,4 +19,6 @@ mod remarks;
 #[cfg(test)]
 mod sheet;
 #[cfg(test)]
+mod transposed;
+#[cfg(test)]
 mod verdicts;
