@@ -97,18 +97,18 @@ export async function countsOf(fen) {
 const reviews = /** @type {Map<string, Review>} */ (new Map());
 let last = {letters: 1, ms: 0};
 /**
- * How many legal replies each try has that several moves refute, as the program counts them; it needs no tables.
+ * How many legal replies each try has that several moves refute, by the program's view of it.
  * @param {Engine} worker
  * @param {string} text
  * @param {Review} review
  */
 async function repliesIn(worker, text, review) {
-  const paths = review.refuted.map(r => r.path),
-        several = [...new Set(paths.filter((path, i) => paths[i - 1] === path))];
-  if (!several.length) return {};
-  const answer = await worker.answer('run', text + toText(several.map(path => 'moves ' + path)), PAGES),
-        rows = answer.text.trimEnd().split('\n').slice(-several.length);
-  return Object.fromEntries(several.map((path, i) => [path, Number(/^moves (\d+)/.exec(rows[i] || '')?.[1] || 0)]));
+  const paths = review.refuted.map(r => r.path), counts = /** @type {Record<string, number>} */ ({});
+  for (const path of new Set(paths.filter((path, i) => paths[i - 1] === path))) {
+    const view = readView((await worker.answer('view ' + path, text, PAGES)).text);
+    if (view) counts[path] = view.moves.length;
+  }
+  return counts;
 }
 /**
  * Shows the review of a study, from a worker of its own, so that no move waits for it. A review that takes long is

@@ -102,11 +102,9 @@ def test_tries_on_paper(user):
         ".map(r => [...r.cells].map(c => c.textContent.replace(/\\s+/g, ' ').trim()))")
     user.js("dispatchEvent(new Event('afterprint'))")
     report = user.promise("studyboard.report(studyboard.script() + 'pgn\\n')")
-    rows = user.js(
-        "const p = new DOMParser().parseFromString(arguments[0], 'text/html');"
-        "return [...p.querySelectorAll('tr')].filter(r => r.textContent.includes('1. b4'))"
-        ".map(r => [...r.cells].map(c => c.textContent.replace(/\\s+/g, ' ').trim()))", report)
-    assert paper[0] == rows[0] and count[0] in rows[0][2], (paper, rows)
+    row = next(row for row in re.findall(r"<tr>.*?</tr>", report) if "1. b4" in row)
+    row = [" ".join(re.sub(r"<[^>]*>", "", cell).split()) for cell in re.findall(r"<td>(.*?)</td>", row)]
+    assert paper[0] == row and count[0] in row[2], (paper, row)
 
 
 def test_words(user):
