@@ -483,7 +483,8 @@ def test_report(user):
     tags.feed(answer)
     assert tags.count("article") >= 1 and tags.count("script") == 0
     assert '<span class="stamp sound">sound</span>' in answer
-    assert user.by("saveMenu").is_displayed() and not user.by("saveReport").is_displayed()
+    shown = user.js("return ['saveMenu', 'saveReport'].map(id => document.getElementById(id).checkVisibility())")
+    assert shown == [True, False], shown
 
 
 def test_a_report_waits_for_its_tables(user):
