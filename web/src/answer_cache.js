@@ -2,6 +2,7 @@
 // What the program has answered, kept by the text of its script: views and reviews.
 import {countsIn, readReview, readView, refusalIn} from './parse_answers.js';
 import {keepRemarks, unknownIn} from './remarks.js';
+import {addDetails} from './review_details.js';
 import {fensOf, toText} from './script.js';
 import {PAGES, app, services} from './state.js';
 import {readWording} from './wording.js';
@@ -97,20 +98,6 @@ export async function countsOf(fen) {
 const reviews = /** @type {Map<string, Review>} */ (new Map());
 let last = {letters: 1, ms: 0};
 /**
- * How many legal replies each try has that several moves refute, by the program's view of it.
- * @param {Engine} worker
- * @param {string} text
- * @param {Review} review
- */
-async function repliesIn(worker, text, review) {
-  const paths = review.refuted.map(r => r.path), counts = /** @type {Record<string, number>} */ ({});
-  for (const path of new Set(paths.filter((path, i) => paths[i - 1] === path))) {
-    const view = readView((await worker.answer('view ' + path, text, PAGES)).text);
-    if (view) counts[path] = view.moves.length;
-  }
-  return counts;
-}
-/**
  * Shows the review of a study, from a worker of its own, so that no move waits for it. A review that takes long is
  * requested once the user rests.
  * @param {string} text
@@ -121,6 +108,7 @@ export async function reviewOf(text, fen, stamp) {
   const kept = reviews.get(text), expected = last.ms * Math.min(1, text.length / last.letters);
   if (kept) {
     app.review = kept;
+    addDetails(text, fen, kept, stamp).catch(() => {});
     return;
   }
   await pause(expected > 150 ? Math.min(1000, 2 * expected) : 30);
@@ -131,7 +119,6 @@ export async function reviewOf(text, fen, stamp) {
     const began = performance.now(), answer = await worker.answer('review', text + 'pgn\n', PAGES);
     const review = readReview(answer.text);
     last = {letters: text.length, ms: performance.now() - began};
-    if (review) review.replies = await repliesIn(worker, text, review);
     if (review) remember(reviews, text, review);
     if (stamp !== app.stamp) return;
     app.review = review;
@@ -142,4 +129,5 @@ export async function reviewOf(text, fen, stamp) {
   if (stamp !== app.stamp) return;
   services.showFacts();
   services.keep();
+  if (app.review) addDetails(text, fen, app.review, stamp).catch(() => {});
 }

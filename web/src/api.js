@@ -128,6 +128,6 @@ export function makeApi(spawn) {
     /** Settles when all that was requested before is done. */
     idle,
     /** What the last answer took, for measures. */
-    last: () => ({...services.core.last, facts: {...services.facts.last}, reviewed: app.review !== null}),
+    last: () => ({...services.core.last, facts: {...services.facts.last}, reviewed: Boolean(app.review?.details)}),
   });
 }

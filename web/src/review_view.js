@@ -6,7 +6,7 @@ import {change} from './actions.js';
 import {app} from './state.js';
 import {insertLines} from './edits.js';
 import {byNode, section} from './facts_parts.js';
-import {allNodes} from './parse_answers.js';
+import {allNodes, nodeAt} from './parse_answers.js';
 import {table} from './table.js';
 import {triesView} from './tries_view.js';
 import {add, alsoView, nodeLink} from './verdict_view.js';
@@ -73,16 +73,33 @@ function defencesView(s, review, root) {
     aim && (aim.goal === 'draw' ? draws : mates),
     h('span', {class: 'act'}, 'A click adds it, with its answer if there is only one.')
   ];
-  const single = review.missing.filter(d => d.count === 1).length;
+  const single = rows.flatMap(([n, list]) => toAdd(review, n, list)).length;
   return rows.length > 0 && section('defences', wordOf('defences'), note, [
     single > 1 &&
       h('p', {class: 'act'},
-        smallButton(
-          `Add all ${single} with one answer`, 'each with its only answer', () => addAll(rows), {id: 'addAll'})),
+        smallButton(`Add all ${single} with one answer`, 'each with its only answer', () => addAll(review, rows),
+          {id: 'addAll'})),
     table(['After', 'Given', 'Not given, with the answer if there is only one'], rows,
-      ([n, list]) => missingView(s, n, list))
+      ([n, list]) => missingView(s, review, n, list))
   ]);
 }
+/**
+ * The move of the tree that leads where a defence leads, if one is known.
+ * @param {Review} review
+ * @param {TreeNode} n
+ * @param {Missing} d
+ */
+function elsewhere(review, n, d) {
+  const path = review.details?.elsewhere[n.path]?.[d.san];
+  return path && app.view ? nodeAt(app.view.root, path) : null;
+}
+/**
+ * The defences with one answer that lead where no move of the tree leads.
+ * @param {Review} review
+ * @param {TreeNode} n
+ * @param {Missing[]} list
+ */
+const toAdd = (review, n, list) => list.filter(d => d.count === 1 && !elsewhere(review, n, d));
 /**
  * How long a defence lasts: one that draws, for ever.
  * @param {Missing} d
@@ -112,19 +129,31 @@ function byWorth(s, n, list) {
   return [...list].sort((x, y) => worth(x) - worth(y) || lasting(y) - lasting(x));
 }
 /**
+ * How a defence is met, and that it leads where the tree leads.
+ * @param {Review} review
+ * @param {TreeNode} n
+ * @param {Missing} d
+ */
+function answerView(review, n, d) {
+  const same = elsewhere(review, n, d);
+  return [
+    d.count === 1 ? h('i', {}, d.answer) : h('small', {}, answersText(d.count)),
+    same && [' (as after ', nodeLink(same), ')']
+  ];
+}
+/**
  * @param {Study} s
+ * @param {Review} review
  * @param {TreeNode} n
  * @param {Missing[]} list
  */
-function missingView(s, n, list) {
+function missingView(s, review, n, list) {
   const sorted = byWorth(s, n, list),
-        view = (/** @type {Missing} */ d) => [defenceView(s, n, d), ' ',
-          d.count === 1 ? h('i', {}, d.answer) : h('small', {}, answersText(d.count)),
+        view = (/** @type {Missing} */ d) => [defenceView(s, n, d), ' ', answerView(review, n, d),
           d === sorted[sorted.length - 1] ? '' : '; '];
   const rest = sorted.slice(FIRST),
-        more =
-          h('button', {class: 'chip act more', onclick: () => more.replaceWith(...rest.flatMap(d => view(d)).flat())},
-            `and ${rest.length} more`);
+        more = h('button', {class: 'chip act more', onclick: () => more.replaceWith(h('span', {}, rest.map(view)))},
+          `and ${rest.length} more`);
   const given = n.children.length, answered = `answers ${given} of ${given + list.length}`;
   return [
     [nodeLink(n), h('br', {}), h('small', {}, answered)], n.children.map(c => c.san).join(' ') || '–',
@@ -133,15 +162,16 @@ function missingView(s, n, list) {
 }
 /**
  * All defences that one answer alone meets, each with it.
+ * @param {Review} review
  * @param {[TreeNode, Missing[]][]} rows
  */
-const addAll = rows => change(now => {
+const addAll = (review, rows) => change(now => {
   const s = now.studies[now.at], view = app.view;
   if (!s || !view) return null;
   let lines = now.lines;
   for (const [n, list] of rows) {
     const study = {...s, last: s.last + lines.length - now.lines.length};
-    const sans = list.filter(d => d.count === 1).map(d => [d.san, d.answer]);
+    const sans = toAdd(review, n, list).map(d => [d.san, d.answer]);
     lines = insertLines(lines, study, view.root, n.path, sans).lines;
   }
   return {lines, path: now.path};

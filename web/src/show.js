@@ -170,7 +170,7 @@ function drawFacts() {
   part('verdict', [s, app.view !== null, app.noView, app.review], () => s && verdictView(s));
   part('unread', [s, ...saying()], () => s && cutView(s));
   part('mend', [s, app.view !== null, app.review], () => s && faultsView(s));
-  part('review', [s, app.view !== null, app.review, app.noReview], () => s && reviewView(s));
+  part('review', [s, app.view !== null, app.review, app.review?.details, app.noReview], () => s && reviewView(s));
   part('list', listFrom(), entriesView);
   markShown();
   speakVerdict();

@@ -83,7 +83,7 @@ const overText = (aim, n, list) => (list.length === 0 ? wordOf('mate') + lateTex
  * @param {import('./types.js').Refutation[]} list
  */
 function countView(review, n, list) {
-  const all = (review.replies || {})[n.path];
+  const all = review.details?.replies[n.path];
   return list.length === 1 ? h('b', {}, 'only') : h('small', {}, `(${list.length}${all ? ` of ${all}` : ''})`);
 }
 /**

@@ -46,10 +46,14 @@
  * @typedef {{path: string, san: string, value: Value, count: number, answer: string}} Missing
  * @typedef {{path: string, value: Value | null, keeping: number, of: number, sans: string[]}} Ending   no value: drawn
  * @typedef {{empty: boolean, waste: string, stamp: string, worst: string, faults: Fault[], also: Also[],
- *   refuted: Refutation[], missing: Missing[], ends: Ending[], replies?: Record<string, number>}} Review
+ *   refuted: Refutation[], missing: Missing[], ends: Ending[], details?: ReviewDetails}} Review
  *   `empty`: the tree has no move of the hero; `stamp` and `worst` are those of a view of the study
- *   `replies`: of a try that several moves refute, how many legal replies it has, as far as that is known
+ *   `details`: what is added behind it, as far as it is known
  *   `waste`: the stamp by which loss of time is no dual, as `sound but for loss of time`; empty where none loses time
+ *
+ * @typedef {{replies: Record<string, number>, elsewhere: Record<string, Record<string, string>>}} ReviewDetails
+ *   `replies`: by the path of a node, how many legal moves there are
+ *   `elsewhere`: by the path of a node and a move there, the path of the move of the tree that leads to the same position
  *
  * @typedef {{square: number, kind: 'none' | 'fails' | 'holds' | 'only', value: Value | null, count: number,
  *   san: string}} Stand

@@ -91,6 +91,7 @@ def test_tries_on_paper(user):
     moves = "1. Kg3 (1. b4 Kf6) Kf5"
     user.open_file("try.pgn", GAME.format(event="One", author="A", fen=FEN, result="1-0", moves=moves))
     user.until("document.getElementById('tries')", 60)
+    user.until("studyboard.last().reviewed", 60)
     user.settle()
     shown = user.text("tries")
     count = re.search(r"\((\d+) of (\d+)\)", shown)
