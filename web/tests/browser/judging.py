@@ -108,6 +108,18 @@ def test_tries_on_paper(user):
     assert paper[0] == row and count[0] in row[2], (paper, row)
 
 
+def test_a_defence_elsewhere(user):
+    """A defence that is not given, and leads where another move leads, says so, and is not added with the others."""
+    user.open_tables(TABLES, ["KK", "KQK"])
+    fen, moves = "1k6/8/8/K7/8/4Q3/8/8 w - - 0 1", "1. Kb6 (1. Qe2 Kc8 2. Qe3 Kb8 3. Kb6 Kc8) Ka8 2. Qe8#"
+    user.open_file("twice.pgn", GAME.format(event="One", author="A", fen=fen, result="1-0", moves=moves))
+    user.until("studyboard.last().reviewed && document.getElementById('defences')", 60)
+    user.settle()
+    rows = user.js("return [...document.querySelectorAll('#defences tbody tr')].map(r => r.textContent.replace(/\\s+/g, ' '))")
+    first = next(row for row in rows if row.startswith("1. Kb6"))
+    assert "Kc8" in first and "(as after 3... Kc8)" in first, rows
+
+
 def test_words(user):
     """The comments and signs of a PGN are shown; others are written at a node and above the study, and saved."""
     opened(user)
