@@ -495,12 +495,13 @@ class Facts:
         for kind in reversed(KINDS_OF_DUALS):
             if kind in found:
                 path, words = found[kind]
-                others = [a[1] for a in also if a[0] == words]
-                self.cook = f"cook: {front(path[:-1])}{others[0]}" if kind == "cook" else None
+                others = [a for a in also if a[0] == words]
+                other = next((a for a in others if lost_time(a) is None), others[0])[1]
+                self.cook = f"cook: {front(path[:-1])}{other}" if kind == "cook" else None
                 more = f" and {len(others) - 1} more" if len(others) > 1 else ""
                 turn = max((n for n in range(1, len(path) + 1) if path[n - 1]), default=0)
                 after = f" (after {label(path[:turn])})" if turn else ""
-                self.worst = f"{label(path)}: also {others[0]}{more}{', wastes time' if kind == 'time' else ''}{after}"
+                self.worst = f"{label(path)}: also {other}{more}{', wastes time' if kind == 'time' else ''}{after}"
         for fact in missing:
             path = () if fact[0] == "root" else tuple(map(int, fact[0].split(".")))
             given = value(path + (0,))
@@ -562,6 +563,8 @@ class Judged:
                     + several(counts["time"], "wastes time", "waste time")
             self.stamp = f"{duals} dual{'' if duals == 1 else 's'}{apart}"
             self.words = f"The stipulation is correct; the solution has {self.stamp}."
+            if counts["last"] + counts["time"] == duals:
+                self.stamp, self.words = self.stamp + missing, self.words + says
         if empty:
             self.words += " No move of the solution is given yet."
 

@@ -22,13 +22,13 @@ use Rattle.study_head.specs.declared.verdict.Stamp.TheVariants.{Sound, Duals}
 use Rattle.study_head.specs.declared.solution.DualCounts.{DualCounts}
 use Rattle.study_head.specs.declared.solution.SolutionFacts.{SolutionFacts}
 use Rattle.study_head.specs.Mistake.{mistake_among, named_fault, first_mistake}
-use Rattle.study_head.specs.Verdict.{asks_too_little, excess_stamp, wrong_stamp, cook_of, cook_stamp, solution_stamp, mistake_stamp, first_stamp, stamp_of}
+use Rattle.study_head.specs.Verdict.{missing_beside, asks_too_little, excess_stamp, wrong_stamp, cook_of, cook_stamp, solution_stamp, mistake_stamp, first_stamp, stamp_of}
 use Rattle.study_head.specs.Laws.{AreDuals, DualsAreCounted, SoundHasNoFault}
 
 -- the stamps of a study whose stipulation is correct, and which has no mistake
 abbrev IsRight : Stamp → Bool
 IsRight (Sound wastes missing) = true
-IsRight (Duals d counts) = true
+IsRight (Duals d counts missing) = true
 IsRight _ = false
 
 not-excess : (g : Goal) (hero first : Side) (v : Value) → IsRight (excess_stamp g hero first v) ≡ true → ⊥
@@ -82,24 +82,26 @@ verdict-by : (s : Study Mark) (b : Bool) → meets_stipulation (aim_of s) s.tree
 verdict-by s b meets e = rw meets (rw e refl)
 
 -- by the number of duals
-counted-in : (o : Option NamedMove) (n : ℕ) (c : DualCounts) (duals : ℕ) (counts : DualCounts) → cook_stamp o (Duals n c) ≡ Duals duals counts → n ≡ duals
-counted-in None n c duals counts h = let same : n ≡ duals = cc in same
-counted-in (Some m) n c duals counts h = let no : ⊥ = cc in absurd no
+counted-in : (o : Option NamedMove) (n : ℕ) (c : DualCounts) (a : Option NamedMove) (duals : ℕ) (counts : DualCounts) (missing : Option NamedMove)
+    → cook_stamp o (Duals n c a) ≡ Duals duals counts missing → n ≡ duals
+counted-in None n c a duals counts missing h = let same : n ≡ duals = cc in same
+counted-in (Some m) n c a duals counts missing h = let no : ⊥ = cc in absurd no
 
-not-sound : (o : Option NamedMove) (n : ℕ) (c : DualCounts) (missing : Option NamedMove) → cook_stamp o (Duals n c) ≡ Sound false missing → ⊥
-not-sound None n c missing h = let no : ⊥ = cc in no
-not-sound (Some m) n c missing h = let no : ⊥ = cc in no
+not-sound : (o : Option NamedMove) (n : ℕ) (c : DualCounts) (a missing : Option NamedMove) → cook_stamp o (Duals n c a) ≡ Sound false missing → ⊥
+not-sound None n c a missing h = let no : ⊥ = cc in no
+not-sound (Some m) n c a missing h = let no : ⊥ = cc in no
 
-by-duals : (n : ℕ) (e : Bool) (f : SolutionFacts) (duals : ℕ) (counts : DualCounts) → solution_stamp n e f ≡ Duals duals counts
+by-duals : (n : ℕ) (e : Bool) (f : SolutionFacts) (duals : ℕ) (counts : DualCounts) (missing : Option NamedMove)
+    → solution_stamp n e f ≡ Duals duals counts missing
     → (n ≡ duals) × ((n == 0) ≡ false)
-by-duals n e f duals counts h = go (n == 0) refl (f.counts.time == n) refl e h
+by-duals n e f duals counts missing h = go (n == 0) refl (f.counts.time == n) refl e h
   where
-    go : (b : Bool) → (n == 0) ≡ b → (t : Bool) → (f.counts.time == n) ≡ t → (e : Bool) → solution_stamp n e f ≡ Duals duals counts
-        → (n ≡ duals) × ((n == 0) ≡ false)
+    go : (b : Bool) → (n == 0) ≡ b → (t : Bool) → (f.counts.time == n) ≡ t → (e : Bool)
+        → solution_stamp n e f ≡ Duals duals counts missing → (n ≡ duals) × ((n == 0) ≡ false)
     go true z t y true = rw z (λ h. let no : ⊥ = cc in absurd no)
     go true z t y false = rw z (λ h. let no : ⊥ = cc in absurd no)
     go false z true y e = rw z (rw y (λ h. let no : ⊥ = cc in absurd no))
-    go false z false y e = rw z (rw y (λ h. (counted-in (cook_of f.worst) n f.counts duals counts h, refl)))
+    go false z false y e = rw z (rw y (λ h. (counted-in (cook_of f.worst) n f.counts (missing_beside f) duals counts missing h, refl)))
 
 by-sound : (n : ℕ) (e : Bool) (f : SolutionFacts) (missing : Option NamedMove) → solution_stamp n e f ≡ Sound false missing → (n == 0) ≡ true
 by-sound n e f missing h = go (n == 0) refl (f.counts.time == n) refl h
@@ -107,12 +109,12 @@ by-sound n e f missing h = go (n == 0) refl (f.counts.time == n) refl h
     go : (b : Bool) → (n == 0) ≡ b → (t : Bool) → (f.counts.time == n) ≡ t → solution_stamp n e f ≡ Sound false missing → (n == 0) ≡ true
     go true z t y = rw z (λ h. refl)
     go false z true y = rw z (rw y (λ h. let no : ⊥ = cc in absurd no))
-    go false z false y = rw z (rw y (λ h. absurd (not-sound (cook_of f.worst) n f.counts missing h)))
+    go false z false y = rw z (rw y (λ h. absurd (not-sound (cook_of f.worst) n f.counts (missing_beside f) missing h)))
 
 pub duals-counted : DualsAreCounted
-duals-counted s f duals counts h e =
+duals-counted s f duals counts missing h e =
     let r = right s f (ap IsRight e) in
-    let n = by-duals s.tree.label.faults (is_empty (aim_of s).hero_first s.tree.below) f duals counts (sym r.2 ∙ e) in (
+    let n = by-duals s.tree.label.faults (is_empty (aim_of s).hero_first s.tree.below) f duals counts missing (sym r.2 ∙ e) in (
       verdict-by s false r.0 n.1 ∙ ap unsound n.0,
       (faults-of-solution s h).0 ∙ n.0,
       all-duals (solution_faults s) (none-named s (mistake_among (solution_faults s)) r.1),

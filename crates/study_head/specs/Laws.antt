@@ -20,7 +20,8 @@ AreDuals (x ∷ xs) = (is_mistake (Some x.mark) ≡ false) × AreDuals xs
 -- a study with a stamp of duals has a correct stipulation, and so many faults, each of them a dual
 abbrev pub DualsAreCounted : Type 0
 DualsAreCounted =
-    (s : Study Mark) (f : SolutionFacts) (duals : ℕ) (counts : DualCounts) → IsAnnotated s → stamp_of s f ≡ Duals duals counts
+    (s : Study Mark) (f : SolutionFacts) (duals : ℕ) (counts : DualCounts) (missing : Option NamedMove) → IsAnnotated s
+    → stamp_of s f ≡ Duals duals counts missing
     → (verdict s ≡ unsound duals) × (length (solution_faults s) ≡ duals) × AreDuals (solution_faults s)
 
 -- a study that is called sound, without a word on its duals, has a correct stipulation and no fault

@@ -89,9 +89,18 @@ abbrev pub turn_at : Study Mark → List ℕ → ℕ → Option NamedMove
 turn_at s path n =
     if n == 0 then None else named_turn s n (slice_get (line_to s (parent_path path)) (n - 1)) (played_by (spot_at s.tree (take n path)))
 
+abbrev pub first_move : List Alternative → Option Move
+first_move [] = None
+first_move (x ∷ xs) = Some x.played
+
+-- the first of these moves that does more than waste time
+abbrev pub first_lasting : List Alternative → Option Move
+first_lasting [] = None
+first_lasting (x ∷ xs) = if is_some x.time then first_lasting xs else Some x.played
+
+-- the move that is named beside a dual: none that only wastes time, if another does more
 abbrev pub first_other : List Alternative → Option Move
-first_other [] = None
-first_other (x ∷ xs) = Some x.played
+first_other list = if is_some (first_lasting list) then first_lasting list else first_move list
 
 -- the dual m, the last move of the path, beside which these moves hold
 abbrev pub dual_at : Study Mark → List ℕ → Move → List Alternative → NamedDual

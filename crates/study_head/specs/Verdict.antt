@@ -66,9 +66,17 @@ abbrev pub cook_stamp : Option NamedMove → Stamp → Stamp
 cook_stamp None other = other
 cook_stamp (Some m) other = Cooked m
 
+-- all duals are in last moves, or waste time
+abbrev pub are_minor : DualCounts → Bool
+are_minor c = (c.cooks == 0) && ((c.main == 0) && (c.variations == 0))
+
+-- a main defence that is not given is said beside minor duals
+abbrev pub missing_beside : SolutionFacts → Option NamedMove
+missing_beside f = if are_minor f.counts then f.missing else None
+
 -- of so many duals, some of which do more than waste time
 abbrev pub dual_stamp : ℕ → SolutionFacts → Stamp
-dual_stamp duals f = cook_stamp (cook_of f.worst) (Duals duals f.counts)
+dual_stamp duals f = cook_stamp (cook_of f.worst) (Duals duals f.counts (missing_beside f))
 
 -- of a solution without a mistake, by the number of its duals, whether it has no move of the hero, and its facts
 abbrev pub solution_stamp : ℕ → Bool → SolutionFacts → Stamp
@@ -178,8 +186,8 @@ abbrev pub sound_words : Bool → List ℕ
 sound_words wastes = if wastes then codes "sound, duals waste time" else codes "sound"
 
 -- `wrong: White wins`, `wrong: White mates in 2`, `does not win`, `fails at 1. Ka2: 1... f1=Q`, `cook: 1. Kc3`, `sound; main defence 1... Ke7 not given`,
--- `sound, duals waste time`, `correct, no solution yet`, `3 duals, 2 waste time`, `2 duals in variations, none in the main line`, `not read: line 17`,
--- `refuted`, `a second solution`
+-- `sound, duals waste time`, `correct, no solution yet`, `3 duals, 2 waste time`, `1 dual in the last move; main defence 1... Ke7 not given`,
+-- `2 duals in variations, none in the main line`, `not read: line 17`, `refuted`, `a second solution`
 abbrev pub stamp_words : Stamp → List ℕ
 stamp_words (Wins side) = wrong ++ wins_words side
 stamp_words (Mates side v) = wrong ++ value_text side v
@@ -188,7 +196,7 @@ stamp_words (Fails m reply) = fails_words m reply
 stamp_words (Cooked m) = cook_words m
 stamp_words (Sound wastes missing) = sound_words wastes ++ missing_words missing
 stamp_words Correct = codes "correct, no solution yet"
-stamp_words (Duals duals counts) = duals_stamp duals counts
+stamp_words (Duals duals counts missing) = duals_stamp duals counts ++ missing_words missing
 stamp_words (NotRead line) = unread_words line
 stamp_words Refuted = codes "refuted"
 stamp_words SecondSolution = codes "a second solution"
@@ -238,7 +246,7 @@ stamp_sentence (Fails m reply) = fails_sentence m reply
 stamp_sentence (Cooked m) = cook_sentence m
 stamp_sentence (Sound wastes missing) = only_moves_sentence wastes ++ missing_sentence missing
 stamp_sentence Correct = codes "The stipulation is correct."
-stamp_sentence (Duals duals counts) = duals_sentence duals counts
+stamp_sentence (Duals duals counts missing) = duals_sentence duals counts ++ missing_sentence missing
 stamp_sentence (NotRead line) = codes "A line of this study could not be read, so there is no verdict."
 stamp_sentence Refuted = codes "This line is a try, and it is refuted."
 stamp_sentence SecondSolution = codes "This line is a try, and it works: it is a second solution."
@@ -317,7 +325,7 @@ dual_words (Some x) =
 
 -- the worst dual behind a stamp that does not name it
 abbrev pub first_fault : Stamp → SolutionFacts → List ℕ
-first_fault (Duals duals counts) f = dual_words f.worst
+first_fault (Duals duals counts missing) f = dual_words f.worst
 first_fault (Cooked m) f = dual_words f.worst
 first_fault (Sound wastes missing) f = dual_words f.worst
 first_fault _ f = []

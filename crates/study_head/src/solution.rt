@@ -6,7 +6,7 @@ ghost use Rattle.study_facts.specs.Play.{IsPlayed};
 ghost use Rattle.study_facts.specs.StudyNode.{IsStudyMove, IsStudyNode};
 ghost use Rattle.study_head.specs.Reached.{named_at};
 ghost use Rattle.study_head.specs.Solution.{kind_at, dual_kind, one_more, counted, rank, turn_depth, turn_at};
-ghost use Rattle.study_head.specs.Solution.{first_other, dual_at, is_worse, worse_of, with_dual, first_reply, with_mistake, lasts_as_long};
+ghost use Rattle.study_head.specs.Solution.{first_lasting, first_other, dual_at, is_worse, worse_of, with_dual, first_reply, with_mistake, lasts_as_long};
 ghost use Rattle.study_head.specs.Solution.{is_main_defence, main_defence, named_defence, with_missing, is_given_defence, no_facts};
 ghost use Rattle.study_head.specs.MainLine.{is_main};
 
@@ -245,12 +245,32 @@ fn turn_at<'b, B: Allocator>(
     })
 }
 
-fn first_other(list: &[Alternative]) -> Option<Move>
-    ensures { result ≡ first_other list.now }
+/// The first of these moves that does more than waste time.
+fn first_lasting(list: &[Alternative]) -> Option<Move>
+    ensures { result ≡ first_lasting list.now }
 {
     match list.split_first() {
         None => None,
-        Some((first, _)) => Some(first.played),
+        Some((first, rest)) => {
+            if first.time.is_some() {
+                first_lasting(rest)
+            } else {
+                Some(first.played)
+            }
+        }
+    }
+}
+
+/// The move that is named beside a dual: none that only wastes time, if another does more.
+fn first_other(list: &[Alternative]) -> Option<Move>
+    ensures { result ≡ first_other list.now }
+{
+    match first_lasting(list) {
+        Some(played) => Some(played),
+        None => match list.split_first() {
+            None => None,
+            Some((first, _)) => Some(first.played),
+        },
     }
 }
 

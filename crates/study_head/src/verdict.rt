@@ -1,8 +1,8 @@
 //! The verdict on a study, and its words.
 ghost use Rattle.std.specs.Prelude.{◌≡◌, IfSome};
 ghost use Rattle.study_marks.specs.BenchState.{marked_study};
-ghost use Rattle.study_head.specs.Verdict.{asks_too_little, excess_stamp, wrong_stamp, other_named, cook_of, dual_stamp, solution_stamp};
-ghost use Rattle.study_head.specs.Verdict.{stamp_of, IsLegalStamp, judgement_of, standing_stamp, is_whole, entry_judgement};
+ghost use Rattle.study_head.specs.Verdict.{asks_too_little, excess_stamp, wrong_stamp, other_named, cook_of, are_minor, missing_beside, dual_stamp};
+ghost use Rattle.study_head.specs.Verdict.{solution_stamp, stamp_of, IsLegalStamp, judgement_of, standing_stamp, is_whole, entry_judgement};
 
 use crate::mistake::{NamedMove, copy_of, first_mistake};
 use crate::solution::{DualCounts, DualKind, NamedDual, SolutionFacts};
@@ -31,8 +31,8 @@ pub enum Stamp {
     Sound(bool, Option<NamedMove>),
     /// The stipulation is correct, and no move of the hero is given.
     Correct,
-    /// The number of duals, and how many there are of each kind.
-    Duals(u32, DualCounts),
+    /// The number of duals, and how many there are of each kind. Beside minor ones a main defence may not be given.
+    Duals(u32, DualCounts, Option<NamedMove>),
     /// No verdict is given, since this line of the script could not be read.
     NotRead(u32),
     /// A try that does not reach the goal.
@@ -110,6 +110,24 @@ fn cook_of(worst: &Option<NamedDual>) -> Option<NamedMove>
     }
 }
 
+/// Whether all duals are in last moves, or waste time.
+fn are_minor(counts: &DualCounts) -> bool
+    ensures { result ≡ are_minor counts.now }
+{
+    counts.cooks == 0 && counts.main == 0 && counts.variations == 0
+}
+
+/// A main defence that is not given is said beside minor duals.
+fn missing_beside(facts: &SolutionFacts) -> Option<NamedMove>
+    ensures { result ≡ missing_beside facts.now }
+{
+    if are_minor(&facts.counts) {
+        copy_of(&facts.missing)
+    } else {
+        None
+    }
+}
+
 /// Of so many duals, some of which do more than waste time.
 fn dual_stamp(duals: u32, facts: &SolutionFacts) -> Stamp
     ensures stamp { result ≡ dual_stamp duals facts.now }
@@ -117,7 +135,7 @@ fn dual_stamp(duals: u32, facts: &SolutionFacts) -> Stamp
 {
     match cook_of(&facts.worst) {
         Some(other) => Stamp::Cooked(other),
-        None => Stamp::Duals(duals, facts.counts),
+        None => Stamp::Duals(duals, facts.counts, missing_beside(facts)),
     }
 }
 

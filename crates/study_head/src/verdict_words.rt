@@ -265,6 +265,30 @@ fn sound_words(wastes: bool) -> &'static [u8]
     }
 }
 
+/// Adds `; main defence 1... Ke7 not given`.
+fn add_missing<A: Allocator>(
+    text: &mut Text<'_, A>,
+    missing: &Option<NamedMove>,
+) -> Result<(), AllocError>
+    ensures { OnOk result (text.new ≡ text.old ++ missing_words missing.now) }
+{
+    add_framed_name(text, missing, b"; main defence ", b" not given")
+}
+
+/// Adds `1 dual in the last move; main defence 1... Ke7 not given`.
+fn add_duals_and_missing<A: Allocator>(
+    text: &mut Text<'_, A>,
+    duals: u32,
+    counts: &DualCounts,
+    missing: &Option<NamedMove>,
+) -> Result<(), AllocError>
+    ensures { OnOk result (text.new ≡ text.old
+        ++ (duals_stamp duals counts.now ++ missing_words missing.now)) }
+{
+    add_duals(text, duals, counts)?;
+    add_missing(text, missing)
+}
+
 /// Adds `sound; main defence 1... Ke7 not given`.
 fn add_sound<A: Allocator>(
     text: &mut Text<'_, A>,
@@ -275,12 +299,13 @@ fn add_sound<A: Allocator>(
         ++ (sound_words wastes ++ missing_words missing.now)) }
 {
     text.add(sound_words(wastes))?;
-    add_framed_name(text, missing, b"; main defence ", b" not given")
+    add_missing(text, missing)
 }
 
 /// Adds `wrong: White wins`, `wrong: White mates in 2`, `does not win`, `fails at 1. Ka2: 1... f1=Q`, `cook: 1. Kc3`,
 /// `sound; main defence 1... Ke7 not given`, `sound, duals waste time`, `correct, no solution yet`, `3 duals, 2 waste time`,
-/// `2 duals in variations, none in the main line`, `not read: line 17`, `refuted`, `a second solution`.
+/// `1 dual in the last move; main defence 1... Ke7 not given`, `2 duals in variations, none in the main line`, `not read: line 17`, `refuted`,
+/// `a second solution`.
 pub fn add_stamp_words<A: Allocator>(
     text: &mut Text<'_, A>,
     stamp: &Stamp,
@@ -296,7 +321,9 @@ pub fn add_stamp_words<A: Allocator>(
         Stamp::Cooked(other) => add_cook(text, other),
         Stamp::Sound(wastes, missing) => add_sound(text, *wastes, missing),
         Stamp::Correct => text.add(b"correct, no solution yet"),
-        Stamp::Duals(duals, counts) => add_duals(text, *duals, counts),
+        Stamp::Duals(duals, counts, missing) => {
+            add_duals_and_missing(text, *duals, counts, missing)
+        }
         Stamp::NotRead(line) => add_unread(text, *line),
         Stamp::Refuted => text.add(b"refuted"),
         Stamp::SecondSolution => text.add(b"a second solution"),
@@ -335,12 +362,15 @@ fn add_duals_sentence<A: Allocator>(
     text: &mut Text<'_, A>,
     duals: u32,
     counts: &DualCounts,
+    missing: &Option<NamedMove>,
 ) -> Result<(), AllocError>
-    ensures { OnOk result (text.new ≡ text.old ++ duals_sentence duals counts.now) }
+    ensures { OnOk result (text.new ≡ text.old
+        ++ (duals_sentence duals counts.now ++ missing_sentence missing.now)) }
 {
     text.add(has_duals())?;
     add_duals(text, duals, counts)?;
-    text.add(full_stop())
+    text.add(full_stop())?;
+    add_missing_sentence(text, missing)
 }
 
 #[tactic(auto, unfolding(crate::specs::Verdict::has_cook))]
@@ -371,6 +401,16 @@ fn only_moves_sentence(wastes: bool) -> &'static [u8]
     }
 }
 
+/// Adds ` The main defence 1... Ke7 is not given.`
+fn add_missing_sentence<A: Allocator>(
+    text: &mut Text<'_, A>,
+    missing: &Option<NamedMove>,
+) -> Result<(), AllocError>
+    ensures { OnOk result (text.new ≡ text.old ++ missing_sentence missing.now) }
+{
+    add_framed_name(text, missing, b" The main defence ", b" is not given.")
+}
+
 fn add_sound_sentence<A: Allocator>(
     text: &mut Text<'_, A>,
     wastes: bool,
@@ -380,7 +420,7 @@ fn add_sound_sentence<A: Allocator>(
         ++ (only_moves_sentence wastes ++ missing_sentence missing.now)) }
 {
     text.add(only_moves_sentence(wastes))?;
-    add_framed_name(text, missing, b" The main defence ", b" is not given.")
+    add_missing_sentence(text, missing)
 }
 
 fn add_win_sentence<A: Allocator>(text: &mut Text<'_, A>, side: Side) -> Result<(), AllocError>
@@ -443,7 +483,9 @@ fn add_stamp_sentence<A: Allocator>(text: &mut Text<'_, A>, stamp: &Stamp) -> Re
         Stamp::Cooked(other) => add_cook_sentence(text, other),
         Stamp::Sound(wastes, missing) => add_sound_sentence(text, *wastes, missing),
         Stamp::Correct => text.add(b"The stipulation is correct."),
-        Stamp::Duals(duals, counts) => add_duals_sentence(text, *duals, counts),
+        Stamp::Duals(duals, counts, missing) => {
+            add_duals_sentence(text, *duals, counts, missing)
+        }
         Stamp::NotRead(_) => {
             text.add(b"A line of this study could not be read, so there is no verdict.")
         }
@@ -590,7 +632,7 @@ pub fn add_first_fault<A: Allocator>(
     ensures { OnOk result (text.new ≡ text.old ++ first_fault stamp.now facts.now) }
 {
     match stamp {
-        Stamp::Duals(_, _) => add_dual_words(text, &facts.worst),
+        Stamp::Duals(_, _, _) => add_dual_words(text, &facts.worst),
         Stamp::Cooked(_) => add_dual_words(text, &facts.worst),
         Stamp::Sound(_, _) => add_dual_words(text, &facts.worst),
         _ => Ok(()),

@@ -19,7 +19,7 @@ fn stamp_element(stamp: &Stamp) -> Element
         Stamp::Cooked(_) => Element::Wrong,
         Stamp::Sound(_, _) => Element::Sound,
         Stamp::Correct => Element::Sound,
-        Stamp::Duals(_, _) => Element::Unsound,
+        Stamp::Duals(_, _, _) => Element::Unsound,
         Stamp::NotRead(_) => Element::Unsound,
         Stamp::Refuted => Element::Sound,
         Stamp::SecondSolution => Element::Wrong,
