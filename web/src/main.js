@@ -15,6 +15,7 @@ import {close as closeFinding, openFinding, startFinding} from './finding_view.j
 import {makeCore} from './engine.js';
 import {back, closeMenu, forth, listenToKeys} from './keys.js';
 import {saveReport} from './reporting.js';
+import {knownReviews} from './list_facts.js';
 import {savedGames} from './saved_games.js';
 import {unreadIn} from './stamps.js';
 import {fensOf, savedScript} from './script.js';
@@ -147,8 +148,8 @@ function sayUnread(how) {
   services.show();
 }
 on('savePgn', () => {
-  download(fileName('.pgn'), savedGames(doc()));
-  sayUnread('with its verdict');
+  download(fileName('.pgn'), savedGames(doc(), true, knownReviews(doc())));
+  sayUnread('and its game says so');
 });
 on('savePlain', () => {
   download(fileName('').replace(/\.checked$/, '') + '.unmarked.pgn', savedGames(doc(), false));

@@ -194,20 +194,27 @@ function saidIn(movetext) {
   return said;
 }
 const VALUE = '(draw|mate|(White|Black) mates in \\d+)',
-      VERDICT = '(White|Black) to (win|draw|mate in \\d+): (wrong|sound|unsound \\d+), ' + VALUE,
-      OPENING = new RegExp(`^${VERDICT}(\\. |$)`),
+      WORDS = '(wrong|sound|unsound|does not|fails at|cook|\\d+ duals?|correct|not read|refuted|a second)\\b[^{}]*?',
+      VERDICT = `(White|Black) to (win|draw|mate in \\d+): ${WORDS}, ${VALUE}`,
+      OPENING = new RegExp(`^${VERDICT}(\\. |$)`), SAID = new RegExp(`\\{${VERDICT}(?=[.}])`, 'g'),
       OURS = new RegExp(`(^|(?<=[.!?:;,\\])]) )${VALUE}(; dual \\d+(; accepted)?)?$`);
 const ACCEPTED = new RegExp(`${VALUE}; dual \\d+; accepted$`);
-/** What a saved game says behind `sound`, which is no verdict on a solution then; its words are fixed. */
-export const noMove = () => 'holds: no move of the solution is given';
+/** What games that were saved before say behind `sound` where there is no solution. */
+const NO_MOVE = 'holds: no move of the solution is given';
 /**
  * What of a comment is not the program's: its words begin the comment before the first move, and end that of a move.
  * @param {string} comment
  */
 function withoutOurs(comment) {
-  const rest = comment.replace(OPENING, ''), none = noMove();
-  return (rest.startsWith(none) ? rest.slice(none.length).replace(/^\. /, '') : rest).replace(OURS, '');
+  const rest = comment.replace(OPENING, '');
+  return (rest.startsWith(NO_MOVE) ? rest.slice(NO_MOVE.length).replace(/^\. /, '') : rest).replace(OURS, '');
 }
+/**
+ * A text of games in one line, without verdicts, which are known only after a while.
+ * @param {string} text
+ */
+export const withoutVerdicts = text =>
+  text.replace(/\s+/g, ' ').replace(SAID, (_, side, aim, word, value) => `{${side} to ${aim}, ${value}`);
 /** @param {string} movetext */
 const isOwn = movetext => OPENING.test(oneLine((/\{([^}]*)\}/.exec(movetext) || [])[1] || ''));
 

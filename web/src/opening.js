@@ -7,7 +7,7 @@ import {app, doc, services, say} from './state.js';
 import {decode, documentOf, plainBytes, importNote, notKept, stillGone, withoutAim} from './imported.js';
 import {freshId} from './keep.js';
 import {lookOf} from './looks.js';
-import {gamesIn, namesOf, remarksOf, saidInTail} from './notes.js';
+import {gamesIn, namesOf, remarksOf, saidInTail, withoutVerdicts} from './notes.js';
 import {replace} from './history.js';
 import {foreignGames, foreignText, inUtf8} from './code_pages.js';
 import {cutOf, textRemarks} from './cut_game.js';
@@ -35,16 +35,16 @@ export function lastOpened() {
   return here ? source : null;
 }
 /**
- * Where the games of a document are the PGN that was opened, byte for byte, nothing of it was lost. They are compared
- * some at a time, up to the first that differs.
+ * Where the games of a document are the PGN that was opened, but for verdicts and the ends of lines, nothing of it was
+ * lost. They are compared some at a time, up to the first that differs.
  */
 export async function checkWhole() {
   const d = doc(), from = source, text = from && from.id === d.id && d.note && d.judged && decode(from.bytes);
   if (!from || !text) return;
-  const whole = text.replace(/\r\n/g, '\n');
+  const whole = withoutVerdicts(text);
   let at = 0;
   for (const [i, study] of d.studies.entries()) {
-    const games = savedGames({...d, studies: [study]});
+    const games = withoutVerdicts(savedGames({...d, studies: [study]}));
     if (!whole.startsWith(games, at)) return;
     at += games.length;
     if (i % SOME === SOME - 1) await new Promise(on => setTimeout(on));

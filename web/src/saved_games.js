@@ -1,8 +1,8 @@
 // @ts-check
 // The games as they are saved: those of the program with what is the author's - his names and tags, his result, his
 // comments and glyphs - in them; with the program's marks or without.
-import {hasSolution, unreadIn} from './stamps.js';
-import {AT_MOVES, RESULT, TOKEN, isMoveText, looseMove, noMove, oneLine, plain} from './notes.js';
+import {stampOf, unreadIn} from './stamps.js';
+import {AT_MOVES, RESULT, TOKEN, isMoveText, looseMove, oneLine, plain} from './notes.js';
 import {cutAt, ownRemark} from './remarks.js';
 import {isOfFile} from './imported.js';
 import {aimText} from './words.js';
@@ -186,26 +186,52 @@ function wrap(text) {
   return lines.join('\n');
 }
 
+/** The program's word for a study, in the comment before its moves. */
+const WORD = /^((?:White|Black) to (?:win|draw|mate in \d+): )(?:wrong|sound|unsound \d+)(?=, )/;
 /**
- * A study's games as they are saved. A study that was not read to its end says so. One without a solution says so with
- * the program's marks; without them a game says what is to be done, unless the author's file does.
+ * A game with the page's verdict in place of the program's word, as far as the facts of the study are known.
+ * @param {string} game
+ * @param {string} verdict
+ */
+function judged(game, verdict) {
+  const cut = game.indexOf('\n\n') + 2, at = game.indexOf('{', cut), end = game.indexOf('}', at);
+  if (!verdict || at !== cut) return game;
+  const said = game.slice(at + 1, end).replace(/\s+/g, ' '), now = said.replace(WORD, (_, aim) => aim + verdict);
+  return said === now ? game : `${game.slice(0, at + 1)}${now}${game.slice(end)}`;
+}
+/**
+ * The verdict on a study as the page has it; empty where only its faults are counted.
+ * @param {Script} script
+ * @param {Study} study
+ * @param {import('./types.js').Review | null} review
+ */
+function verdictOf(script, study, review) {
+  const {text} = stampOf(script, study, review);
+  return unreadIn(script, study) || (/^(not judged|\d+ faults?)$/.test(text) ? '' : text);
+}
+/**
+ * A study's games as they are saved, the last with the page's verdict. Without the program's marks they say what is to
+ * be done, unless the author's file does, and that a study was not read to its end.
  * @param {Script} script
  * @param {Study} study
  * @param {boolean} marks
+ * @param {import('./types.js').Review | null} review
  */
-function gamesOfStudy(script, study, marks) {
+function gamesOfStudy(script, study, marks, review) {
   const remarks = script.lines.slice(study.head, study.from), unread = unreadIn(script, study).replace(/[{}]/g, ''),
-        empty = study.verdict === 'sound' && !hasSolution(script.lines, study, null),
         stated = study.origin && isOfFile(study.origin);
-  const said = marks ? [unread || (empty ? noMove() : '')] : [!stated && study.aim ? aimText(study.aim) : '', unread];
-  return study.games.map(game => withNotes(inOwnLetters(study, game), remarks, marks, said.filter(Boolean)));
+  const said = marks ? [] : [!stated && study.aim ? aimText(study.aim) : '', unread].filter(Boolean),
+        verdict = marks ? verdictOf(script, study, review).replace(/[{}]/g, '') : '', last = study.games.length - 1;
+  return study.games.map(
+    (game, i) => withNotes(inOwnLetters(study, i === last ? judged(game, verdict) : game), remarks, marks, said));
 }
 /**
  * @param {Script} script
  * @param {boolean} [marks]
+ * @param {(import('./types.js').Review | null)[]} [reviews]      of the studies, as far as they are known
  */
-export const savedGames = (script, marks = true) =>
-  script.studies.flatMap(study => gamesOfStudy(script, study, marks)).join('');
+export const savedGames = (script, marks = true, reviews = []) =>
+  script.studies.flatMap((study, i) => gamesOfStudy(script, study, marks, reviews[i] || null)).join('');
 /**
  * A game with the texts of its tags in their own letters.
  * @param {Study} study

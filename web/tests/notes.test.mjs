@@ -6,6 +6,7 @@ import {stipulate, withMoves} from '../src/edits.js';
 import {gamesIn, namesOf, notesMoved, remarksOf} from '../src/notes.js';
 import {savedGames, withNotes} from '../src/saved_games.js';
 import {readScript} from '../src/script.js';
+import {wordOf} from '../src/wording.js';
 
 const GAME = `[Event "Rigaer Tageblatt"]
 [White "Reti"]
@@ -163,20 +164,34 @@ test('a dual that a judge accepts is one when the game is read again', () => {
   assert.deepEqual(remarksOf(saved).filter(line => /accepted|note/.test(line)), [tick, '#! note Kg3 Kf5 Kf3: Or Kf2.']);
   assert.doesNotMatch(withNotes(game, [tick], false), /accepted/);
 });
-test('a study without a move of the hero is not saved as sound alone', () => {
+test('a study without a move of the hero is not saved as sound', () => {
   const position = 'position 8/8/8/6k1/8/8/1P5K/8 w - - 0 1', lines = [position, 'stipulate white win', 'pgn'],
         replies = [position, 'stipulate White to win', '[Event "?"]\n\n{White to win: sound, draw} 1-0\n\n'];
   const saved = savedGames(readScript(lines, lines.map((text, line) => ({text, line})), replies));
-  assert.ok(saved.includes('{White to win: sound, draw. holds: no move of the solution is given} 1-0'), saved);
+  assert.ok(saved.includes(`{White to win: ${wordOf('correct')}, draw} 1-0`), saved);
   assert.deepEqual(remarksOf(saved), ['#! result 1-0']);
+  const before =
+    saved.replace(wordOf('correct'), 'sound').replace('draw}', 'draw. holds: no move of the solution is given}');
+  assert.deepEqual(remarksOf(before), ['#! result 1-0']);
 });
 test('a study that was not read to its end says so where it is saved', () => {
   const script = {
-    lines: ['position x', 'insert root 1.Kg3'],
-    studies: [{head: 0, from: 0, end: 2, originals: {}, games: [OURS]}],
+    lines: ['position 8/8/8/6k1/8/8/1P5K/8 w - - 0 1', 'insert root 1.Kg3', 'insert root Kg3'],
+    studies: [{
+      head: 0,
+      from: 0,
+      end: 3,
+      originals: {},
+      games: [OURS],
+      verdict: 'sound',
+      start: 'White mates in 28',
+      fen: '8/8/8/6k1/8/8/1P5K/8 w - - 0 1',
+      aim: {hero: 'White', goal: 'win', k: 0}
+    }],
     refused: [{line: 1, text: 'insert root 1.Kg3', reply: 'error NotSan'}]
   };
-  assert.ok(savedGames(script).replace(/\s+/g, ' ').includes('mates in 28. not read: 1.Kg3} 1. Kg3'));
+  assert.ok(
+    savedGames(script).replace(/\s+/g, ' ').includes('{White to win: not read: 1.Kg3, White mates in 28} 1. Kg3'));
   assert.equal(savedGames({...script, refused: []}), OURS);
 });
 test('notes follow their moves', () => {

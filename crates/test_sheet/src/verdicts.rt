@@ -1,5 +1,6 @@
 //! Verdicts as a judge reads them, in lists over the table of rook against king.
 use crate::kings::built;
+use std::alloc::Global;
 use std::process::Abort;
 use std::test::Fail;
 use study_list::write_list;
@@ -97,29 +98,55 @@ fn a_try_is_refuted_or_a_second_solution(rt: HostRuntime) -> Result<(), Fail> {
 }
 
 /// Each verdict, with the worst dual behind it, is that of its line, in the list of a script that has the study after each of these lines.
-#[test]
-fn each_study_has_its_verdict(rt: HostRuntime) -> Result<(), Fail> {
-    let alloc = rt.alloc();
-    let mut script = String::new(&alloc);
-    for row in VERDICTS.lines() {
+fn expect_verdicts(rt: &impl Abort, alloc: &Global, rows: &str, names: &[&str]) {
+    let mut script = String::new(alloc);
+    for row in rows.lines() {
         let line = row.split(" -> ").next().unwrap_or(row);
-        script.push_str(line).ok().expect(&rt, "room");
+        script.push_str(line).ok().expect(rt, "room");
         let end = if line == row { "\n" } else { "\npgn\n" };
-        script.push_str(end).ok().expect(&rt, "room");
+        script.push_str(end).ok().expect(rt, "room");
     }
-    let mut list = MemoryWriter::new(&alloc);
+    let mut list = MemoryWriter::new(alloc);
     let answer = write_list(
-        &alloc,
+        alloc,
         &mut MemoryReader::new(script.as_bytes()),
         &mut list,
-        built(&rt, &alloc, &["KK", "KRK"]),
+        built(rt, alloc, names),
     );
     assert!(rt; answer.is_ok());
     let list = std::str::from_utf8(list.taken.as_slice()).unwrap_or("no text");
-    let wanted = VERDICTS.lines().filter_map(|row| row.split(" -> ").nth(1));
-    assert!(rt; list.lines().count() == 1 + 32);
-    for (record, verdict) in list.lines().skip(1).zip(wanted) {
+    let wanted = rows.matches(" -> ").count();
+    assert!(rt; list.lines().count() == wanted.saturating_add(1));
+    let verdicts = rows.lines().filter_map(|row| row.split(" -> ").nth(1));
+    for (record, verdict) in list.lines().skip(1).zip(verdicts) {
         assert!(rt; record.trim_end().ends_with(verdict), "{record}");
     }
-    Ok(())
+}
+
+#[test]
+fn each_study_has_its_verdict(rt: HostRuntime) {
+    let alloc = rt.alloc();
+    expect_verdicts(&rt, &alloc, VERDICTS, &["KK", "KRK"]);
+}
+
+/// After 1... Kf5 White wins by Kd4, too; 2. Kd3 only comes back to the start, by 2... Ke5 3. Ke3. In the second study Kf5 lasts longer than the move
+/// given, and has one answer, 2. Kf3: that is said beside a dual in the last move.
+const PAWN_VERDICTS: &str = "position 8/8/8/4k3/8/4K3/4P3/8 b - - 0 1
+stipulate white win
+insert root Kf5
+insert 0 Kf3
+insert 0.0 Ke5
+insert 0.0.0 Ke3 -> cook: 2. Kd4,2. Kf3: also Kd4 and 1 more
+position 8/8/8/6k1/8/8/1P5K/8 w - - 0 1
+stipulate white win
+insert root Kg3
+insert 0 Kh5
+insert 0.0 Kf4 -> 1 dual in the last move; main defence 1... Kf5 not given,2. Kf4: also b4 and 3 more
+";
+
+#[test]
+fn a_cook_and_a_defence_left_out_are_named(rt: HostRuntime) {
+    let alloc = rt.alloc();
+    let names = ["KK", "KQK", "KRK", "KBK", "KNK", "KPK"];
+    expect_verdicts(&rt, &alloc, PAWN_VERDICTS, &names);
 }
