@@ -61,8 +61,7 @@ const sideView = ({name, fen, aim, stamp}) => h('div', {class: 'side'}, h('h3', 
 export function comparingView() {
   if (!pair) return null;
   const {sides} = pair, [one, two] = sides.map(({view}) => view);
-  const rows =
-    one && two ? differences(one.root, two.root, [one, two].map(({aim}) => (aim ? aim.hero : undefined))) : [];
+  const rows = one && two ? differences(one.root, two.root, [one.aim, two.aim]) : [];
   return [
     h('div', {class: 'sides', id: 'sides'}, sides.map(sideView)),
     rows.length > 0 ? table(['Move', ...sides.map(({name}) => name)], rows,

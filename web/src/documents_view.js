@@ -126,7 +126,8 @@ function tickedView(all) {
   return h('p', {class: 'row', role: 'group', 'aria-label': 'The documents that are chosen'},
     button(
       'Compare', 'two documents side by side', () => compare(names()), {id: 'compare', disabled: ids.length !== 2}),
-    button(`Remove${gone.length ? ` ${gone.length}` : ''}${ui.sure ? ' for good' : ''}`,
+    button(`Remove${gone.length ? ` ${gone.length}` : ''}${ui.sure ? ' for good' : ''}${
+             gone.length < ids.length ? ', not the open one' : ''}`,
       'take them out of this browser', remove, {id: 'removeKept', disabled: !gone.length}));
 }
 /** @param {Head[]} all */

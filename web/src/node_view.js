@@ -103,8 +103,7 @@ export const promote = (n, front = false) =>
  * @param {TreeNode} n
  */
 export function hereView(s, n) {
-  const view = app.view, mover = sideOf(n.fen), over = view ? view.over : '',
-        meaning = markMeaning(n, s.aim ? s.aim.hero : undefined);
+  const view = app.view, mover = sideOf(n.fen), over = view ? view.over : '', meaning = markMeaning(n, s.aim);
   const caption = h('p', {class: 'caption'},
     h('b', {id: 'value'},
       n.parent ? `After ${moveName(n)}: ${valueText(mover, n.value)}` : atStart(valueText(mover, n.value))),

@@ -166,6 +166,26 @@ export async function openPgn(bytes, where, name, how = {
   services.show();
   checkWhole();
 }
+/** What is read in less time is there before it could be said that it is being read. */
+const SOON = 300;
+/**
+ * Says that something is being read, in place of what was said before.
+ * @param {string} name      of its file
+ * @param {() => Promise<any>} read
+ */
+async function whileReading(name, read) {
+  const said = app.say, timer = setTimeout(() => {
+    if (app.say === said) app.say = null;
+    services.telling(`Reading ${name || 'what was pasted'} …`);
+    services.show();
+  }, SOON);
+  try {
+    await read();
+  } finally {
+    clearTimeout(timer);
+    services.telling('');
+  }
+}
 /**
  * A script or a PGN takes the place of the document, which undo brings back; a position is set up.
  * @param {string} text
@@ -174,7 +194,7 @@ export async function openPgn(bytes, where, name, how = {
  */
 export async function openText(text, where = 'script', name = '') {
   if (where === 'script' && refuseLong({id: 'script', value: text}, text)) return;
-  await track(openByLook(text, new TextEncoder().encode(text), where, name));
+  await track(whileReading(name, () => openByLook(text, new TextEncoder().encode(text), where, name)));
 }
 /**
  * @param {string} text
@@ -191,9 +211,9 @@ async function openByLook(text, bytes, where, name) {
  * A file, in whatever letters it is written.
  * @param {File} file
  */
-export const openFile = file => track(file.arrayBuffer().then(buffer => {
-  const bytes = plainBytes(new Uint8Array(buffer));
-  return openByLook(decode(bytes), bytes, 'board', file.name);
+export const openFile = file => track(whileReading(file.name, async () => {
+  const bytes = plainBytes(new Uint8Array(await file.arrayBuffer()));
+  await openByLook(decode(bytes), bytes, 'board', file.name);
 }));
 /**
  * @param {string} text
@@ -203,7 +223,7 @@ export const openFile = file => track(file.arrayBuffer().then(buffer => {
 async function openScript(text, where, name) {
   const lines = linesOf(text);
   if (!lines.some(isCommand) && (name || !lines.every(isSilent))) {
-    say(where, 'This is neither a FEN, a list of men, a PGN nor a script. Nothing was changed.');
+    say(where, 'This is neither a FEN, men as in Kc6 Pd5 / Ka6, a PGN nor a script. Nothing was changed.');
     if (where === 'script') Object.assign(app.say || {}, {field: 'script', typed: text});
     return services.show();
   }

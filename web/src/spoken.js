@@ -21,7 +21,7 @@ import {markMeaning, valueText, zugzwangText} from './words.js';
 export function spokenNode(s, n, over) {
   const {comments, glyphs} = wordsAt(s, n), own = [...glyphs.map(signOf), shownText(comments)].filter(Boolean);
   return [
-    n.parent ? spokenMove(n.parent.fen, n) : wordOf('root'), markMeaning(n, s.aim ? s.aim.hero : undefined),
+    n.parent ? spokenMove(n.parent.fen, n) : wordOf('root'), markMeaning(n, s.aim),
     over === 'mate' ? '' : valueText(sideOf(n.fen), n.value), over === 'stalemate' && over,
     n.zugzwang && `mutual zugzwang, ${zugzwangText(n.zugzwang)}`, own.length > 0 && `note: ${own.join(' ')}`
   ].filter(Boolean)

@@ -14,13 +14,23 @@ import {readAim, reason} from './words.js';
 /** @typedef {import('./types.js').Stand} Stand */
 
 /**
- * All squares of a man: where the aim holds, and where by one first move.
+ * All squares of a man: where the aim holds, and where by one first move. Those of another man go at once.
  * @param {number} man
  */
-export const survey = man => work(async () => {
+export function survey(man) {
   const d = app.setup;
-  if (!d || !d.men[man]) return;
+  if (!d || !d.men[man]) return Promise.resolve();
+  if (d.man !== man) d.survey = null;
   d.man = man;
+  services.showJudged();
+  return findSquares(d, man);
+}
+/**
+ * @param {Draft} d
+ * @param {number} man
+ */
+const findSquares = (d, man) => work(async () => {
+  if (app.setup !== d || d.man !== man) return;
   await services.tables.loadFor([draftFen()]);
   const answer = await services.core.answer(`survey ${squareName(man)} ${d.aim} ${draftFen()}`, '', PAGES);
   const stands = readSurvey(answer.text);

@@ -28,7 +28,8 @@ export function surveyView(d) {
               `${isWhite(letter) ? 'White' : 'Black'} ${letter.toUpperCase()}${squareName(at)}`)));
   return [
     h('p', {class: 'row'}, 'Where else could ', list, ' stand?',
-      button('Show', 'the squares on which the stipulation is correct', () => survey(chosen), {id: 'survey'})),
+      button(
+        'Show', 'the squares on which the stipulation is correct', () => survey(Number(list.value)), {id: 'survey'})),
     d.survey && [standsView(d.survey), rowsView(d.survey), hasTree(d) && treesView(d, d.survey)]
   ];
 }

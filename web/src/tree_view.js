@@ -21,8 +21,7 @@ function moveView(s, n, first) {
   const before = n.parent ? n.parent.fen : n.fen,
         num = first || sideOf(before) === 'White' ? moveNumber(before).replace(' ', '\u00a0') : '';
   const sign = markSign(n), own = shownSigns(wordsAt(s, n), sign).join(' ');
-  const title =
-    [valueText(sideOf(n.fen), n.value), markMeaning(n, s.aim ? s.aim.hero : undefined)].filter(Boolean).join('; ');
+  const title = [valueText(sideOf(n.fen), n.value), markMeaning(n, s.aim)].filter(Boolean).join('; ');
   return h('span', {class: 'mv'},
     h('button', {class: `m ${n.mark}`, 'data-path': n.path, title, 'aria-label': `${moveName(n)}: ${title}`},
       num + n.san, sign && h('b', {}, sign)),

@@ -106,15 +106,16 @@ export const markSign = ({mark}) => (mark === 'only' ? '!' : mark === 'mistake' 
 /**
  * What the mark of a node means.
  * @param {TreeNode} node
- * @param {Side | undefined} hero
+ * @param {Aim | null} aim
  */
-export function markMeaning(node, hero) {
+export function markMeaning(node, aim) {
   if (node.mark === 'only') return 'the only move that works';
   if (node.mark === 'dual')
     return node.duals === 1 ? 'dual: one other move works too' : `dual: ${node.duals} others work too`;
   if (node.mark === 'idle') return 'nothing was to be gained';
-  if (node.mark === 'mistake') return node.parent && sideOf(node.parent.fen) === hero ? letsGo() : 'gives the aim back';
-  return '';
+  if (node.mark !== 'mistake' || !node.parent) return '';
+  if (!aim || sideOf(node.parent.fen) !== aim.hero) return 'gives the aim back';
+  return lateBy(aim, node) > 0 ? `mates${lateText(lateBy(aim, node)).replace(',', '')}` : letsGo();
 }
 /** What is said of a mistake of the hero. */
 export const letsGo = () => wordOf('lets-go').replace(/[ :]*$/, '').trim();

@@ -126,12 +126,17 @@ test('names are found whatever their accents, and each column sorts', () => {
   assert.deepEqual(names(sortEntries(rows, 'number', true)), ['Third', 'Opposition', 'Réti']);
   assert.ok(rows.every(row => isOfKind(row, 'same')));
 });
+const WIN = {
+  hero: 'White',
+  goal: 'win',
+  k: 0
+};
 test('two versions differ in these moves', () => {
   const view = (...rows) =>
     readView(`study ${FEN}\n${rows.map(row => `node ${row} 0 ${FEN}\n`).join('')}`.replace(/0 (7K)/g, '0 0 $1'));
   const one = view('root - - draw reply', '0 Kg7 h8g7 draw only', '0.0 h4 h5h4 draw reply', '1 c7 c6c7 loss 9 mistake'),
         two = view('root - - draw reply', '0 Kg7 h8g7 draw dual 1', '0.0 Kb6 a6b6 draw reply');
-  assert.deepEqual(differences(one.root, two.root, ['White', 'White']).map(({name, said}) => [name, ...said]), [
+  assert.deepEqual(differences(one.root, two.root, [WIN, WIN]).map(({name, said}) => [name, ...said]), [
     ['1. Kg7', 'the only move that works', 'dual: one other move works too'], ['1. h4', 'given', 'not given'],
     ['1. Kb6', 'not given', 'given'], ['1. c7', 'throws it away', 'not given']
   ]);
