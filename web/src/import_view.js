@@ -51,8 +51,13 @@ function askView() {
 /** @param {string} note */
 function noteView(note) {
   const file = doc().name ? `${doc().name}.pgn` : 'a file of another name';
-  const without = / Left out: /.test(note) ? ', without the games that were left out' : '';
-  return note && h('p', {class: 'note', id: 'notKept'}, `${note} Save PGN writes ${file}${without}.`);
+  const without = / Left out: /.test(note) ? ', without the games that were left out' : '',
+        ends = new Set(doc().studies.filter(s => s.origin && s.origin.tail).map(s => s.origin.game));
+  const only = ends.size > 0
+    ? ` Of ${ends.size > 1 ? 'games' : 'game'} ${[...ends].join(', ')} it writes only what is ` +
+      'judged, from four men on: keep the file.'
+    : '';
+  return note && h('p', {class: 'note', id: 'notKept'}, `${note} Save PGN writes ${file}${without}.${only}`);
 }
 const MOST_OFFERED = 5;
 /**

@@ -106,11 +106,26 @@ const doubtNote = games =>
 export function importNote(lines) {
   const [counts] = remarksOfKind(lines, 'total'), out = leftOut(lines);
   if (!counts) return '';
-  const listed = counts.studies > 0 && out.length > 1,
-        which = listed ? `${out.length} games, each with its reason in the list` : firstLeftOut(out);
   return `${counted(counts.games, 'game')}, ${counted(counts.studies, 'study', 'studies')}.` +
-    (out.length ? ` Left out: ${which}.` : '') + doubtNote(doubtedGames(lines));
+    outNote(out, counts.studies) + doubtNote(doubtedGames(lines));
 }
+/**
+ * What is said of games that were left out, beside so many studies.
+ * @param {import('./left_out.js').LeftOut[]} out
+ * @param {number} studies
+ */
+const outNote = (out, studies) => (!out.length ? ''
+    : studies > 0 && out.length > 1            ? ` Left out: ${out.length} games, each with its reason in the list.`
+                                               : ` Left out: ${firstLeftOut(out)}.`);
+/**
+ * What is said of an import once one of its games that were left out stands among the studies.
+ * @param {string} note
+ * @param {string[]} before
+ * @param {string[]} after
+ */
+export const noteAfter = (note, before, after) => [0, 1].reduce(
+  (text, studies) => text.replace(outNote(leftOut(before), studies), outNote(leftOut(after), 1)), note);
+
 /** @param {string} line */
 const isTotal = line => remarksOfKind([line], 'total').length > 0;
 /**

@@ -2,7 +2,7 @@
 // Games with a bad move: opened up to there, mended, and read again.
 import {change, track, work} from './actions.js';
 import {asGame, cutBlock, cutOf, leftOutText, textIn} from './cut_game.js';
-import {documentOf} from './imported.js';
+import {documentOf, noteAfter} from './imported.js';
 import {freshId} from './keep.js';
 import {canBeCut, isCutLine, leftOut, whyLeftOut, withoutCut} from './left_out.js';
 import {refuseLong} from './limits.js';
@@ -77,15 +77,10 @@ async function openAt(lines, line, more = {}, aim = chosenAim(doc().studies)) {
     return true;
   }
   app.setup = null;
-  const at = more.id ? 0 : before.studies.filter(s => s.from < line).length;
-  await change(now => (now === before ? {
-    lines: [...lines.slice(0, line), ...got.lines, ...lines.slice(end)],
-    at,
-    path: 'root',
-    lenient: true,
-    ...more
-  }
-                                      : null));
+  const at = more.id ? 0 : before.studies.filter(s => s.from < line).length,
+        mended = [...lines.slice(0, line), ...got.lines, ...lines.slice(end)];
+  const note = noteAfter(more.note === undefined ? before.note : more.note, lines, mended);
+  await change(now => (now === before ? {lines: mended, at, path: 'root', lenient: true, ...more, note} : null));
   scrollTo(0, 0);
   return true;
 }

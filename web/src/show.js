@@ -27,11 +27,12 @@ import {faultsView, verdictView} from './verdict_view.js';
 import {keyView, listenToTree, markCurrent, showTree} from './tree_view.js';
 import {wordOf} from './wording.js';
 
-let pressing = false;
+let pressing = false, tabbing = false;
 const late = /** @type {Set<() => void>} */ (new Set());
 export function watch() {
   listenToTree();
   onDocument('pointerover', pointedAt);
+  onDocument('keydown', leaving, true);
   addEventListener('scroll', () => {
     $('toast').hidden = true;
   }, {passive: true});
@@ -40,6 +41,17 @@ export function watch() {
       pressing = kind === 'pointerdown';
       if (!pressing) setTimeout(afterwards);
     }, true);
+}
+/**
+ * A field that is left by Tab may change what is shown: that is drawn only once the focus has gone where Tab leads.
+ * @param {KeyboardEvent} e
+ */
+function leaving(e) {
+  if (e.key !== 'Tab') return;
+  tabbing = true;
+  setTimeout(() => {
+    tabbing = false;
+  });
 }
 /**
  * Moves on a button that is pointed at may be put in soon.
@@ -69,10 +81,14 @@ function lately(draw) {
   draw();
   refocus(kept);
 }
+/** @param {Element} e */
+const nameIn = e => e.getAttribute('aria-label') || e.textContent;
 /** @returns {(string | null)[]} */
 function focused() {
   const focus = document.activeElement;
-  return focus ? [focus.id, focus.getAttribute('data-path'), focus.getAttribute('data-san')] : ['', null, null];
+  return focus
+    ? [focus.id, focus.getAttribute('data-path'), focus.getAttribute('data-san'), focus.tagName, nameIn(focus)]
+    : ['', null, null, null, null];
 }
 /**
  * What each part was last drawn from.
@@ -103,6 +119,10 @@ function part(id, from, make) {
 /** A refusal or a note, with what was typed there: whatever shows it is drawn again with it. */
 const saying = () => [app.say, app.say && app.say.text, app.say && app.say.field, app.say && app.say.typed];
 export function show() {
+  if (tabbing) {
+    setTimeout(show);
+    return;
+  }
   const s = study(), n = node(), kept = focused(), d = doc();
   showBoard();
   showBar();
@@ -152,10 +172,12 @@ export function show() {
  * Focus stays where it was, though everything is drawn again.
  * @param {(string | null)[]} kept
  */
-function refocus([id, path, san]) {
-  if (document.activeElement !== document.body) return;
-  const place = path ? `[data-path="${path}"]` : san ? `[data-san="${san}"]` : '';
-  const again = id ? $(id) : place && /** @type {any} */ (document.querySelector(place));
+function refocus([id, path, san, tag, name]) {
+  if (document.activeElement !== document.body || !tag || tag === 'BODY') return;
+  const place = path ? `[data-path="${path}"]` : san ? `[data-san="${san}"]` : tag;
+  const again = id
+    ? $(id)
+    : /** @type {any} */ ([...document.querySelectorAll(place)].find(e => path || san || nameIn(e) === name));
   if (again) again.focus({preventScroll: true});
 }
 /** A refusal that is off the screen is shown below the bar too, until the page is scrolled. */

@@ -7,6 +7,7 @@ import {
   documentOf,
   importNote,
   looksLikePgn,
+  noteAfter,
   notKept,
   originalsIn,
   plainBytes,
@@ -70,6 +71,16 @@ test('games that were left out, and why', () => {
   const doubted = ['#! game 1, line 1: stipulated by its comment', '#! the stipulation differs from its tag Result'];
   assert.equal(importNote([...doubted, 'position x', '', '#! games 1, studies 1']),
     '1 game, 1 study. Sources of the stipulation differ in game 1.');
+});
+test('a game that is opened up to its bad move is no longer said to be left out', () => {
+  const [first, second, third] = LINES.filter(line => leftOut([line]).length),
+                        note = importNote(LINES) + ' Not kept: 1 tag.';
+  assert.equal(noteAfter(note, LINES, LINES.filter(line => line !== second)),
+    '5 games, 2 studies. Left out: 2 games, each with its reason in the list. Not kept: 1 tag.');
+  const one =
+    '5 games, 4 studies. Left out: ' + importNote([first, '#! games 5, studies 4']).slice(30) + ' Not kept: 1 tag.';
+  assert.equal(noteAfter(one, [first], []), '5 games, 4 studies. Not kept: 1 tag.');
+  assert.ok(third);
 });
 test('each reason says what to write instead', () => {
   const why = words => leftOut([`#! game 8, line 70, column 8: ${words}`]).map(whyLeftOut)[0];

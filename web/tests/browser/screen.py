@@ -153,6 +153,20 @@ def test_keys(user):
     assert user.js(focus) == "svg"
 
 
+def test_a_field_is_left_by_tab(user):
+    """What is typed is taken, and the focus goes on to what comes next, though the set-up is drawn anew."""
+    user.open_tables(TABLES, ["KK", "KQK", "KRK", "KBK", "KNK", "KPK"])
+    user.click("new")
+    user.settle()
+    field = user.by("fen")
+    field.send_keys(Keys.CONTROL, "a")
+    field.send_keys("8/8/8/6k1/8/8/1P5K/8 w - - 0 1", Keys.TAB)
+    user.settle()
+    user.until("document.activeElement.tagName === 'BUTTON'")
+    assert user.js("return document.getElementById('judgedBox').contains(document.activeElement) || "
+                   "document.activeElement.hasAttribute('data-turn')")
+
+
 def test_moves_as_they_are_typed(user):
     small(user)
     user.set_up(FEN, "white win")
