@@ -45,6 +45,11 @@ export function textIn(remarks) {
   }
   return begun ? found : null;
 }
+/**
+ * Whether a game states where it begins; if it does not, it begins from the initial position.
+ * @param {{text: string}} game
+ */
+export const hasPosition = ({text}) => /^\s*\[FEN\s/m.test(text);
 const NUMBER = /\d+\s*(?:\.+|\u2026)/;
 /**
  * The last number before the end of a text and how many moves stand behind it there, in the same brackets.

@@ -4,7 +4,8 @@ import {isKnown} from './edits.js';
 import {control} from './fen.js';
 import {byWeight, faultText, kindsIn} from './fault_kinds.js';
 import {mostGames, originalsIn, sourceText} from './imported.js';
-import {leftOutBy, whyLeftOut} from './left_out.js';
+import {hasPosition, textIn} from './cut_game.js';
+import {NO_POSITION, leftOutBy, whyLeftOut} from './left_out.js';
 import {positionsReached, reachedText, samePositions, sameText} from './same_positions.js';
 import {isCommand, isEdit, isPosition, wordsOf} from './script.js';
 import {acceptedOf, stampOf} from './stamps.js';
@@ -137,8 +138,10 @@ function leftOutAt(lines, line) {
   const {Event = '', White = ''} = originalsIn(lines.slice(line, end < 0 ? undefined : end));
   const [, author, title] = game.author.match(/^(.*?)(?:; )?(?:"(.*)")?$/) || ['', '', ''];
   const place = `line ${game.line}${game.column ? `, column ${game.column}` : ''}`;
-  const name = Event || title || `line ${game.line} of the PGN`;
-  return [{...missing(line, name, White || author, `${whyLeftOut(game)} (${place})`), number: `${game.game}`}];
+  const name = Event || title || `line ${game.line} of the PGN`,
+        text = textIn(lines.slice(line, end < 0 ? undefined : end)),
+        why = text && !hasPosition(text) ? NO_POSITION : whyLeftOut(game);
+  return [{...missing(line, name, White || author, `${why} (${place})`), number: `${game.game}`}];
 }
 /**
  * @param {number} line

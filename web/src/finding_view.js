@@ -80,6 +80,9 @@ const field = (id, label, field, props) => h('input', {
   oninput: (/** @type {any} */ e) => {
     form[field] = e.target.value;
   },
+  onkeydown: (/** @type {KeyboardEvent} */ e) => {
+    if (e.key === 'Enter' && !state.going) find();
+  },
   ...props
 });
 /** @param {string} name */

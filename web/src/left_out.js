@@ -96,6 +96,10 @@ export function whyLeftOut({why, text}) {
   return (text ? `${text}: ${words}` : words) + (instead && !words.includes(': ') ? `: ${instead}` : '');
 }
 
+/** Why the moves of a game do not fit that has no tag FEN. */
+export const NO_POSITION =
+  'it has no tag FEN, so it begins from the initial position: write [FEN ".."] above its moves in the PGN';
+
 /**
  * Where a study ends that is a game up to a bad move: the move, as `7. b6`, and why the game was left out.
  * @typedef {{move: string, game: LeftOut}} Cut

@@ -9,6 +9,18 @@ import {doc} from './state.js';
 
 /** What was typed and not read yet stays there, as long as the study is the same. */
 let typed = /** @type {{text: string, lines: string[], at: number} | null} */ (null);
+/**
+ * The bad move is chosen in the field, which is scrolled to its line.
+ * @param {HTMLTextAreaElement} field
+ * @param {{text: string, rest: string}} game
+ */
+function showPlace(field, {text, rest}) {
+  const [bad] = /^\S*/.exec(rest) || [''], rows = field.value.split('\n').length;
+  field.setSelectionRange(text.length, text.length + bad.length);
+  requestAnimationFrame(() => {
+    field.scrollTop = field.scrollHeight / rows * (text.split('\n').length - 3);
+  });
+}
 /** @param {Study} s */
 export function cutView(s) {
   const cut = s.origin && s.origin.cut, kept = cut && unreadText();
@@ -23,7 +35,7 @@ export function cutView(s) {
     }
   });
   field.value = mine && typed ? typed.text : kept.text + kept.rest;
-  field.setSelectionRange(kept.text.length, kept.text.length);
+  showPlace(field, kept);
   return h('div', {id: 'cut'},
     h('p', {class: 'note'},
       `The moves up to ${cut.move} were read. In line ${cut.game.line}, column ${cut.game.column} stands `,

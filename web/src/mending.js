@@ -1,10 +1,10 @@
 // @ts-check
 // Games with a bad move: opened up to there, mended, and read again.
 import {change, track, work} from './actions.js';
-import {asGame, cutBlock, cutOf, leftOutText, textIn} from './cut_game.js';
+import {asGame, cutBlock, cutOf, hasPosition, leftOutText, textIn} from './cut_game.js';
 import {documentOf, noteAfter} from './imported.js';
 import {freshId} from './keep.js';
-import {canBeCut, isCutLine, leftOut, whyLeftOut, withoutCut} from './left_out.js';
+import {NO_POSITION, canBeCut, isCutLine, leftOut, whyLeftOut, withoutCut} from './left_out.js';
 import {refuseLong} from './limits.js';
 import {checkedName, importPgn, withRemarks} from './opening.js';
 import {app, doc, say, services, study} from './state.js';
@@ -62,6 +62,11 @@ async function openAt(lines, line, more = {}, aim = chosenAim(doc().studies)) {
   const {game, cut, end} = leftOutText(lines, line), before = doc();
   if (!game || !cut || !canBeCut(game)) return false;
   asking = null;
+  if (!hasPosition(cut)) {
+    say('board', `Game ${game.game}: ${NO_POSITION}.`);
+    services.show();
+    return true;
+  }
   let got = /** @type {{lines: string[], out: LeftOut | null}} */ ({lines: [], out: null});
   await work(async () => {
     got = await readUpTo(game, cut, aim);

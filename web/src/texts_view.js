@@ -77,16 +77,17 @@ function scriptView(s) {
           () => change(
             now => (app.view && now.studies[now.at] ? tidy(now.lines, now.studies[now.at], app.view.root) : null),
             'script'),
-          {id: 'tidy'}),
-      s && doc().studies.length > 1 &&
-        button('Remove this study', 'take its lines out of the script',
-          () => change(now => dropStudy(now.lines, now.studies, now.at), 'script'), {id: 'drop'})));
+          {id: 'tidy'})));
 }
 const copy = () => change(now => copyStudy(now.lines, now.studies, now.at), 'script');
 /** What is done with the study as a whole. */
 const studyButtons = () => [smallButton('Copy link', 'a link that opens this study', copyLink, {id: 'copyLink'}),
   smallButton('Copy this study', 'one more of the same behind it', copy, {id: 'copyStudy'}),
-  doc().studies.length > 1 && [moveButton('Move up', -1), moveButton('Move down', 1)]];
+  doc().studies.length > 1 && [
+    moveButton('Move up', -1), moveButton('Move down', 1),
+    smallButton('Remove this study', 'take its lines out of the script', drop, {id: 'drop'})
+  ]];
+const drop = () => change(now => dropStudy(now.lines, now.studies, now.at), 'script');
 /**
  * @param {string} text
  * @param {1 | -1} by

@@ -2,6 +2,7 @@
 import './stand_in.mjs';
 import test from 'node:test';
 import assert from 'node:assert/strict';
+import {textRemarks} from '../src/cut_game.js';
 import {setTag} from '../src/edits.js';
 import {byCause, entriesOf, nameOf, newlyRefused, numbersOf, studyName} from '../src/entries.js';
 import {hasSolution, stampOf} from '../src/stamps.js';
@@ -51,6 +52,19 @@ test('each entry has a row and a stamp', () => {
   assert.equal(stampOf(d, d.studies[0], null).text, '1 fault');
   assert.deepEqual(d.studies.map(s => hasSolution(d.lines, s, null)), [true, false, false]);
   assert.equal(nameOf({...d.studies[0], originals: {White: 'Réti'}}, 'White'), 'Réti');
+});
+test('a game without a position is said to begin from the initial one', () => {
+  const said = tags => {
+    const text = textRemarks({text: `${tags}[Result "1/2-1/2"]\n\n1. `, rest: 'g6 1/2-1/2\n'}),
+          lines = ['#! game 6, line 49, column 4: NoSuchMove at g6', ...text];
+    return entriesOf({...readScript(lines, [], []), at: 0, path: 'root', name: '', id: 'x', note: '', judged: true})
+      .map(({stamp}) => stamp);
+  };
+  assert.deepEqual(said(''), [
+    'left out: it has no tag FEN, so it begins from the initial position: write [FEN ".."] above its moves in the PGN ' +
+    '(line 49, column 4)'
+  ]);
+  assert.match(said('[FEN "7K/8/k1P5/7p/8/8/8/8 w - - 0 1"]\n')[0], /^left out: g6: no legal move of this position/);
 });
 test('a game that was left out has its title and its author, where remarks behind it have them', () => {
   const lines = [
