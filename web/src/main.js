@@ -209,7 +209,9 @@ async function start() {
   if (kept) showBoard();
   await words;
   if (kept) {
+    services.telling('Opening the document …');
     await work(() => arrive(kept.history));
+    services.telling('');
     // Where the program did not run at all the script is shown as it is, and can be saved.
     if (!doc().id) app.history = {...kept.history, now: {...kept.history.now, judged: true}};
   }

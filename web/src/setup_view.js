@@ -51,7 +51,7 @@ export function setupView() {
  */
 const purpose = d => (!d.anew ? 'Another position for this study'
     : d.more                  ? 'One more study in this script'
-                              : 'A new script');
+                              : 'A new study');
 /**
  * The position of the node that was looked at, as the start of a study of its own.
  * @param {Draft} d
