@@ -45,6 +45,7 @@ else
     try "$python" page.py "$tables"
     try "$python" entries.py "$tables"
     try "$python" judging.py "$tables"
+    try "$python" listing.py "$tables"
     try "$python" composing.py "$tables"
     try "$python" finding.py "$tables"
     try "$python" kept.py "$tables"

@@ -7,6 +7,7 @@ import {viewOf} from './answer_cache.js';
 import {differences} from './comparing.js';
 import {headAt, linesOf} from './documents.js';
 import {diagramOf} from './drawing.js';
+import {reviewFor} from './list_facts.js';
 import {stampOf} from './stamps.js';
 import {control} from './fen.js';
 import {table} from './table.js';
@@ -41,7 +42,7 @@ async function versionOf(id, name) {
     name,
     fen: s.fen,
     aim: s.aim ? aimText(s.aim) : '',
-    stamp: stampOf(script, s, null).text,
+    stamp: stampOf(script, s, await reviewFor(lines, s)).text,
     view: typeof view === 'string' ? null : view
   };
 }

@@ -5,7 +5,7 @@ import {arrive, work} from './actions.js';
 import {app, doc, services, say} from './state.js';
 import {freshId, makeKeeper} from './keep.js';
 import {begin as firstOf} from './history.js';
-import {knownReviews} from './list_facts.js';
+import {knownFacts} from './list_facts.js';
 import {fensOf} from './script.js';
 import {begin, draftKept} from './setup.js';
 import {blank} from './state.js';
@@ -32,9 +32,7 @@ function storage(of) {
 }
 const local = storage(() => localStorage), session = storage(() => sessionStorage), page = freshId(),
       SESSION = 'studyboard', LOCK = 'studyboard page ';
-/** @param {Doc} d */
-const reviewsOf = d => (d.studies.length === 1 && d === doc() ? [app.review] : knownReviews(d));
-const keeper = makeKeeper({local, page, reviewsOf});
+const keeper = makeKeeper({local, page, factsOf: knownFacts});
 export const {list, headAt, linesOf} = keeper;
 
 /** Each page holds a lock of its name for as long as it stands open. */

@@ -8,7 +8,7 @@ import {hasPosition, textIn} from './cut_game.js';
 import {NO_POSITION, leftOutBy, whyLeftOut} from './left_out.js';
 import {positionsReached, reachedText, samePositions, sameText} from './same_positions.js';
 import {isCommand, isEdit, isPosition, wordsOf} from './script.js';
-import {acceptedOf, stampOf} from './stamps.js';
+import {acceptedOf, openStamp, stampOf} from './stamps.js';
 import {bareTree} from './unmarked.js';
 import {aimText, reason} from './words.js';
 /** @typedef {import('./types.js').Study} Study @typedef {import('./types.js').Doc} Doc */
@@ -17,10 +17,11 @@ import {aimText, reason} from './words.js';
 /**
  * `kind` is what the list is filtered by; `at` the place of a study, -1 of an entry that was left out; `number` that of
  * its game; `against` what speaks against its stipulation; `same` which other studies have, or reach, its position;
- * `fault` its first fault in words, and `faults` the kinds of all that are not accepted.
+ * `fault` its first fault in words, and `faults` the kinds of all that are not accepted; `count` how many faults it
+ * has, and `open` whether they are still being found.
  * @typedef {{line: number, at: number, number: string, kind: string, title: string, author: string, fen: string,
  *   aim: string, against: string[], stamp: string, review: Review | null, same: string, fault: string,
- *   faults: string[]}} Entry
+ *   faults: string[], count: number, open: boolean}} Entry
  */
 
 /**
@@ -164,7 +165,9 @@ const missing = (line, title, author, why) => ({
   review: null,
   same: '',
   fault: '',
-  faults: []
+  faults: [],
+  count: 0,
+  open: false
 });
 /**
  * The number of each study: that of its game in the PGN that was opened, `3.2` for its second tail, and further ones
@@ -222,12 +225,13 @@ function faultsOf(doc, s, review) {
  * @param {Doc} doc
  * @param {(Review | null)[]} reviews      of each study, as far as they are known
  * @param {(import('./same_positions.js').Stop[] | null)[]} mainLines
+ * @param {boolean[]} open      whether they are still being found
  * @returns {Entry[]}
  */
-export function entriesOf(doc, reviews = [], mainLines = []) {
+export function entriesOf(doc, reviews = [], mainLines = [], open = []) {
   const numbers = numbersOf(doc), fens = doc.studies.map(s => s.fen), same = samePositions(fens),
         reached = positionsReached(fens, mainLines), studies = doc.studies.map((s, at) => {
-          const {kind, text} = stampOf(doc, s, reviews[at] || null);
+          const said = stampOf(doc, s, reviews[at] || null), {kind, text} = open[at] ? openStamp(said) : said;
           return {
             line: s.from,
             at,
@@ -241,7 +245,9 @@ export function entriesOf(doc, reviews = [], mainLines = []) {
             stamp: text,
             review: kind === 'not read' ? null : reviews[at] || null,
             same: [sameText(same[at], numbers), reachedText(reached[at], numbers)].filter(Boolean).join(' and the '),
-            ...faultsOf(doc, s, kind === 'not read' ? null : reviews[at] || null)
+            ...faultsOf(doc, s, kind === 'not read' ? null : reviews[at] || null),
+            count: Number(s.verdict.split(' ')[1]) || 0,
+            open: Boolean(open[at]) && text !== said.text
           };
         });
   const refused = doc.refused.filter(r => isPosition(r.text)).map(r => {

@@ -7,13 +7,15 @@ import {wordOf} from './wording.js';
 /** @typedef {import('./entries.js').Entry} Entry */
 
 const KINDS = [
-  'sound', 'time', 'accepted', 'duals', 'mistake', 'wrong', 'refuted', 'correct', 'not read', 'left out', 'not judged'
+  'sound', 'time', 'accepted', 'duals', 'faults', 'mistake', 'wrong', 'refuted', 'correct', 'not read', 'left out',
+  'not judged'
 ];
 /** The words of kinds, where they are others than the kind itself. */
 const KIND_WORDS = /** @type {Record<string, () => string>} */ ({
   time: () => wordOf('time'),
   accepted: () => 'sound but for accepted duals',
   duals: () => 'with duals',
+  faults: () => 'with faults',
   mistake: () => 'whose own move fails',
   correct: () => wordOf('correct')
 });
@@ -73,7 +75,7 @@ export function findEntries(entries, text) {
 }
 const collator = new Intl.Collator(undefined, {numeric: true});
 /** @param {Entry} entry */
-const weight = ({kind, review}) => KINDS.indexOf(kind) * 1000 + (review ? review.faults.length : 0);
+const weight = ({kind, count}) => KINDS.indexOf(kind) * 1000 + count;
 const ORDERS = /** @type {Record<string, (x: Entry, y: Entry) => number>} */ ({
   number: (x, y) => collator.compare(x.number, y.number),
   title: (x, y) => collator.compare(x.title, y.title),

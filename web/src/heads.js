@@ -2,7 +2,7 @@
 // What lists say of a kept document without its script: its name, its first position, its verdict, and which version of
 // another one it is.
 import {studyName} from './entries.js';
-import {stampOf} from './stamps.js';
+import {openStamp, stampOf} from './stamps.js';
 import {countsOf, kindWords} from './entry_list.js';
 import {control} from './fen.js';
 import {counted} from './words.js';
@@ -33,17 +33,24 @@ import {counted} from './words.js';
  * What a list says of a document: its first study, and the stamps of all, as far as their facts are known.
  * @param {Doc} doc
  * @param {(Review | null)[]} reviews
+ * @param {boolean[]} open      of which studies they are still to be found
  */
-export function summary(doc, reviews = []) {
+export function summary(doc, reviews = [], open = []) {
   const {studies} = doc;
   if (last.studies === studies && last.reviews === reviews) return last.made;
-  const stamps = studies.map((s, i) => stampOf(doc, s, reviews[i] || null));
+  const stamps = studies.map((s, i) => {
+    const stamp = stampOf(doc, s, reviews[i] || null);
+    return open[i] ? openStamp(stamp) : stamp;
+  });
   const counts =
     countsOf(stamps).filter(([kind]) => kind !== 'not judged').map(([kind, n]) => `${n} ${kindWords(kind)}`).join(', ');
   const made = {
     title: (studies[0] ? studyName(studies[0]) : '') +
       (studies.length > 1 ? ` and ${counted(studies.length - 1, 'more study', 'more studies')}` : ''),
-    verdict: (stamps.length === 1 ? stamps[0].text : counts) || 'not judged'
+    verdict: (stamps.length === 1                ? stamps[0].text
+                 : counts && open.includes(true) ? `${counts} …`
+                                                 : counts) ||
+      'not judged'
   };
   if (studies.length) last = {studies, reviews, made};
   return made;
@@ -96,16 +103,18 @@ export function readHead(id, h) {
  * The head of a document as it is now; its name and its version stay.
  * @param {Doc} doc
  * @param {KeptDraft | null} draft
- * @param {(Review | null)[]} reviews
+ * @param {{reviews: (Review | null)[], open: boolean[]}} facts
  * @param {Head | null} old
+ * @param {boolean} same      whether the script is what it was: then the verdict stays while its facts are found again
  */
-export function headOf(doc, draft, reviews, old) {
+export function headOf(doc, draft, {reviews, open}, old, same) {
   const only = !doc.lines.length && draft, shown = doc.studies[doc.at], placed = draft ? draft.placed : '',
-        {title, verdict} = only ? {title: `Set-up: ${control(placed)}`, verdict: ''} : summary(doc, reviews);
+        {title, verdict} = only ? {title: `Set-up: ${control(placed)}`, verdict: ''} : summary(doc, reviews, open),
+        stays = same && old !== null && open.includes(true) && old.verdict !== 'not judged';
   return {
     name: doc.name,
     title,
-    verdict,
+    verdict: stays && old ? old.verdict : verdict,
     fen: only ? placed.split('|')[0]
       : shown ? shown.fen
               : '',

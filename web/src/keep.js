@@ -84,10 +84,13 @@ export function fromSteps(now, steps) {
 
 /** @typedef {Pick<Storage, 'getItem' | 'setItem' | 'removeItem' | 'key' | 'length'>} Local */
 /**
- * @param {{local: Local, page: string, now?: () => number, reviewsOf?: (doc: Doc) => (Review | null)[]}} parts
- *   `reviewsOf`: the facts of each study that are known
+ * @typedef {{reviews: (Review | null)[], open: boolean[]}} Facts
+ *   the facts of each study that are known, and which are still to be found
  */
-export function makeKeeper({local, page, now = Date.now, reviewsOf = () => []}) {
+/**
+ * @param {{local: Local, page: string, now?: () => number, factsOf?: (doc: Doc) => Facts}} parts
+ */
+export function makeKeeper({local, page, now = Date.now, factsOf = () => ({reviews: [], open: []})}) {
   const own = /** @type {Map<string, string>} */ (new Map()), copied = /** @type {Map<string, Head>} */ (new Map()),
         last = /** @type {Map<string, any[]>} */ (new Map());
   /**
@@ -175,7 +178,7 @@ export function makeKeeper({local, page, now = Date.now, reviewsOf = () => []}) 
       const changed = !same && local.getItem(BODY + place) !== body,
             drawn = JSON.stringify(draft) !== JSON.stringify(old && old.draft);
       const head = {
-        ...headOf(doc, draft, reviewsOf(doc), old || copied.get(place) || null),
+        ...headOf(doc, draft, factsOf(doc), old || copied.get(place) || null, !changed),
         page,
         time: changed || drawn || !old ? now() : old.time,
         seen: now(),

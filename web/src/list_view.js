@@ -7,7 +7,7 @@ import {countsOf, csvOf, findEntries, isOfKind, kindWords, sortEntries} from './
 import {againstText} from './imported.js';
 import {canBeCut, leftOutBy} from './left_out.js';
 import {openLeftOut} from './mending.js';
-import {knownEntries, reviewAll, unknownFacts} from './list_facts.js';
+import {howManyKnown, knownEntries, reviewAll} from './list_facts.js';
 import {sheetOf} from './sheet.js';
 import {verdictsBefore} from './stamps.js';
 import {sortHead, table} from './table.js';
@@ -53,7 +53,8 @@ function stampView(entry) {
   const s = doc().studies[entry.at], before = s ? verdictsBefore(s) : [],
         [, stamp, more] = /^(left out: )(.*)$/.exec(entry.stamp) || ['', entry.stamp, ''];
   return [
-    h('b', {class: `stamped ${entry.kind.replace(' ', '-')}`}, stamp), more && h('span', {}, more), upToButton(entry),
+    h('b', {class: `stamped ${entry.open ? 'open' : entry.kind.replace(' ', '-')}`}, stamp),
+    more && h('span', {}, more), upToButton(entry),
     [entry.fault, entry.same, ...before].filter(Boolean).map(text => h('div', {class: 'note'}, text))
   ];
 }
@@ -101,31 +102,56 @@ function toolsView() {
     value: ui.find,
     oninput: (/** @type {any} */ e) => {
       ui.find = e.target.value.slice(0, 200);
-      put('rows', rowsView());
+      drawRows();
     }
   });
-  const unknown = unknownFacts(doc());
-  return h('p', {class: 'row act'}, find,
-    unknown > 0 &&
-      button('Find all faults', `the facts of ${counted(unknown, 'study', 'studies')} that are not known yet`,
-        () => track(reviewAll(doc(), true)), {id: 'findFaults'}),
+  return h('p', {class: 'row act'}, find, h('span', {id: 'findAll'}),
     button('Save list', 'as comma-separated values, with the first fault and the numbers of duals', saveList,
       {id: 'saveList'}),
     button('Save sheet', 'the diagrams of all studies, twelve on a page', saveSheet, {id: 'saveSheet'}));
 }
-/** The entries in a table, below the numbers of each kind. */
-export function listView() {
-  const entries = knownEntries(doc()), counts = countsOf(entries);
-  if (entries.length < 2) return null;
+/** How many facts are still to be found: on demand, where there are many studies. */
+function findAllView() {
+  const {known, of, unwanted} = howManyKnown(doc());
+  if (known === of) return null;
+  return unwanted
+    ? button('Find all faults', `the facts of ${counted(of - known, 'study', 'studies')} that are not known yet`,
+        () => track(reviewAll(doc(), true)), {id: 'findFaults'})
+    : h('span', {class: 'note', id: 'findingFaults'}, `finding faults: ${known} of ${of}`);
+}
+/** The numbers of each kind, which show these alone. */
+function kindsView() {
+  const counts = countsOf(knownEntries(doc()));
   if (!counts.some(([kind]) => kind === ui.filter)) ui.filter = '';
-  const count = (/** @type {[string, number]} */[kind, n]) => button(`${n} ${kindWords(kind)}`, 'show these alone',
-    () => toggleFilter(kind),
-    {class: `chip act${ui.filter === kind ? ' on' : ''}`, 'data-kind': kind, 'aria-pressed': `${ui.filter === kind}`});
-  return [
-    h('h2', {id: 'studiesTitle'}, wordOf('list')),
-    h('p', {class: 'row', role: 'group', 'aria-label': 'Show one kind'}, counts.map(count)), toolsView(),
-    h('div', {id: 'rows'}, rowsView())
-  ];
+  return counts.map(([kind, n]) => button(`${n} ${kindWords(kind)}`, 'show these alone', () => toggleFilter(kind), {
+    class: `chip act${ui.filter === kind ? ' on' : ''}`,
+    'data-kind': kind,
+    'aria-pressed': `${ui.filter === kind}`
+  }));
+}
+/** The entries in a table, below the numbers of each kind. */
+const frameView = () => [h('h2', {id: 'studiesTitle'}, wordOf('list')),
+  h('p', {class: 'row', id: 'kinds', role: 'group', 'aria-label': 'Show one kind'}), toolsView(),
+  h('div', {id: 'rows'})];
+let drawnBy = '';
+/** The rows anew, as far down as they were, as long as the same ones are wanted. */
+function drawRows() {
+  const by = JSON.stringify(ui), box = () => $('rows').querySelector('.scroll'),
+        rows = () => $('rows').querySelectorAll('tr').length,
+        before = drawnBy === by && box() ? {top: box().scrollTop, rows: rows()} : {top: 0, rows: 0};
+  put('rows', rowsView());
+  drawnBy = by;
+  while (box() && rows() < before.rows && box().querySelector('.more')) box().querySelector('.more').click();
+  if (box()) box().scrollTop = before.top;
+}
+/** The list, in its frame, which stays, and with it what is being typed there. */
+export function drawList() {
+  const many = knownEntries(doc()).length > 1;
+  if (many !== Boolean($('rows'))) put('list', many && frameView());
+  if (!many) return;
+  put('kinds', kindsView());
+  put('findAll', findAllView());
+  drawRows();
 }
 /** All entries, for paper. */
 export function paperList() {

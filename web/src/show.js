@@ -17,7 +17,7 @@ import {redrawJudged, setupView} from './setup_view.js';
 import {checkWhole, openText} from './opening.js';
 import {importView} from './import_view.js';
 import {cutView} from './mend_view.js';
-import {listFrom, listView as entriesView, markShown} from './list_view.js';
+import {drawList, listFrom, markShown} from './list_view.js';
 import {knownEntries, later} from './list_facts.js';
 import {nameOf} from './entries.js';
 import {menuText} from './entry_list.js';
@@ -81,14 +81,17 @@ function lately(draw) {
   draw();
   refocus(kept);
 }
+const NAMED_BY = ['data-path', 'data-san', 'data-at', 'data-kind', 'data-sort'];
 /** @param {Element} e */
 const nameIn = e => e.getAttribute('aria-label') || e.textContent;
-/** @returns {(string | null)[]} */
+/** What the element with the focus is found again by. */
 function focused() {
-  const focus = document.activeElement;
-  return focus
-    ? [focus.id, focus.getAttribute('data-path'), focus.getAttribute('data-san'), focus.tagName, nameIn(focus)]
-    : ['', null, null, null, null];
+  const focus = document.activeElement || document.body, by = NAMED_BY.find(name => focus.hasAttribute(name));
+  return {
+    id: focus.id,
+    place: by ? `[${by}="${focus.getAttribute(by)}"]` : focus.tagName,
+    name: by ? null : nameIn(focus)
+  };
 }
 /**
  * What each part was last drawn from.
@@ -170,14 +173,13 @@ export function show() {
 }
 /**
  * Focus stays where it was, though everything is drawn again.
- * @param {(string | null)[]} kept
+ * @param {{id: string, place: string, name: string | null}} kept
  */
-function refocus([id, path, san, tag, name]) {
-  if (document.activeElement !== document.body || !tag || tag === 'BODY') return;
-  const place = path ? `[data-path="${path}"]` : san ? `[data-san="${san}"]` : tag;
+function refocus({id, place, name}) {
+  if (document.activeElement !== document.body || place === 'BODY') return;
   const again = id
     ? $(id)
-    : /** @type {any} */ ([...document.querySelectorAll(place)].find(e => path || san || nameIn(e) === name));
+    : /** @type {any} */ ([...document.querySelectorAll(place)].find(e => name === null || nameIn(e) === name));
   if (again) again.focus({preventScroll: true});
 }
 /** A refusal that is off the screen is shown below the bar too, until the page is scrolled. */
@@ -193,7 +195,7 @@ function drawFacts() {
   part('unread', [s, ...saying()], () => s && cutView(s));
   part('mend', [s, app.view !== null, app.review], () => s && faultsView(s));
   part('review', [s, app.view !== null, app.review, app.review?.details, app.noReview], () => s && reviewView(s));
-  part('list', listFrom(), entriesView);
+  if (isNew('list', listFrom())) drawList();
   markShown();
   speakVerdict();
 }

@@ -138,6 +138,14 @@ export function stampOf(doc, s, review) {
     : stamp;
 }
 /**
+ * A stamp as long as facts are being found that can change its words: `sound …`, `3 faults …`.
+ * @param {{kind: string, text: string}} stamp
+ */
+export function openStamp({kind, text}) {
+  if (kind === 'duals') return {kind: 'faults', text: `${text} …`};
+  return {kind, text: kind === 'sound' ? `${text} …` : text};
+}
+/**
  * The paths of the faults of a study that are accepted.
  * @param {{lines: string[]}} doc
  * @param {Study} s

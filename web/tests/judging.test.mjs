@@ -7,10 +7,12 @@ import {differences} from '../src/comparing.js';
 import {entriesOf} from '../src/entries.js';
 import {countsOf, findEntries, isOfKind, sortEntries} from '../src/entry_list.js';
 import {faultKind} from '../src/fault_kinds.js';
+import {judgedText} from '../src/list_facts.js';
 import {judgedBy, readReview, readView} from '../src/parse_answers.js';
 import {positionsReached, reachedText, samePositions, sameText} from '../src/same_positions.js';
 import {assumeAccepted} from '../src/assumed.js';
 import {faultyStamp, wrongText} from '../src/stamps.js';
+import {moveStudy} from '../src/study_edits.js';
 import {bareTree} from '../src/unmarked.js';
 
 const FEN = '7K/8/k1P5/7p/8/8/8/8 w - - 0 1', MIRRORED = 'K7/8/5P1k/p7/8/8/8/8 w - - 0 1',
@@ -114,6 +116,33 @@ test('a position in the main line of another study, as it is or turned', () => {
   assert.equal(reachedText(reached[2], ['1', '2', '']), '');
   const twice = entriesOf(judged([...LINES, '', ...LINES]), [], [null, [{fen: FEN, move: '5. Kg7'}]]);
   assert.match(twice[0].same, /^(same position as .* and the )?position of .* after 5\. Kg7$/);
+});
+test('an entry whose facts are being found says so, and the kinds of its faults are not counted yet', () => {
+  const rows = entriesOf(judged(LINES), [], [], [true, true, false]);
+  assert.deepEqual(rows.map(({kind, stamp, open, count}) => [kind, stamp, open, count]),
+    [['faults', '2 faults …', true, 2], ['sound', 'sound …', true, 0], ['sound', 'sound', false, 0]]);
+  assert.deepEqual(countsOf(rows).slice(0, 2), [['sound', 2], ['faults', 1]]);
+  const wrong = judged(LINES);
+  wrong.studies[0].verdict = 'wrong';
+  const [row] = entriesOf(wrong, [], [], [true]);
+  assert.deepEqual([row.kind, row.open], ['wrong', false]);
+  assert.ok(!row.stamp.includes('…'));
+});
+test('the facts of a study are of its moves and its stipulation, wherever it stands and whatever it takes over', () => {
+  const lines = [
+    `position ${FEN}`, 'stipulate white win', 'tag Event One', 'tag Site Riga', 'insert root Kg7', '',
+    `position ${MIRRORED}`, 'tag Event Two', 'insert root Kb7', '', `position ${COLOURS}`, 'stipulate black draw',
+    'tag White A', 'insert root Kg2'
+  ];
+  const of = all => judged(all).studies.map(s => judgedText(all, s)), before = of(lines),
+        moved = moveStudy(lines, judged(lines).studies, 0, 1).lines;
+  assert.deepEqual(before, [
+    `position ${FEN}\nstipulate white win\ninsert root Kg7\n`,
+    `position ${MIRRORED}\nstipulate white win\ninsert root Kb7\n`,
+    `position ${COLOURS}\nstipulate black draw\ninsert root Kg2\n`
+  ]);
+  assert.deepEqual(of(moved), [before[1], before[0], before[2]]);
+  assert.notDeepEqual(of(lines.map(line => line.replace('black draw', 'black win'))), before);
 });
 test('names are found whatever their accents, and each column sorts', () => {
   const rows = entriesOf(judged(LINES), [REVIEW]), names = list => list.map(({title}) => title);

@@ -128,7 +128,8 @@ test('what a list says of a document', () => {
     end: 2,
     aim: {hero: 'White', goal: 'win', k: 0}
   });
-  const said = (studies, shown = lines, reviews = []) => summary({studies, lines: shown, refused: []}, reviews);
+  const said = (studies, shown = lines, reviews = [], open = []) =>
+    summary({studies, lines: shown, refused: []}, reviews, open);
   assert.deepEqual(said([study('unsound 3', 'A')]), {title: 'A, Réti', verdict: '3 faults'});
   assert.deepEqual(said([study('unsound 1', 'A')], lines,
                      [{faults: [{path: '0', kind: 'dual', duals: 2, time: 2}], stamp: 'sound, duals waste time'}]),
@@ -138,6 +139,25 @@ test('what a list says of a document', () => {
   assert.deepEqual(
     said([study('sound', 'A')], [lines[0], '']), {title: 'A, Réti', verdict: 'correct, no solution yet'});
   assert.deepEqual(said([{...study('', '?'), tags: {}}]), {title: 'Kb6 Pc6 / Ka1 Rd5', verdict: 'not judged'});
+  assert.equal(said([study('unsound 3', 'A')], lines, [], [true]).verdict, '3 faults …');
+  assert.equal(
+    said([study('unsound 3', 'A'), study('sound', 'B')], lines, [], [true, false]).verdict, '1 sound, 1 with faults …');
+});
+test('the verdict of a script that is opened again stays until its facts are found', () => {
+  const lines = ['position 8/8/1KP5/3r4/8/8/8/k7 w - - 0 1', 'insert root c7'], local = made();
+  const study = {verdict: 'unsound 1', tags: {}, originals: {}, place: {}, fen: lines[0].slice(9), from: 0, end: 2},
+        review = {faults: [{path: '0', kind: 'dual', duals: 1, time: 0}], stamp: 'cook: 1. c7'};
+  let known = true;
+  const factsOf = () => (known ? {reviews: [review], open: [false]} : {reviews: [null], open: [true]});
+  const keeper = makeKeeper({local, page: '1', factsOf}), verdict = () => keeper.headAt('A').verdict;
+  const state = {...doc('A', ...lines), studies: [{...study, aim: {hero: 'White', goal: 'win', k: 0}}]};
+  keeper.keep(begin(state), null, []);
+  assert.equal(verdict(), 'cook: 1. c7');
+  known = false;
+  keeper.keep(begin({...state, studies: [...state.studies]}), null, []);
+  assert.equal(verdict(), 'cook: 1. c7');
+  keeper.keep(begin({...state, lines: [...lines, 'insert root Kb7'], studies: [...state.studies]}), null, []);
+  assert.equal(verdict(), '1 fault …');
 });
 test('copies are versions of one document, a name is kept, and the list can be sorted', () => {
   let clock = 0;

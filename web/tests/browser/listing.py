@@ -1,0 +1,117 @@
+"""The list of entries: what it says while facts are being found, how much of it is seen, and what it is on paper.
+
+    listing.py TABLES [NAME ..]
+
+TABLES has those of two and three men at least; what needs more is left out where they are not there.
+"""
+import os
+import sys
+
+from user import Keys, run
+
+TABLES = os.path.abspath(sys.argv[1])
+SMALL = "KK KQK KRK KBK KNK KPK".split()
+FEN, SQUARES = "8/8/8/6k1/8/8/1P5K/8 w - - 0 1", "8/3k4/8/3KP3/8/8/8/8 w - - 0 1"
+GAME = '[Event "{event}"]\n[White "{author}"]\n[Result "1-0"]\n[FEN "{fen}"]\n\n{moves} 1-0\n\n'
+STAMPS = """return [...document.querySelectorAll('#list tbody tr')].map(r => {
+    const stamp = r.querySelector('.stamped');
+    return [r.cells[1].innerText.split('\\n')[0], stamp.innerText, stamp.className.split(' ').pop()];
+})"""
+FOUND = "document.querySelector('#list tbody') && !document.getElementById('findingFaults')"
+
+
+def games(*rows):
+    return "".join(GAME.format(event=event, author="A. Composer", moves=moves, fen=fen) for event, fen, moves in rows)
+
+
+def opened(user, text, name="entries.pgn"):
+    """The file as it comes: its facts are not waited for."""
+    user.open_file(name, text)
+    user.until("document.getElementById('stamp')", 60)
+    user.settle()
+
+
+def many(count):
+    """Studies with different trees, so that the facts of each are to be found."""
+    kings = "Kg3 Kf5 Kf3 Ke5 Ke3 Kd5 Kd3 Kc5 Kc3 Kb5 Kb3".split()
+    return games(*((f"Study {n + 1}", FEN.replace("0 1", f"0 {n + 1}"), numbered(kings[:3 + 2 * (n % 4)], n + 1))
+                   for n in range(count)))
+
+
+def numbered(sans, first):
+    return " ".join(f"{first + i // 2}. {san}" if i % 2 == 0 else san for i, san in enumerate(sans))
+
+
+ROOK = "8/8/8/8/8/1k6/8/K6R w - - 0 1"
+FAULTY = games(("One", FEN, "1. Kg3 Kf5 2. Kf3"), ("Two", FEN, "1. b4 Kf6"),
+               ("Three", FEN, "1. Kg3 Kf5 2. Kf3 Ke5 3. Ke3"), ("Four", ROOK, "1. Rh4 Kc3 2. Ka2"))
+
+
+def test_facts_on_their_way(user):
+    """A row whose facts are not known yet says so, and how many are known stands above; then each has its words."""
+    user.open_tables(TABLES, SMALL)
+    opened(user, FAULTY)
+    rows = user.js(STAMPS)
+    later = [row for row in rows[1:] if row[1].endswith("…")]
+    assert later and all(row[2] == "open" for row in later), rows
+    assert all(row[1].split(" ")[0] in ("sound", "1", "2", "3") for row in later), rows
+    assert user.text("findingFaults").endswith(f" of {len(rows)}"), user.text("findingFaults")
+    user.until(FOUND, 60)
+    rows = user.js(STAMPS)
+    assert not any("…" in row[1] or row[2] == "open" for row in rows), rows
+    assert not any(row[1].endswith("faults") or row[1].endswith("fault") for row in rows), rows
+    for n, (_, stamp, _) in enumerate(rows):
+        user.choose("studies", f"{n}")
+        user.until("studyboard.last().reviewed", 60)
+        user.settle()
+        assert user.text("stamp") == stamp, (user.text("stamp"), stamp)
+
+
+def test_the_study_that_is_shown(user):
+    """Its row takes the words that stand beside it, before the facts of the others are found."""
+    user.open_tables(TABLES, SMALL)
+    opened(user, games(("One", FEN, "1. b4 Kf6"), ("Two", FEN, "1. Kg3 Kf5")))
+    user.until("document.getElementById('stamp').innerText.startsWith('fails at')", 60)
+    assert user.js(STAMPS)[0][1] == user.text("stamp"), user.js(STAMPS)
+
+
+def test_a_move_in_the_list_keeps_what_is_known(user):
+    """Facts are of moves and stipulation: neither another place nor another name has them found again, whatever tags
+    the studies take over from each other."""
+    user.open_tables(TABLES, SMALL)
+    opened(user, f"position {FEN}\nstipulate white win\ntag Event One\ntag Site Riga\ninsert root b4\n\n"
+           f"position {FEN}\ntag Event Two\ninsert root Kg3\ninsert 0 Kf5\n\n"
+           f"position {ROOK}\ntag Event Three\ntag Site Prague\ninsert root Rh4\ninsert 0 Kc3\n",
+           "entries.script")
+    user.until(FOUND, 60)
+    before = user.js(STAMPS)
+    assert before[0][1].startswith("fails at") and "fault" not in before[2][1], before
+    for name, order in (("studyDown", (1, 0, 2)), ("studyDown", (1, 2, 0)), ("studyUp", (1, 0, 2))):
+        user.js("document.getElementById(arguments[0]).click()", name)
+        user.settle()
+        assert user.js(STAMPS) == [before[n] for n in order] and not user.has("findingFaults"), user.js(STAMPS)
+    user.fill("tagEvent", "Another title")
+    assert [row[1:] for row in user.js(STAMPS)] == [before[n][1:] for n in (1, 0, 2)], user.js(STAMPS)
+
+
+def test_the_stamp_is_kept_with_the_document(user):
+    """Documents and Compare have the words that stand beside the study, after a reload too."""
+    user.open_tables(TABLES, SMALL)
+    opened(user, games(("Alone", FEN, "1. b4 Kf6")), "alone.pgn")
+    user.until("document.getElementById('stamp').innerText.startsWith('fails at')", 60)
+    user.settle()
+    said = user.text("stamp")
+    verdicts = "return [...document.querySelectorAll('#documents tbody tr')].map(r => r.cells[2].innerText)"
+    user.click("documentsButton")
+    user.until("document.querySelector('#documents tbody')")
+    assert user.js(verdicts) == [said], user.js(verdicts)
+    user.press_on("[data-copy]")
+    user.until("document.querySelectorAll('[data-tick]').length === 2")
+    for n in range(2):
+        user.js(f"document.querySelectorAll('[data-tick]')[{n}].click()")
+    user.click("compare")
+    user.until("document.getElementById('sides')", 60)
+    assert user.js("return [...document.querySelectorAll('#sides b')].map(b => b.innerText)") == [said, said]
+
+
+run(globals(), sys.argv[2:])
