@@ -55,23 +55,46 @@ function stampView(entry) {
   return [
     h('b', {class: `stamped ${entry.open ? 'open' : entry.kind.replace(' ', '-')}`}, stamp),
     more && h('span', {}, more), upToButton(entry),
-    [entry.fault, entry.same, ...before].filter(Boolean).map(text => h('div', {class: 'note'}, text))
+    [entry.fault, entry.same, ...before].filter(Boolean).map(text => h('div', {class: 'note', title: text}, text))
   ];
 }
+/** @typedef {{title: string, source: string}} Shared */
+const NONE = /** @type {Shared} */ ({title: '', source: ''});
+/**
+ * A stipulation, and where it is from.
+ * @param {string} aim
+ */
+const aimParts = aim => aim.split(/(?= \(from )/).map(text => text.trim());
+/**
+ * What several entries have all the same, so that it is said once: their title, and where their stipulations are from.
+ * @param {Entry[]} entries
+ * @returns {Shared}
+ */
+function sharedOf(entries) {
+  const same = (/** @type {string[]} */ texts) => texts.length > 1 && new Set(texts).size === 1 ? texts[0] : '';
+  const sources = entries.filter(({aim}) => aim).map(({aim}) => aimParts(aim)[1] || '');
+  return {title: same(entries.map(({title}) => title)), source: same(sources)};
+}
+/** @param {Shared} shared */
+const sharedView = ({title, source}) => (title || source) &&
+  h('p', {class: 'note', id: 'shared'},
+    [title && `All: ${title}.`, source && `All stipulations are ${source.slice(1, -1)}.`].filter(Boolean).join(' '));
 /**
  * The stipulation, and in small letters where it is from and which sources differ.
  * @param {Entry} entry
+ * @param {Shared} shared
  */
-const aimCell = ({aim, against}) => {
-  const [words, ...source] = aim.split(/(?= \(from )/);
-  return [words, [...source, ...against.map(againstText)].map(text => h('div', {class: 'note'}, text.trim()))];
-};
+function aimCell({aim, against}, shared) {
+  const [words, ...source] = aimParts(aim), rest = source.filter(text => text !== shared.source);
+  return [words, [...rest, ...against.map(againstText)].map(text => h('div', {class: 'note'}, text))];
+}
 /**
  * @param {Entry} entry
  * @param {any} number
+ * @param {Shared} shared
  */
-const cellsOf =
-  (entry, number) => [number, entry.title, entry.author, ...(entry.aim ? [aimCell(entry)] : []), stampView(entry)];
+const cellsOf = (entry, number, shared) => [number, shared.title ? '' : entry.title, entry.author,
+  ...(entry.aim ? [aimCell(entry, shared)] : []), stampView(entry)];
 /** @param {Entry} entry */
 function numberButton(entry) {
   const text = entry.number || '\u2013', here = entry.at === doc().at && 'true';
@@ -89,8 +112,9 @@ function rowsView() {
   };
   const heads =
     wordsNamed('list-heads').map((head, i) => sortHead(head.replace('pul', 'pu\u00adl'), COLUMNS[i], ui.order, set));
-  return shown.length ? table(heads, shown, entry => cellsOf(entry, numberButton(entry)))
-                      : h('p', {class: 'note'}, 'No entry has this name.');
+  if (!shown.length) return h('p', {class: 'note'}, 'No entry has this name.');
+  const shared = sharedOf(all);
+  return [sharedView(shared), table(heads, shown, entry => cellsOf(entry, numberButton(entry), shared))];
 }
 /** What can be done with the list as a whole. */
 function toolsView() {
@@ -158,7 +182,7 @@ export function paperList() {
   const entries = knownEntries(doc());
   return entries.length > 1 && [
     h('h2', {}, wordOf('list')),
-    table(wordsNamed('list-heads'), entries, entry => cellsOf(entry, entry.number || '\u2013'))
+    table(wordsNamed('list-heads'), entries, entry => cellsOf(entry, entry.number || '\u2013', NONE))
   ];
 }
 /**

@@ -112,7 +112,8 @@ def test_ten_entries_are_ten_rows(user):
     assert "Kh9" in list_[2][4] and "6 men" in list_[3][4] and "null move" in list_[5][4], list_
     assert list_[2][1:3] == ["Three", "A"] and list_[3][1:3] == ["Four", "B"], list_
     assert [row[0] for row in list_] == [str(n) for n in range(1, 11)], list_
-    assert list_[0][3] == "White to win\n(from the Result)" and "(line 24, column 4)" in list_[2][4], list_
+    assert list_[0][3] == "White to win" and "(line 24, column 4)" in list_[2][4], list_
+    assert user.text("shared") == "All stipulations are from the Result.", "what all have is said once"
     menu = user.js("return [...document.getElementById('studies').options].map(o => o.innerText)")
     assert len(menu) == 10 and menu[2] == "3. Three, A: left out", menu
     assert menu[8].startswith("9. Nine, G: does not win"), menu

@@ -31,17 +31,11 @@ def opened(user, text, name="entries.pgn"):
     user.settle()
 
 
-def many(count):
-    """Studies with different trees, so that the facts of each are to be found."""
-    kings = "Kg3 Kf5 Kf3 Ke5 Ke3 Kd5 Kd3 Kc5 Kc3 Kb5 Kb3".split()
-    return games(*((f"Study {n + 1}", FEN.replace("0 1", f"0 {n + 1}"), numbered(kings[:3 + 2 * (n % 4)], n + 1))
-                   for n in range(count)))
-
-
 def numbered(sans, first):
     return " ".join(f"{first + i // 2}. {san}" if i % 2 == 0 else san for i, san in enumerate(sans))
 
 
+KINGS = "Kg3 Kf5 Kf3 Ke5 Ke3 Kd5".split()
 ROOK = "8/8/8/8/8/1k6/8/K6R w - - 0 1"
 FAULTY = games(("One", FEN, "1. Kg3 Kf5 2. Kf3"), ("Two", FEN, "1. b4 Kf6"),
                ("Three", FEN, "1. Kg3 Kf5 2. Kf3 Ke5 3. Ke3"), ("Four", ROOK, "1. Rh4 Kc3 2. Ka2"))
@@ -112,6 +106,38 @@ def test_the_stamp_is_kept_with_the_document(user):
     user.click("compare")
     user.until("document.getElementById('sides')", 60)
     assert user.js("return [...document.querySelectorAll('#sides b')].map(b => b.innerText)") == [said, said]
+
+
+def test_the_list_has_room(user):
+    """On a laptop eight rows of thirteen are seen whole, names break between words alone, one line has all filters, and
+    what all rows have the same is said once."""
+    user.open_tables(TABLES, SMALL)
+    names = ["Saavedra, Fernando", "Composer, A.", "Троицкий, А.", "Réti, Richard"]
+    text = "".join(GAME.format(event=f"Seventh tourney, {n + 1}", author=names[n % 4], fen=FEN,
+                               moves=numbered(KINGS[:1 + n % 6], 1)) for n in range(13))
+    opened(user, text)
+    user.until(FOUND, 120)
+    user.size(1366, 768)
+    box = "document.querySelector('#list .scroll').getBoundingClientRect()"
+    inner = "r => r.getBoundingClientRect()"
+    whole = user.js(f"const box = {box}; return [...document.querySelectorAll('#list tbody tr')].map({inner})"
+                    ".filter(r => r.top >= box.top && r.bottom <= box.bottom + 1).length")
+    assert whole >= 8, whole
+    assert user.js(f"return {box}.bottom") < 700
+    assert user.js("return document.getElementById('kinds').offsetHeight") < 50
+    broken = user.js("""const range = document.createRange(), broken = [];
+        for (const cell of document.querySelectorAll('#list tbody td:nth-child(-n+3)'))
+            for (const node of [...cell.childNodes].filter(it => it.nodeType === 3))
+                for (const word of node.data.matchAll(/[^ ]+/g)) {
+                    range.setStart(node, word.index);
+                    range.setEnd(node, word.index + word[0].length);
+                    if (range.getClientRects().length > 1) broken.push(word[0]);
+                }
+        return broken""")
+    assert not broken, broken
+    assert user.js("const s = document.querySelector('#list .scroll'); return s.scrollWidth <= s.clientWidth")
+    assert user.text("shared") == "All stipulations are from the Result." and "(from" not in user.text("rows")
+    user.picture("list_room", whole=False)
 
 
 run(globals(), sys.argv[2:])
