@@ -6,6 +6,7 @@ import {doc, say, services} from './state.js';
 import {countsOf, csvOf, findEntries, isOfKind, kindWords, sortEntries} from './entry_list.js';
 import {againstText} from './imported.js';
 import {canBeCut, leftOutBy} from './left_out.js';
+import {drawnAgain, markAt} from './list_box.js';
 import {openLeftOut} from './mending.js';
 import {howManyKnown, knownEntries, reviewAll} from './list_facts.js';
 import {sheetOf} from './sheet.js';
@@ -29,12 +30,7 @@ function toggleFilter(kind) {
 /** All that the list is drawn from, but for the study that is looked at. */
 export const listFrom = () => [knownEntries(doc()), ui.filter, ui.order];
 /** Marks the study that is looked at in the list as it is drawn. */
-export function markShown() {
-  for (const number of document.querySelectorAll('#rows [data-at]')) {
-    if (number.getAttribute('data-at') === `${doc().at}`) number.setAttribute('aria-current', 'true');
-    else number.removeAttribute('aria-current');
-  }
-}
+export const markShown = () => markAt(doc().id, doc().at);
 /**
  * What opens a game that was left out, where it can be read up to a bad move.
  * @param {Entry} entry
@@ -158,15 +154,10 @@ const frameView = () => [h('h2', {id: 'studiesTitle'}, wordOf('list')),
   h('p', {class: 'row', id: 'kinds', role: 'group', 'aria-label': 'Show one kind'}), toolsView(),
   h('div', {id: 'rows'})];
 let drawnBy = '';
-/** The rows anew, as far down as they were, as long as the same ones are wanted. */
 function drawRows() {
-  const by = JSON.stringify(ui), box = () => $('rows').querySelector('.scroll'),
-        rows = () => $('rows').querySelectorAll('tr').length,
-        before = drawnBy === by && box() ? {top: box().scrollTop, rows: rows()} : {top: 0, rows: 0};
-  put('rows', rowsView());
+  const by = JSON.stringify([ui, doc().id]);
+  drawnAgain(() => put('rows', rowsView()), drawnBy === by);
   drawnBy = by;
-  while (box() && rows() < before.rows && box().querySelector('.more')) box().querySelector('.more').click();
-  if (box()) box().scrollTop = before.top;
 }
 /** The list, in its frame, which stays, and with it what is being typed there. */
 export function drawList() {

@@ -140,4 +140,27 @@ def test_the_list_has_room(user):
     user.picture("list_room", whole=False)
 
 
+def test_the_row_of_the_next_study_is_seen(user):
+    """By keys and by the menu: the list is scrolled within its box, and neither the page nor a list that is read."""
+    user.open_tables(TABLES, SMALL)
+    opened(user, games(*((f"Study {n + 1}", FEN.replace("0 1", f"0 {n + 1}"), "") for n in range(70))))
+    user.size(1366, 768)
+    inside = """const box = document.querySelector('#list .scroll').getBoundingClientRect(),
+        row = document.querySelector('#rows [aria-current]').closest('tr').getBoundingClientRect(),
+        head = document.querySelector('#list thead').offsetHeight;
+        return [row.top >= box.top + head - 1 && row.bottom <= box.bottom + 1, scrollY]"""
+    for _ in range(25):
+        user.keys(Keys.PAGE_DOWN)
+        user.settle()
+    assert user.js("return document.querySelector('#rows [aria-current]').innerText") == "26"
+    assert user.js(inside) == [True, 0], user.js(inside)
+    for n in (69, 3, 64):
+        user.choose("studies", f"{n}")
+        assert user.js("return document.querySelector('#rows [aria-current]').innerText") == f"{n + 1}"
+        assert user.js(inside) == [True, 0], (n, user.js(inside))
+    user.js("document.querySelector('#list .scroll').scrollTop = 0")
+    user.fill("tagSite", "Riga")
+    assert user.js("return document.querySelector('#list .scroll').scrollTop") == 0
+
+
 run(globals(), sys.argv[2:])
