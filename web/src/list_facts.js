@@ -8,6 +8,7 @@ import {lettersOf} from './fen.js';
 import {judgedBy, readReview, readView} from './parse_answers.js';
 import {isAimLine} from './edits.js';
 import {editsTo, fensOf, toText, wordsOf} from './script.js';
+import {addDetails} from './review_details.js';
 import {moveName} from './words.js';
 /** @typedef {import('./types.js').Doc} Doc @typedef {import('./types.js').Review} Review */
 
@@ -154,6 +155,17 @@ export async function reviewAll(d, wanted) {
   services.reading(0, 0);
   services.showFacts();
   services.keep();
+}
+/** Finds what is printed: the facts of all studies, and what stands beside the one that is shown. */
+export async function factsToPrint() {
+  const d = doc(), s = d.studies[d.at], {stamp} = app;
+  if (d.studies.length > 1) await reviewAll(d, true);
+  if (!s || !s.aim || !app.view || stamp !== app.stamp) return;
+  const review = app.review || await reviewFor(d.lines, s);
+  if (!review || stamp !== app.stamp) return;
+  app.review = review;
+  await addDetails(toText(editsTo(d.lines, s)), s.fen, review, stamp);
+  services.showFacts();
 }
 let timer = 0;
 /**

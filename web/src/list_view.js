@@ -168,11 +168,15 @@ export function drawList() {
   put('findAll', findAllView());
   drawRows();
 }
-/** All entries, for paper. */
+/** All entries, for paper: where it is printed before all facts are found, that they lack. */
 export function paperList() {
-  const entries = knownEntries(doc());
+  const entries = knownEntries(doc()), {known, of} = howManyKnown(doc()), open = entries.some(entry => entry.open);
   return entries.length > 1 && [
     h('h2', {}, wordOf('list')),
+    open &&
+      h('p', {class: 'note'},
+        `Printed before all faults were found: those of ${known} of ${
+          of} studies are known. A verdict with … may change.`),
     table(wordsNamed('list-heads'), entries, entry => cellsOf(entry, entry.number || '\u2013', NONE))
   ];
 }

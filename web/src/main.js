@@ -24,6 +24,7 @@ import {bytesOf} from './packed.js';
 import {clearPaper, layOut} from './paper.js';
 import {makeReaders} from './file_readers.js';
 import {makeTables} from './tables.js';
+import {factsToPrint} from './list_facts.js';
 import {showLeftOut} from './list_view.js';
 import {show, showFacts, showJudged, showProgress, watch} from './show.js';
 import {makeStore} from './store.js';
@@ -157,7 +158,7 @@ on('savePlain', () => {
 });
 addEventListener('beforeprint', layOut);
 addEventListener('afterprint', clearPaper);
-on('print', () => window.print());
+on('print', () => track(factsToPrint().then(() => window.print())));
 on('saveReport', () => track((async () => {
   if (await saveReport(fileName('.html'))) sayUnread('without a verdict');
 })()));

@@ -85,6 +85,33 @@ def test_paper(user):
     assert user.text("middle") == before and not user.js("return document.getElementById('paper').children.length")
 
 
+def test_paper_waits_for_facts(user):
+    """`Print` waits until the faults of all studies are found; where the browser prints first, the list says which
+    verdicts may change."""
+    user.open_tables(TABLES, SMALL)
+    paper = """dispatchEvent(new Event('beforeprint'));
+        const text = document.querySelector('#paper .listed').textContent;
+        dispatchEvent(new Event('afterprint'));
+        return text"""
+    for printed in ("by keys", "by the button"):
+        user.promise("studyboard.open('')")
+        user.js("window.print = () => { window.printed = (() => { " + paper + " })(); }")
+        user.open_file("entries.pgn", PGN.replace("0 1", f"0 {len(printed)}"))
+        user.until("document.getElementById('stamp') && document.querySelectorAll('#list tbody tr').length === 4", 60)
+        if printed == "by keys":
+            text = user.js(paper)
+            assert re.search(r"(sound|\d faults?) …", text), text
+            assert re.search(r"Printed before all faults were found: those of \d of 3 studies are known\.", text), text
+            continue
+        user.click("print")
+        user.until("window.printed", 60)
+        text = user.js("return window.printed")
+        assert "…" not in text and "Printed before" not in text, text
+        assert re.search(r"fails at \d+\. b4", text), text
+        user.settle()
+        assert user.js("return document.getElementById('progress').hidden")
+
+
 def test_tries_on_paper(user):
     """A try has on paper what the saved report says of it: how many of the legal replies refute it."""
     user.open_tables(TABLES, SMALL)
