@@ -9,6 +9,7 @@ import {NO_POSITION, leftOutBy, whyLeftOut} from './left_out.js';
 import {positionsReached, reachedText, samePositions, sameText} from './same_positions.js';
 import {isCommand, isEdit, isPosition, wordsOf} from './script.js';
 import {acceptedOf, openStamp, stampOf} from './stamps.js';
+import {namesOfTails} from './tails.js';
 import {bareTree} from './unmarked.js';
 import {aimText, reason} from './words.js';
 /** @typedef {import('./types.js').Study} Study @typedef {import('./types.js').Doc} Doc */
@@ -61,10 +62,11 @@ function listedName(s, name) {
 /**
  * The title in the list, or the men; of a part of a game with more than four men also the move after which it begins.
  * @param {Study} s
+ * @param {string} [after]
  */
-function listedTitle(s) {
-  const title = listedName(s, 'Event') || control(s.fen), tail = s.origin && s.origin.tail;
-  return tail ? `${title} (after ${tail.after})` : title;
+function listedTitle(s, after) {
+  const title = listedName(s, 'Event') || control(s.fen);
+  return after ? `${title} (after ${after})` : title;
 }
 /** @param {string} line */
 const tagIn = line => /^ *tag +(\w+) +(.*?) *$/.exec(line);
@@ -229,15 +231,15 @@ function faultsOf(doc, s, review) {
  * @returns {Entry[]}
  */
 export function entriesOf(doc, reviews = [], mainLines = [], open = []) {
-  const numbers = numbersOf(doc), fens = doc.studies.map(s => s.fen), same = samePositions(fens),
-        reached = positionsReached(fens, mainLines), studies = doc.studies.map((s, at) => {
+  const numbers = numbersOf(doc), tails = namesOfTails(doc.lines, doc.studies), fens = doc.studies.map(s => s.fen),
+        same = samePositions(fens), reached = positionsReached(fens, mainLines), studies = doc.studies.map((s, at) => {
           const said = stampOf(doc, s, reviews[at] || null), {kind, text} = open[at] ? openStamp(said) : said;
           return {
             line: s.from,
             at,
             number: numbers[at],
             kind,
-            title: listedTitle(s),
+            title: listedTitle(s, tails.get(s)),
             author: listedName(s, 'White'),
             fen: s.fen,
             aim: listedAim(s),

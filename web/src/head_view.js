@@ -12,6 +12,7 @@ import {plainText} from './opening.js';
 import {guess} from './setup.js';
 import {typedOr} from './node_view.js';
 import {TAGS} from './script.js';
+import {tailText} from './tails.js';
 import {wordOf} from './wording.js';
 import {aimWords} from './words.js';
 /** @typedef {import('./types.js').Study} Study @typedef {import('./types.js').Aim} Aim */
@@ -85,13 +86,10 @@ const againstView = ({origin}) => origin && origin.against.length > 0 &&
 const languageView = ({origin}) => origin && origin.letters !== '' &&
   h('p', {class: 'note', id: 'letters'}, `The file has its moves in ${origin.letters} letters.`);
 /**
- * Of a part of a game with more than four men: which it is, and whether the solution leads to it.
+ * Of a part of a game with more than four men: which it is, whether the solution leads to it, and what is not judged.
  * @param {Study} s
  */
-const tailView = ({origin}) => origin && origin.tail &&
-  h('p', {class: 'note', id: 'tail'},
-    `Tail ${origin.tail.number} of game ${origin.tail.game}, after ${origin.tail.after}${
-      origin.tail.beside ? ', beside the solution: a try, which should fail' : ''}.`);
+export const tailView = s => s.origin && s.origin.tail && h('p', {class: 'note', id: 'tail'}, tailText(doc().lines, s));
 /** @param {string} words */
 const setAim = words =>
   change(now => (now.studies[now.at] ? stipulate(now.lines, now.studies[now.at], words) : null), 'head');

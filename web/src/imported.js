@@ -3,7 +3,7 @@
 // that says why.
 import {cutIn, leftOut, whyLeftOut} from './left_out.js';
 import {cutAt, ownRemark, remarkOf, remarksOfKind} from './remarks.js';
-import {tailIn} from './tails.js';
+import {tailIn, wholeGames} from './tails.js';
 import {counted} from './words.js';
 /**
  * Whether a text is a PGN: its first line is a tag, or some line is the tag of a position.
@@ -257,6 +257,19 @@ export function originalsIn(remarks) {
  * @param {string[]} remarks
  */
 export const headOf = remarks => ({originals: originalsIn(remarks), origin: originIn(remarks)});
+/**
+ * A part of a game has the game's names in their own letters too, as long as its tags are the game's, and the language
+ * of its moves.
+ * @param {string[]} lines
+ * @param {import('./types.js').Study} study
+ */
+export function withWholeGame(lines, {origin, originals, tags}) {
+  const game = origin.tail && wholeGames(lines).get(origin.tail.game);
+  if (!game) return;
+  for (const [name, text] of Object.entries(originalsIn(game.remarks)))
+    if (originals[name] === undefined && tags[name] === game.tags[name]) originals[name] = text;
+  origin.letters = origin.letters || remarksOfKind(game.remarks, 'letters').map(({said}) => said).join('');
+}
 /**
  * A study has the text of its own tag line that was refused, and not what an earlier study left.
  * @param {import('./types.js').Script} script

@@ -6,7 +6,7 @@ import {besideDiagram, diagramOf} from './drawing.js';
 import {isKnown} from './edits.js';
 import {nameOf} from './entries.js';
 import {control, other, sideOf} from './fen.js';
-import {numberText, sameView} from './head_view.js';
+import {numberText, sameView, tailView} from './head_view.js';
 import {againstText, sourceText} from './imported.js';
 import {paperList} from './list_view.js';
 import {dualsOf, reviewView} from './review_view.js';
@@ -39,7 +39,7 @@ function headOf(s) {
   return [
     h('h1', {}, nameOf(s, 'Event') || wordOf('untitled')), by.length > 0 && h('p', {class: 'by'}, by.join(' · ')),
     against.length > 0 && h('p', {class: 'note'}, `Compare the sources of the stipulation: ${against.join('; ')}.`),
-    sameView()
+    sameView(), tailView(s)
   ];
 }
 /**

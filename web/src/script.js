@@ -2,7 +2,7 @@
 // The script is the document: lines of edits, run from the first to the last. Here its replies become studies.
 import {lineKind} from './wording.js';
 import {aimWords} from './words.js';
-import {headOf, withRefusedTags} from './imported.js';
+import {headOf, withRefusedTags, withWholeGame} from './imported.js';
 import {leftOutBy} from './left_out.js';
 import {isOfImport} from './remarks.js';
 import {once} from './once.js';
@@ -126,13 +126,14 @@ function endOf({lines, refused}, study, next) {
   return end;
 }
 /**
- * The remarks right above a position are the study's.
+ * The remarks right above a position are the study's; names of its whole game too, if it is a part of one.
  * @param {string[]} lines
  * @param {Study} study
  */
 function withRemarks(lines, study) {
   while (study.head > 0 && /^ *#/.test(lines[study.head - 1])) study.head--;
   Object.assign(study, headOf(lines.slice(study.head, study.from)));
+  withWholeGame(lines, study);
 }
 
 /** @typedef {{aim: Aim | null, tags: Record<string, string>}} Carried */

@@ -1,11 +1,18 @@
 // @ts-check
 // A game with more than four men in a script: its lines `#> ` are the whole game, and each part that begins with at
 // most four men, a tail, is a study below a heading.
-import {ownRemark} from './remarks.js';
+import {numbered} from './fault_kinds.js';
+import {once} from './once.js';
+import {ownRemark, remarkOf} from './remarks.js';
+import {numberedLine} from './words.js';
 /**
  * A tail: its number in the game, the node at which it begins and the move that leads there, and whether the solution
  * leads elsewhere.
  * @typedef {{game: number, number: number, node: string, after: string, beside: boolean}} Tail
+ */
+/**
+ * A whole game: the remarks above it, its start, its tags, and its lines.
+ * @typedef {{remarks: string[], fen: string, tags: Record<string, string>, lines: string[]}} Whole
  */
 const TAIL = /^(\d+) of \d+ of game (\d+), node ([^,]*), after ([^,]*)(, beside the solution)?/;
 /**
@@ -36,4 +43,96 @@ export function wayTo(lines, node) {
   }
   const places = node === 'root' ? [] : node.split('.');
   return places.map((_, i) => moves.get(places.slice(0, i + 1).join('.')) || '');
+}
+/**
+ * The games of a script that stand there whole, by their numbers.
+ * @type {(lines: string[]) => Map<number, Whole>}
+ */
+export const wholeGames = once(lines => {
+  const games = /** @type {Map<number, Whole>} */ (new Map());
+  let now = /** @type {Whole | null} */ (null), number = 0;
+  for (const line of lines) {
+    const remark = line.startsWith('#! game ') ? remarkOf(line) : null;
+    if (remark && remark.game) [now, number] = [{remarks: [], fen: '', tags: {}, lines: []}, remark.game];
+    else if (!line.startsWith('#')) now = null;
+    if (!now) continue;
+    if (line.startsWith('#> ')) addLine(now, line);
+    else now.remarks.push(line);
+    if (now.lines.length === 1) games.set(number, now);
+  }
+  return games;
+});
+/**
+ * @param {Whole} game
+ * @param {string} line
+ */
+function addLine(game, line) {
+  const [, command, rest] = /^#> (\S+) (.*)$/.exec(line) || [], [, name, text] = /^(\S+) (.*)$/.exec(rest || '') || [];
+  game.lines.push(line);
+  if (command === 'position') game.fen = rest;
+  else if (command === 'tag') game.tags[name] = text;
+}
+/** @typedef {{origin: import('./imported.js').Origin}} Part */
+/**
+ * The moves that lead to a part, and the start of its game; none where the script has not the whole game.
+ * @param {string[]} lines
+ * @param {Part} part
+ */
+function wayOf(lines, {origin}) {
+  const tail = origin && origin.tail, game = tail && wholeGames(lines).get(tail.game);
+  return {fen: game ? game.fen : '', sans: tail && game ? wayTo(game.lines, tail.node) : []};
+}
+/**
+ * The move at a place of a line, with its number.
+ * @param {{fen: string, sans: string[]}} way
+ * @param {number} at
+ */
+const moveAt = ({fen, sans}, at) => numbered(fen, sans.slice(0, at + 1).map(() => '0').join('.'), sans[at]);
+/**
+ * How many moves two lines begin with alike.
+ * @param {string[]} one
+ * @param {string[]} two
+ */
+function alike(one, two) {
+  const at = one.findIndex((san, i) => san !== two[i]);
+  return at < 0 ? one.length : at;
+}
+/**
+ * The move after which a part begins; where another part of its game begins after a move of the same name, with those
+ * before it that only the one line has.
+ * @param {string[]} lines
+ * @param {Part[]} parts      all of the script
+ * @returns {Map<Part, string>}
+ */
+export function namesOfTails(lines, parts) {
+  const names = /** @type {Map<Part, string>} */ (new Map()), groups = /** @type {Map<string, Part[]>} */ (new Map());
+  for (const part of parts) {
+    const {tail} = part.origin || {}, key = tail ? `${tail.game} ${tail.after}` : '';
+    if (tail) groups.set(key, [...(groups.get(key) || []), part]);
+  }
+  for (const group of groups.values()) {
+    const ways = group.map(part => wayOf(lines, part));
+    group.forEach((part, i) => {
+      const way = ways[i], apart = ways.filter(other => other !== way).map(({sans}) => alike(way.sans, sans));
+      const places = [...new Set(apart)].filter(at => at + 1 < way.sans.length).sort((x, y) => x - y);
+      const after = part.origin.tail ? part.origin.tail.after : '';
+      names.set(part, [...places.map(at => moveAt(way, at)), after].join(' .. '));
+    });
+  }
+  return names;
+}
+/**
+ * Which part of its game a study is, where that has more than four men, and what of the game is not judged.
+ * @param {string[]} lines
+ * @param {Part} part
+ */
+export function tailText(lines, part) {
+  const {tail} = part.origin || {}, {fen, sans} = wayOf(lines, part);
+  if (!tail) return '';
+  const beside = tail.beside ? ', beside the solution: a try, which should fail' : '',
+        name =
+          [`Tail ${tail.number} of game ${tail.game}`, tail.after && `after ${tail.after}`].filter(Boolean).join(', '),
+        way = sans.length && !sans.includes('') ? `: ${numberedLine(fen, sans)}` : '';
+  const rest = tail.after && ` Judged from there on; the moves before, with more than four men, are not judged${way}.`;
+  return `${name}${beside}.${rest}`;
 }

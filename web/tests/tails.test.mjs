@@ -3,7 +3,10 @@ import './stand_in.mjs';
 import test from 'node:test';
 import assert from 'node:assert/strict';
 import {saidInTail} from '../src/notes.js';
-import {tailIn, wayTo} from '../src/tails.js';
+import {assumeAccepted} from '../src/assumed.js';
+import {entriesOf} from '../src/entries.js';
+import {savedGames} from '../src/saved_games.js';
+import {tailIn, tailText, wayTo} from '../src/tails.js';
 
 const HEADING = '#! tail 2 of 3 of game 4, node 0.1.0, after 5. cxb8=Q, beside the solution';
 const WHOLE = [
@@ -28,4 +31,40 @@ test('a tail has what its game says behind the way to it', () => {
   assert.deepEqual(
     saidInTail(remarks, ['Nc1', 'Rd5+', 'Nd3']), ['#! tag Annotator X', '#! note Rxd3+ Kc2: a point', '#! mark -: $1']);
   assert.deepEqual(saidInTail(remarks, []), remarks);
+});
+/** A game of five men in Czech letters whose three parts begin after moves of one name. */
+const tail = (n, node, beside = '') => ['', `#! tail ${n} of 3 of game 7, node ${node}, after 3... Kxb2${beside}`,
+  `position 8/8/8/8/8/8/1k6/K2R4 w - - 0 4`, 'stipulate white win', 'tag Event Ctyri kameny',
+  'tag White Fritz, Jindrich', 'insert root Rd2', 'pgn'];
+const CZECH = [
+  '#! game 7, line 3: stipulated by its tag Result', '#! Event was: Čtyři kameny', '#! White was: Fritz, Jindřich',
+  '#! letters: Czech', '#> position 8/8/8/8/8/1k6/1P6/K2R4 w - - 0 1', '#> stipulate white win',
+  '#> tag Event Ctyri kameny', '#> tag White Fritz, Jindrich', '#> insert root Rd3', '#> insert 0 Kc4',
+  '#> insert 0.0 Rd8', '#> insert 0.0.0 Kb3', '#> insert 0.0.0.0 Rd7', '#> insert 0.0.0.0.0 Kxb2', '#> insert root Rd4',
+  '#> insert 1 Kc3', '#> insert 1.0 Rd8', '#> insert 1.0.0 Kb3', '#> insert 1.0.0.0 Rd7', '#> insert 1.0.0.0.0 Kxb2',
+  '#> insert 1.0 Rd7', '#> insert 1.0.1 Kb3', '#> insert 1.0.1.0 Rd8', '#> insert 1.0.1.0.0 Kxb2',
+  ...tail(1, '0.0.0.0.0.0'), ...tail(2, '1.0.0.0.0.0', ', beside the solution'),
+  ...tail(3, '1.0.1.0.0.0', ', beside the solution')
+];
+const czech = lines => ({...assumeAccepted(lines), at: 0, path: 'root', name: '', id: 'x', note: '', judged: true});
+test('each part of a game has the names of the game in their own letters, as long as its tags are the game\'s', () => {
+  const d = czech(CZECH), rows = entriesOf(d);
+  assert.deepEqual(rows.map(row => row.author), ['Fritz, Jindřich', 'Fritz, Jindřich', 'Fritz, Jindřich']);
+  assert.ok(rows.every(row => row.title.startsWith('Čtyři kameny (after ')), rows[0].title);
+  assert.ok(d.studies.every(s => s.origin.letters === 'Czech'));
+  d.studies[0].games = ['[Event "Ctyri kameny"]\n[White "Fritz, Jindrich"]\n[Result "1-0"]\n\n4. Rd2 1-0\n\n'];
+  assert.match(savedGames(d), /\[Event "Čtyři kameny"\]\n\[White "Fritz, Jindřich"\]/);
+  const [first, ...others] = czech(CZECH.map((line, at) => (at === 29 ? 'tag White Prokes' : line))).studies;
+  assert.deepEqual([first.tags.White, first.originals.White], ['Prokes', undefined]);
+  assert.ok(others.every(s => s.originals.White === 'Fritz, Jindřich'));
+});
+test('parts that begin after moves of one name are told apart by the moves before it', () => {
+  const d = czech(CZECH);
+  assert.deepEqual(entriesOf(d).map(row => row.title.slice('Čtyři kameny '.length)),
+    ['(after 1. Rd3 .. 3... Kxb2)', '(after 1. Rd4 .. 2. Rd8 .. 3... Kxb2)', '(after 1. Rd4 .. 2. Rd7 .. 3... Kxb2)']);
+  const rest = ' Judged from there on; the moves before, with more than four men, are not judged';
+  assert.equal(tailText(d.lines, d.studies[1]),
+    'Tail 2 of game 7, after 3... Kxb2, beside the solution: a try, which should fail.' +
+      `${rest}: 1. Rd4 Kc3 2. Rd8 Kb3 3. Rd7 Kxb2.`);
+  assert.equal(tailText([], d.studies[0]), `Tail 1 of game 7, after 3... Kxb2.${rest}.`);
 });

@@ -85,6 +85,34 @@ def test_a_game_with_more_men_has_its_tails(user):
     assert "stipulation is wrong" not in user.text("middle") and "Say instead" not in user.text("middle")
 
 
+def test_a_part_of_a_game_has_its_names(user):
+    """Five men and Czech names: each part has them in their letters, in list, head, print and saved PGN, after a reload
+    too; and the page says which moves are not judged."""
+    if not os.path.exists(os.path.join(TABLES, "KRRK.dtm")):
+        return
+    user.open_tables(TABLES, SMALL + ["KRRK"])
+    moves = "1. Rxb2 (1. Rc2 Kb8 2. Rcxb2 Ka8 3. Rh2) 1... Kb8 2. Rbc2"
+    text = game("Čtyři kameny", "Fritz, Jindřich", moves, fen="k7/8/1K6/8/8/8/1p6/1RR5 w - - 0 1")
+    opened(user, "czech.pgn", text, "document.querySelectorAll('#list tbody tr').length === 2")
+    for _ in range(2):
+        assert [row[1:3] for row in rows(user)] == [
+            ["Čtyři kameny (after 1. Rxb2)", "Fritz, Jindřich"], ["Čtyři kameny (after 2. Rcxb2)", "Fritz, Jindřich"]
+        ], rows(user)
+        assert user.text("head").startswith("Čtyři kameny") and "Fritz, Jindřich" in user.text("head")
+        user.d.refresh()
+        user.idle()
+    user.choose("studies", "1")
+    said = "Judged from there on; the moves before, with more than four men, are not judged: 1. Rc2 Kb8 2. Rcxb2."
+    assert said in user.text("tail"), user.text("tail")
+    user.js("dispatchEvent(new Event('beforeprint'))")
+    paper = user.js("return document.getElementById('paper').textContent")
+    user.js("dispatchEvent(new Event('afterprint'))")
+    assert said in paper and "Fritz, Jindřich" in paper and "Jindrich" not in paper, paper
+    for button in ("savePgn", "savePlain"):
+        saved = user.download(button)[1]
+        assert saved.count('[White "Fritz, Jindřich"]') == 2 and saved.count('[Event "Čtyři kameny"]') == 2, saved
+
+
 def test_ten_entries_are_ten_rows(user):
     user.open_tables(TABLES, SMALL)
     pgn = "% made by hand\n" + "".join(
