@@ -74,24 +74,41 @@ export function findEntries(entries, text) {
                       : entries;
 }
 const collator = new Intl.Collator(undefined, {numeric: true});
-/** @param {Entry} entry */
-const weight = ({kind, count}) => KINDS.indexOf(kind) * 1000 + count;
+const WORST_FIRST = [
+  'left out', 'not read', 'not judged', 'wrong', 'mistake', 'duals', 'faults', 'time', 'accepted', 'refuted', 'correct',
+  'sound'
+];
+/**
+ * How far behind an entry comes in a list with the worst first: by its verdict, then by its worst fault, then by how
+ * many it has.
+ * @param {Entry} entry
+ */
+function rank({kind, faults, count}) {
+  const worst = FAULT_KINDS.findIndex(([fault]) => faults.includes(fault));
+  return [WORST_FIRST.indexOf(kind), worst < 0 ? FAULT_KINDS.length : worst, -count];
+}
+/**
+ * @param {number[]} x
+ * @param {number[]} y
+ */
+const byPlaces = (x, y) => x.map((place, i) => place - y[i]).find(Boolean) || 0;
 const ORDERS = /** @type {Record<string, (x: Entry, y: Entry) => number>} */ ({
   number: (x, y) => collator.compare(x.number, y.number),
   title: (x, y) => collator.compare(x.title, y.title),
   author: (x, y) => collator.compare(x.author, y.author),
   aim: (x, y) => collator.compare(x.aim, y.aim),
-  verdict: (x, y) => weight(x) - weight(y)
+  verdict: (x, y) => byPlaces(rank(x), rank(y))
 });
 /**
- * The entries in the order of a column; else as they come.
+ * The entries in the order of a column, those that are equal there as they come; by their verdicts the worst first.
  * @param {Entry[]} entries
  * @param {string} by
  * @param {boolean} back
  */
 export function sortEntries(entries, by, back) {
-  const sorted = ORDERS[by] ? [...entries].sort(ORDERS[by]) : [...entries];
-  return back ? sorted.reverse() : sorted;
+  const order = ORDERS[by];
+  if (!order) return [...entries];
+  return [...entries].sort(back ? (x, y) => order(y, x) : order);
 }
 /**
  * An entry in a line of the menu: a study by its own names alone.

@@ -15,7 +15,7 @@ import {close as closeFinding, openFinding, startFinding} from './finding_view.j
 import {makeCore} from './engine.js';
 import {back, closeMenu, forth, listenToKeys} from './keys.js';
 import {saveReport} from './reporting.js';
-import {knownReviews} from './list_facts.js';
+import {knownFacts} from './list_facts.js';
 import {savedGames} from './saved_games.js';
 import {unreadIn} from './stamps.js';
 import {fensOf, savedScript} from './script.js';
@@ -149,7 +149,7 @@ function sayUnread(how) {
   services.show();
 }
 on('savePgn', () => {
-  download(fileName('.pgn'), savedGames(doc(), true, knownReviews(doc())));
+  download(fileName('.pgn'), savedGames(doc(), true, knownFacts(doc()).reviews));
   sayUnread('and its game says so');
 });
 on('savePlain', () => {

@@ -151,7 +151,8 @@ test('names are found whatever their accents, and each column sorts', () => {
   assert.deepEqual(names(findEntries(rows, '')).length, 3);
   assert.deepEqual(names(sortEntries(rows, 'title', false)), ['Opposition', 'Réti', 'Third']);
   assert.deepEqual(names(sortEntries(rows, 'author', true)), ['Réti', 'Opposition', 'Third']);
-  assert.deepEqual(names(sortEntries(rows, 'verdict', false)).pop(), 'Réti');
+  assert.deepEqual(names(sortEntries(rows, 'verdict', false)), ['Réti', 'Opposition', 'Third']);
+  assert.deepEqual(names(sortEntries(rows, 'verdict', true)), ['Opposition', 'Third', 'Réti']);
   assert.deepEqual(names(sortEntries(rows, 'number', true)), ['Third', 'Opposition', 'Réti']);
   assert.ok(rows.every(row => isOfKind(row, 'same')));
 });
@@ -160,6 +161,19 @@ const WIN = {
   goal: 'win',
   k: 0
 };
+test('the first press on the verdict puts the worst first, and equal ones stay as they come', () => {
+  const row = (title, kind, faults = [], count = 0) => ({title, kind, faults, count});
+  const rows = [
+    row('sound', 'sound'), row('side', 'duals', ['side', 'waste'], 2), row('also sound', 'sound'),
+    row('out', 'left out'), row('open', 'faults', [], 9), row('cook', 'duals', ['cook', 'side'], 2),
+    row('wrong', 'wrong'), row('more cooks', 'duals', ['cook'], 5), row('time', 'time', ['waste'], 1),
+    row('fails', 'mistake', ['fails'], 1)
+  ];
+  assert.deepEqual(sortEntries(rows, 'verdict', false).map(({title}) => title),
+    ['out', 'wrong', 'fails', 'more cooks', 'cook', 'side', 'open', 'time', 'sound', 'also sound']);
+  assert.deepEqual(
+    sortEntries(rows, 'verdict', true).slice(0, 3).map(({title}) => title), ['sound', 'also sound', 'time']);
+});
 test('two versions differ in these moves', () => {
   const view = (...rows) =>
     readView(`study ${FEN}\n${rows.map(row => `node ${row} 0 ${FEN}\n`).join('')}`.replace(/0 (7K)/g, '0 0 $1'));
