@@ -9,6 +9,7 @@ import {againstText, sourceText} from './imported.js';
 import {knownEntries} from './list_facts.js';
 import {refuseLong} from './limits.js';
 import {plainText} from './opening.js';
+import {ownRemark} from './remarks.js';
 import {guess} from './setup.js';
 import {typedOr} from './node_view.js';
 import {TAGS} from './script.js';
@@ -73,12 +74,26 @@ export const sameView = () =>
  */
 const sourceView = s => sourceText(s.origin) && h('span', {class: 'note', id: 'source'}, `(${sourceText(s.origin)})`);
 /**
+ * The result that a game of the file states, in its tag and behind its moves.
+ * @param {Study} s
+ */
+function resultsOf(s) {
+  const remarks = doc().lines.slice(s.head, s.from).map(ownRemark),
+        tag = remarks.find(({word, rest}) => word === 'tag' && rest.startsWith('Result ')),
+        behind = remarks.find(({word}) => word === 'result'), stated = tag ? tag.rest.slice('Result '.length) : '';
+  return {'result-tag-differs': stated, 'result-differs': behind ? behind.rest : stated};
+}
+/**
  * What speaks against the stipulation, as long as the user sets none.
  * @param {Study} s
  */
-const againstView = ({origin}) => origin && origin.against.length > 0 &&
-  h('p', {class: 'note differs', id: 'against'},
-    `Compare the sources of the stipulation: ${origin.against.map(againstText).join('; ')}.`);
+function againstView(s) {
+  const results = /** @type {Record<string, string>} */ (resultsOf(s)),
+        said =
+          s.origin ? s.origin.against.map(what => againstText(what) + (results[what] ? `: ${results[what]}` : '')) : [];
+  return said.length > 0 &&
+    h('p', {class: 'note differs', id: 'against'}, `Compare the sources of the stipulation: ${said.join('; ')}.`);
+}
 /**
  * The language of the letters in which its file has the moves.
  * @param {Study} s

@@ -15,7 +15,6 @@ import {close as closeFinding, openFinding, startFinding} from './finding_view.j
 import {makeCore} from './engine.js';
 import {back, closeMenu, forth, listenToKeys} from './keys.js';
 import {saveReport} from './reporting.js';
-import {knownFacts} from './list_facts.js';
 import {savedGames} from './saved_games.js';
 import {unreadIn} from './stamps.js';
 import {fensOf, savedScript} from './script.js';
@@ -24,7 +23,7 @@ import {bytesOf} from './packed.js';
 import {clearPaper, layOut} from './paper.js';
 import {makeReaders} from './file_readers.js';
 import {makeTables} from './tables.js';
-import {factsToPrint} from './list_facts.js';
+import {factsToPrint, knownFacts} from './list_facts.js';
 import {showLeftOut} from './list_view.js';
 import {show, showFacts, showJudged, showProgress, watch} from './show.js';
 import {makeStore} from './store.js';
