@@ -223,6 +223,27 @@ function faultsOf(doc, s, review) {
   };
 }
 /**
+ * What a row says by the facts of its study, as far as they are known.
+ * @param {Doc} doc
+ * @param {Study} s
+ * @param {Review | null} review
+ * @param {boolean} open      whether they are still being found
+ */
+function saidOf(doc, s, review, open) {
+  const said = stampOf(doc, s, review), {kind, text} = open ? openStamp(said) : said,
+        own = kind === 'not read' ? null : review;
+  return {kind, stamp: text, review: own, ...faultsOf(doc, s, own), open: open && text !== said.text};
+}
+/**
+ * The entries with the facts of one more study; which others reach its position stays as it was.
+ * @param {Entry[]} entries
+ * @param {Doc} doc
+ * @param {number} at
+ * @param {Review | null} review
+ */
+export const withFacts = (entries, doc, at, review) =>
+  entries.map(entry => (entry.at === at ? {...entry, ...saidOf(doc, doc.studies[at], review, false)} : entry));
+/**
  * The entries in the order of the script.
  * @param {Doc} doc
  * @param {(Review | null)[]} reviews      of each study, as far as they are known
@@ -232,26 +253,19 @@ function faultsOf(doc, s, review) {
  */
 export function entriesOf(doc, reviews = [], mainLines = [], open = []) {
   const numbers = numbersOf(doc), tails = namesOfTails(doc.lines, doc.studies), fens = doc.studies.map(s => s.fen),
-        same = samePositions(fens), reached = positionsReached(fens, mainLines), studies = doc.studies.map((s, at) => {
-          const said = stampOf(doc, s, reviews[at] || null), {kind, text} = open[at] ? openStamp(said) : said;
-          return {
-            line: s.from,
-            at,
-            number: numbers[at],
-            kind,
-            title: listedTitle(s, tails.get(s)),
-            author: listedName(s, 'White'),
-            fen: s.fen,
-            aim: listedAim(s),
-            against: s.origin ? s.origin.against : [],
-            stamp: text,
-            review: kind === 'not read' ? null : reviews[at] || null,
-            same: [sameText(same[at], numbers), reachedText(reached[at], numbers)].filter(Boolean).join(' and the '),
-            ...faultsOf(doc, s, kind === 'not read' ? null : reviews[at] || null),
-            count: Number(s.verdict.split(' ')[1]) || 0,
-            open: Boolean(open[at]) && text !== said.text
-          };
-        });
+        same = samePositions(fens), reached = positionsReached(fens, mainLines), studies = doc.studies.map((s, at) => ({
+          line: s.from,
+          at,
+          number: numbers[at],
+          title: listedTitle(s, tails.get(s)),
+          author: listedName(s, 'White'),
+          fen: s.fen,
+          aim: listedAim(s),
+          against: s.origin ? s.origin.against : [],
+          same: [sameText(same[at], numbers), reachedText(reached[at], numbers)].filter(Boolean).join(' and the '),
+          count: Number(s.verdict.split(' ')[1]) || 0,
+          ...saidOf(doc, s, reviews[at] || null, Boolean(open[at]))
+        }));
   const refused = doc.refused.filter(r => isPosition(r.text)).map(r => {
     const {Event = '', White = '', Round = ''} = tagsAfter(doc.lines, r.line);
     return missing(r.line,

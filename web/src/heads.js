@@ -38,10 +38,7 @@ import {counted} from './words.js';
 export function summary(doc, reviews = [], open = []) {
   const {studies} = doc;
   if (last.studies === studies && last.reviews === reviews) return last.made;
-  const stamps = studies.map((s, i) => {
-    const stamp = stampOf(doc, s, reviews[i] || null);
-    return open[i] ? openStamp(stamp) : stamp;
-  });
+  const stamps = studies.map((s, i) => stampIn(doc, s, reviews[i] || null, Boolean(open[i])));
   const counts =
     countsOf(stamps).filter(([kind]) => kind !== 'not judged').map(([kind, n]) => `${n} ${kindWords(kind)}`).join(', ');
   const made = {
@@ -57,6 +54,24 @@ export function summary(doc, reviews = [], open = []) {
 }
 let last = /** @type {{studies: any, reviews: any, made: {title: string, verdict: string}}} */ (
   {studies: null, reviews: null, made: {title: '', verdict: ''}});
+
+const stamps =
+  /** @type {WeakMap<any, {review: Review | null, open: boolean, stamp: {kind: string, text: string}}>} */ (
+    new WeakMap());
+/**
+ * The stamp of a study, made once for the same facts.
+ * @param {Doc} doc
+ * @param {import('./types.js').Study} s
+ * @param {Review | null} review
+ * @param {boolean} open
+ */
+function stampIn(doc, s, review, open) {
+  const known = stamps.get(s);
+  if (known && known.review === review && known.open === open) return known.stamp;
+  const said = stampOf(doc, s, review), stamp = open ? openStamp(said) : said;
+  stamps.set(s, {review, open, stamp});
+  return stamp;
+}
 
 /** @param {any} list */
 export const texts = list => (Array.isArray(list) ? list.map(String) : []);

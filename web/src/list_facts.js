@@ -3,7 +3,7 @@
 // are of: whatever name a study has and wherever it stands.
 import {track} from './actions.js';
 import {app, doc, services, PAGES} from './state.js';
-import {entriesOf} from './entries.js';
+import {entriesOf, withFacts} from './entries.js';
 import {lettersOf} from './fen.js';
 import {judgedBy, readReview, readView} from './parse_answers.js';
 import {isAimLine} from './edits.js';
@@ -35,7 +35,7 @@ function learn(text, facts) {
  * @param {import('./types.js').Study} s
  */
 export function judgedText(lines, s) {
-  const edits = editsTo(lines, s).map(line => wordsOf(line).join(' ')).filter(line => !line.startsWith('tag '));
+  const edits = editsTo(lines, s).filter(line => !/^ *tag /.test(line));
   return toText(edits.filter((line, i) => !(isAimLine(line) && isAimLine(edits[i + 1] || ''))));
 }
 /**
@@ -88,16 +88,23 @@ export async function reviewFor(lines, s) {
   if (text && !found.has(text)) await find(text).catch(() => {});
   return (found.get(text) || NOTHING).review;
 }
-let listed = /** @type {{from: any[], entries: import('./entries.js').Entry[]}} */ ({from: [], entries: []});
+let listed = /** @type {{from: any[], facts: Found[], entries: import('./entries.js').Entry[]}} */ (
+  {from: [], facts: [], entries: []});
 /**
- * The entries of a script, with what is known of them: the same list as long as nothing has changed.
+ * The entries of a script, with what is known of them: the same list as long as nothing has changed. Of a long list the
+ * row of a study that is shown is made anew by itself.
  * @param {Doc} d
  */
 export function knownEntries(d) {
-  const {facts, reviews, open} = knownFacts(d), from = [d.lines, d.studies, d.refused, reviews];
-  if (!from.every((thing, i) => thing === listed.from[i]))
-    listed = {from, entries: entriesOf(d, reviews, facts.map(({mainLine}) => mainLine), open)};
-  return listed.entries;
+  const {facts, reviews, open} = knownFacts(d), from = [d.lines, d.studies, d.refused],
+                         same = from.every((thing, i) => thing === listed.from[i]);
+  if (same && facts === listed.facts) return listed.entries;
+  const anew = same ? facts.flatMap((one, at) => (one === listed.facts[at] ? [] : [at])) : [],
+        few = same && facts.length > MOST_UNWANTED && anew.length < 5;
+  const entries = few ? anew.reduce((all, at) => withFacts(all, d, at, reviews[at]), listed.entries)
+                      : entriesOf(d, reviews, facts.map(({mainLine}) => mainLine), open);
+  listed = {from, facts, entries};
+  return entries;
 }
 /**
  * Of how many studies the facts are known, and of how many they are to be; and whether the list is so long that they

@@ -212,6 +212,20 @@ function drawJudged() {
 export const showJudged = () => lately(drawJudged);
 /** A study of the menu by its place; an entry that was left out by its line. */
 const menuValue = (/** @type {import('./entries.js').Entry} */ {at, line}) => (at < 0 ? `line ${line}` : `${at}`);
+let menu = /** @type {import('./entries.js').Entry[]} */ ([]);
+/**
+ * The lines of the menu, those alone that are others than before.
+ * @param {import('./entries.js').Entry[]} entries
+ */
+function drawMenu(entries) {
+  const {options} = $('studies');
+  if (entries.length !== options.length) put('studies', entries.map(() => h('option', {})));
+  entries.forEach((entry, i) => {
+    if (entry !== menu[i] || entries.length !== menu.length)
+      Object.assign(options[i], {value: menuValue(entry), text: menuText(doc().studies, entry)});
+  });
+  menu = entries;
+}
 function showBar() {
   const d = doc(), entries = knownEntries(d), many = d.studies.length > 1;
   $('undo').disabled = app.setup ? !app.setup.past.length && !study() : !app.history.past.length;
@@ -220,8 +234,7 @@ function showBar() {
   $('walk').hidden = !many;
   $('before').disabled = !d.at;
   $('after').disabled = d.at + 1 >= d.studies.length;
-  part('studies', [entries],
-    () => entries.map(entry => h('option', {value: menuValue(entry)}, menuText(d.studies, entry))));
+  drawMenu(entries);
   $('studies').value = d.at;
   $('more').disabled = !d.studies.length;
   for (const id of ['saveScript', 'savePgn', 'savePlain', 'saveReport', 'print']) $(id).disabled = !d.lines.length;
