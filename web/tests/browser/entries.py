@@ -243,7 +243,8 @@ def test_a_game_with_a_bad_move_is_opened_up_to_there(user):
         user.click("undo")
         user.settle()
     row = rows(user)[1]
-    assert row[:3] == ["2", "Two", "Smith, John"] and row[4] == "not read: 7. b6" and "from the Result" in row[3], row
+    assert row == ["2", "Two", "Smith, John", "White to win", "not read: 7. b6"], row
+    assert user.text("shared") == "All stipulations are from the Result."
     sans = re.findall(r"^insert \S+ (\S+)$", script(user), re.M)
     assert sans[1:-2] == "Kg3 Kf5 Kf3 Ke5 Kg5 Ke4 Kf6 Kd5 Ke7 Kc6 Kd8 Ke6 b4 Ke7".split(), sans
     assert "Kb7" not in sans and "Ke3" not in sans and "b6: no legal move of this position" in user.text("cut")
