@@ -1,11 +1,12 @@
 #!/usr/bin/env python3
 """The board over the core as it stands in the sources, before any of it is proved: a change is tried in a browser after two minutes.
 
-    tools/release/try_board.py FOLDER [--port N]     makes FOLDER/studyboard.html, and answers it at 127.0.0.1 until it is stopped
+    tools/release/try_board.py FOLDER [--port N] [--tables TABLES]     makes FOLDER/studyboard.html, and answers it at 127.0.0.1 until it is stopped
 
 FOLDER, outside of the repository, keeps the program until a crate changes, so that a change of web/src is there after a second. The core is a native
 program that `rt try` builds, with its checks of memory: it answers some three times as slowly as the module of a page, and nothing is claimed of it.
-tools/release/web.sh makes the page that users get. Tests in a browser take this one by STUDYBOARD=FOLDER/studyboard.html.
+Tables that the page wants to build are taken from TABLES, if that is named. tools/release/web.sh makes the page that users get. Tests in a browser take
+this one by STUDYBOARD=FOLDER/studyboard.html.
 """
 import http.server
 import json
@@ -166,9 +167,9 @@ class Watch:
 class Server(socketserver.ThreadingMixIn, http.server.HTTPServer):
     daemon_threads = True
 
-    def __init__(self, port, program):
+    def __init__(self, port, program, tables):
         super().__init__(("127.0.0.1", port), Handler)
-        self.program, self.cores, self.files, self.guard = program, {}, {}, threading.Lock()
+        self.program, self.tables, self.cores, self.files, self.guard = program, tables, {}, {}, threading.Lock()
 
     def core(self, name):
         with self.guard:
@@ -185,6 +186,10 @@ class Server(socketserver.ThreadingMixIn, http.server.HTTPServer):
         if head["kind"] == "load":
             self.files[head["name"]] = body
             return b"{}\n"
+        if self.tables and head["request"].startswith("make "):
+            with open(os.path.join(self.tables, head["request"][5:] + ".dtm"), "rb") as file:
+                text = b"answered\n" + file.read()
+            return json.dumps({"length": len(text), "saved": []}).encode() + b"\n" + text
         core = self.core(head["core"])
         with core.lock, Watch(core.process, is_gone):
             core.have(head["tables"], self.files)
@@ -221,8 +226,8 @@ class Handler(http.server.BaseHTTPRequestHandler):
 
 def main():
     words = sys.argv[1:]
-    port = int(words.pop(words.index("--port") + 1)) if "--port" in words else 8787
-    words = [it for it in words if it != "--port"]
+    values = {it: words.pop(words.index(it) + 1) for it in ("--port", "--tables") if it in words[:-1]}
+    words = [it for it in words if it not in values]
     if len(words) != 1:
         sys.exit(__doc__)
     folder = os.path.abspath(words[0])
@@ -230,9 +235,10 @@ def main():
     program = os.path.join(folder, "core_pipe")
     if not is_newest(program):
         build(folder, program)
+    port = int(values.get("--port", 8787))
     make_page(folder, port)
     print("%s/studyboard.html is answered until this is stopped" % folder, flush=True)
-    Server(port, program).serve_forever()
+    Server(port, program, values.get("--tables")).serve_forever()
 
 
 if __name__ == "__main__":
