@@ -310,7 +310,7 @@ def test_several_are_removed(user):
     user.click("documentsButton")
     for name in ("First", "Second", "Third"):
         tick(user, name)
-    for words in ("Remove 2", "Remove 2 for good"):  # the one that is open here stays
+    for words in ("Remove 2, not the open one", "Remove 2 for good, not the open one"):
         assert user.text("removeKept") == words, user.text("removeKept")
         user.click("removeKept")
     user.keys(Keys.ESCAPE)
