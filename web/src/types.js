@@ -53,7 +53,8 @@
  *
  * @typedef {{replies: Record<string, number>, elsewhere: Record<string, Record<string, string>>}} ReviewDetails
  *   `replies`: by the path of a node, how many legal moves there are
- *   `elsewhere`: by the path of a node and a move there, the path of the move of the tree that leads to the same position
+ *   `elsewhere`: by the path of a node and a move there, the path of the move of the tree that leads to the same
+ *     position
  *
  * @typedef {{square: number, kind: 'none' | 'fails' | 'holds' | 'only', value: Value | null, count: number,
  *   san: string}} Stand

@@ -60,10 +60,9 @@ test('a game without a position is said to begin from the initial one', () => {
     return entriesOf({...readScript(lines, [], []), at: 0, path: 'root', name: '', id: 'x', note: '', judged: true})
       .map(({stamp}) => stamp);
   };
-  assert.deepEqual(said(''), [
-    'left out: it has no tag FEN, so it begins from the initial position: write [FEN ".."] above its moves in the PGN ' +
-    '(line 49, column 4)'
-  ]);
+  assert.deepEqual(said(''), ['left out: it has no tag FEN, so it begins from the initial position: ' +
+    'write [FEN ".."] above its moves in the PGN ' +
+    '(line 49, column 4)']);
   assert.match(said('[FEN "7K/8/k1P5/7p/8/8/8/8 w - - 0 1"]\n')[0], /^left out: g6: no legal move of this position/);
 });
 test('a game that was left out has its title and its author, where remarks behind it have them', () => {

@@ -142,7 +142,8 @@ def test_a_defence_elsewhere(user):
     user.open_file("twice.pgn", GAME.format(event="One", author="A", fen=fen, result="1-0", moves=moves))
     user.until("studyboard.last().reviewed && document.getElementById('defences')", 60)
     user.settle()
-    rows = user.js("return [...document.querySelectorAll('#defences tbody tr')].map(r => r.textContent.replace(/\\s+/g, ' '))")
+    cells = "[...document.querySelectorAll('#defences tbody tr')].map(r => r.textContent.replace(/\\s+/g, ' '))"
+    rows = user.js("return " + cells)
     first = next(row for row in rows if row.startswith("1. Kb6"))
     assert "Kc8" in first and "(as after 3... Kc8)" in first, rows
 
