@@ -33,7 +33,7 @@ import {counted} from './words.js';
  * What a list says of a document: its first study, and the stamps of all, as far as their facts are known.
  * @param {Doc} doc
  * @param {(Review | null)[]} reviews
- * @param {boolean[]} open      of which studies they are still to be found
+ * @param {boolean[]} open      whether the facts of each study are still being found
  */
 export function summary(doc, reviews = [], open = []) {
   const {studies} = doc;

@@ -124,7 +124,7 @@ const outNote = (out, studies) => (!out.length ? ''
  * @param {string[]} after
  */
 export const noteAfter = (note, before, after) => [0, 1].reduce(
-  (text, studies) => text.replace(outNote(leftOut(before), studies), outNote(leftOut(after), 1)), note);
+  (text, studies) => text.replace(outNote(leftOut(before), studies), () => outNote(leftOut(after), 1)), note);
 
 /** @param {string} line */
 const isTotal = line => remarksOfKind([line], 'total').length > 0;

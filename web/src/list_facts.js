@@ -51,7 +51,7 @@ const texts = /** @type {WeakMap<any[], string[]>} */ (new WeakMap());
 /**
  * @typedef {{studies: any[] | null, changes: number, facts: Found[], reviews: (Review | null)[],
  *   open: boolean[]}} Known
- *   `open`: of which the facts are still to be found
+ *   `open`: whether the facts of each study are still being found
  */
 let last = /** @type {Known} */ ({studies: null, changes: 0, facts: [], reviews: [], open: []});
 /**

@@ -142,7 +142,7 @@ function chip(s, n, m) {
   const meaning = {
     only: 'the only one that works',
     dual: `one of ${m.duals + 1} that work`,
-    mistake: s.aim && sideOf(n.fen) === s.aim.hero ? letsGo() : 'gives the aim back'
+    mistake: s.aim && sideOf(n.fen) === s.aim.hero ? letsGo() : 'gives it back'
   }[m.mark];
   const title = [`${m.san}: ${valueText(after, m.value)}`, meaning, there && 'in the tree'].filter(Boolean).join('; ');
   return h('button', {

@@ -14,7 +14,7 @@ import {readAim, reason} from './words.js';
 /** @typedef {import('./types.js').Stand} Stand */
 
 /**
- * All squares of a man: where the aim holds, and where by one first move. Those of another man go at once.
+ * All squares of a man: where the stipulation is correct, and where by one first move. Those of another man go at once.
  * @param {number} man
  */
 export function survey(man) {

@@ -114,7 +114,7 @@ export function markMeaning(node, aim) {
     return node.duals === 1 ? 'dual: one other move works too' : `dual: ${node.duals} others work too`;
   if (node.mark === 'idle') return 'nothing was to be gained';
   if (node.mark !== 'mistake' || !node.parent) return '';
-  if (!aim || sideOf(node.parent.fen) !== aim.hero) return 'gives the aim back';
+  if (!aim || sideOf(node.parent.fen) !== aim.hero) return 'gives it back';
   return lateBy(aim, node) > 0 ? `mates${lateText(lateBy(aim, node)).replace(',', '')}` : letsGo();
 }
 /** What is said of a mistake of the hero. */
