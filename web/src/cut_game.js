@@ -1,7 +1,7 @@
 // @ts-check
 // A game of a PGN with a bad move, which the program reads up to there: its text is kept in remarks, cut at the place
 // that the program reports, and a line that is refused stands for the bad move.
-import {leftOutBy} from './left_out.js';
+import {canBeCut, leftOutBy} from './left_out.js';
 import {ownRemark, remarkOf} from './remarks.js';
 import {RESULT, TOKEN, isMoveText} from './notes.js';
 /**
@@ -114,10 +114,21 @@ export function cutBlock(block, game, cut) {
  * @param {number} line
  */
 export function leftOutText(lines, line) {
-  const found =
-          lines.findIndex((text, at) => at > line && ownRemark(text).word !== 'its' && !PARTS[ownRemark(text).word]),
-        end = found < 0 ? lines.length : found;
+  const isOf = (/** @type {string} */ text) => ownRemark(text).word === 'its' || Boolean(PARTS[ownRemark(text).word]);
+  let end = line + 1;
+  while (end < lines.length && isOf(lines[end])) end++;
   return {game: leftOutBy(lines[line] || ''), cut: textIn(lines.slice(line + 1, end)), end};
+}
+/**
+ * What can be done with a game that was left out: it is opened up to its bad move, or its text is mended. Nothing,
+ * where its text is not kept.
+ * @param {string[]} lines
+ * @param {number} line
+ * @returns {'' | 'open' | 'mend'}
+ */
+export function remedyOf(lines, line) {
+  const {game, cut} = leftOutText(lines, line);
+  return !game || !cut ? '' : canBeCut(game) && hasPosition(cut) ? 'open' : 'mend';
 }
 /**
  * The text of a game in a file, cut at what is wrong with it.

@@ -5,7 +5,7 @@ import {control} from './fen.js';
 import {byWeight, faultText, kindsIn} from './fault_kinds.js';
 import {mostGames, originalsIn, sourceText} from './imported.js';
 import {hasPosition, textIn} from './cut_game.js';
-import {NO_POSITION, leftOutBy, whyLeftOut} from './left_out.js';
+import {NO_POSITION, canBeCut, leftOutBy, whyLeftOut} from './left_out.js';
 import {positionsReached, reachedText, samePositions, sameText} from './same_positions.js';
 import {isCommand, isEdit, isPosition, wordsOf} from './script.js';
 import {acceptedOf, openStamp, stampOf} from './stamps.js';
@@ -143,7 +143,7 @@ function leftOutAt(lines, line) {
   const place = `line ${game.line}${game.column ? `, column ${game.column}` : ''}`;
   const name = Event || title || `line ${game.line} of the PGN`,
         text = textIn(lines.slice(line, end < 0 ? undefined : end)),
-        why = text && !hasPosition(text) ? NO_POSITION : whyLeftOut(game);
+        why = text && canBeCut(game) && !hasPosition(text) ? NO_POSITION : whyLeftOut(game);
   return [{...missing(line, name, White || author, `${why} (${place})`), number: `${game.game}`}];
 }
 /**

@@ -3,7 +3,8 @@
 import {h, smallButton} from './dom.js';
 import {track} from './actions.js';
 import {CODE_PAGES, textIn} from './code_pages.js';
-import {canBeCut, leftOutBy} from './left_out.js';
+import {remedyOf} from './cut_game.js';
+import {leftOutBy} from './left_out.js';
 import {asked, openHeld} from './mending.js';
 import {lastOpened, openPgn} from './opening.js';
 import {doc} from './state.js';
@@ -61,19 +62,23 @@ function noteView(note) {
 }
 const MOST_OFFERED = 5;
 /**
- * If no game of a PGN was read, the games that can be read up to a bad move.
+ * If no game of a PGN was read, the games that can be read up to a bad move, and others whose text can be mended.
  * @param {Source} again
  */
-function upToView(again) {
-  const games = again.held.flatMap((text, line) => {
-    const game = leftOutBy(text);
-    return game && canBeCut(game) ? [{game, line}] : [];
-  });
-  const open = (/** @type {(typeof games)[0]} */ {game, line}) => smallButton(`game ${game.game}`,
-    'the moves before the bad one, to be mended', () => openHeld(again, line), {'data-held': game.game});
-  return games.length > 0 &&
-    h('p', {class: 'row', id: 'upTo', role: 'group', 'aria-label': 'Games with a bad move'},
-      'Open up to the bad move: ', games.slice(0, MOST_OFFERED).map(open));
+function heldView(again) {
+  const rows =
+    again.held.flatMap((text, line) => (leftOutBy(text) ? [{text, line, is: remedyOf(again.held, line)}] : []));
+  const open = (/** @type {(typeof rows)[0]} */ {text, line}) => {
+    const game = leftOutBy(text)?.game;
+    return smallButton(
+      `game ${game}`, 'what was read of it, and its text', () => openHeld(again, line), {'data-held': game});
+  };
+  const row = (/** @type {string} */ id, /** @type {string} */ words, /** @type {string} */ remedy) => {
+    const games = rows.filter(({is}) => is === remedy).slice(0, MOST_OFFERED);
+    return games.length > 0 &&
+      h('p', {class: 'row', id, role: 'group', 'aria-label': words}, `${words}: `, games.map(open));
+  };
+  return [row('upTo', 'Open up to the bad move', 'open'), row('toMend', 'Mend the text of', 'mend')];
 }
 /**
  * What of a PGN was left out and is not kept; and where games only lack a stipulation, the four that they can have,
@@ -81,7 +86,7 @@ function upToView(again) {
  * @param {boolean} anew      whether a new set-up is shown
  */
 export function importView(anew) {
-  const last = lastOpened(), parts = last ? [aimsView(last), !last.id && upToView(last), codesView(last)] : [];
+  const last = lastOpened(), parts = last ? [aimsView(last), ...(last.id ? [] : heldView(last)), codesView(last)] : [];
   if (last && !last.id && parts.some(Boolean))
     return [h('p', {class: 'note', id: 'tried'}, last.said), ...parts, askView()];
   return anew ? null : [noteView(doc().note), ...parts, askView()];

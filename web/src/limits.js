@@ -7,6 +7,8 @@ import {grouped} from './words.js';
  * `most` letters fit into a field; `where` a message to it stands; `name` and `instead` are words of its sentence.
  * @typedef {{most: number, where: string, name: string, instead: string}} Limit
  */
+/** How many lines of left-out games a document keeps, so that they can be mended. */
+export const MOST_KEPT = 10000;
 const TEXT = {
   most: 200000,
   instead: 'save the text as a file, and open the file'
@@ -17,6 +19,7 @@ const LIMITS = {
   fen: {most: 200, where: 'fen', name: 'the field for a position', instead: 'write a FEN, or men as Kb6 Pc6 / Ka1 Rd5'},
   script: {...TEXT, where: 'script', name: 'the field for a script'},
   cutText: {...TEXT, where: 'cut', name: 'the field for a game'},
+  gameText: {...TEXT, where: 'game', name: 'the field for a game'},
   page: {...TEXT, where: 'board', name: 'the page'},
   tag: {most: 200, where: 'head', name: 'this field', instead: 'a script has room for 60'},
   note: {most: 2000, where: 'note', name: 'the field for your words', instead: 'divide it among several moves'},

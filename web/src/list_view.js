@@ -2,10 +2,10 @@
 // The list of a script's entries with their verdicts: filtered by kind and name, sorted by each column, and as a file.
 import {$, button, download, h, put, smallButton} from './dom.js';
 import {goStudy, track} from './actions.js';
+import {remedyOf} from './cut_game.js';
 import {doc, say, services} from './state.js';
 import {countsOf, csvOf, findEntries, isOfKind, kindWords, sortEntries} from './entry_list.js';
 import {againstText} from './imported.js';
-import {canBeCut, leftOutBy} from './left_out.js';
 import {drawnAgain, markAt} from './list_box.js';
 import {openLeftOut} from './mending.js';
 import {howManyKnown, knownEntries, reviewAll} from './list_facts.js';
@@ -31,15 +31,20 @@ function toggleFilter(kind) {
 export const listFrom = () => [knownEntries(doc()), ui.filter, ui.order];
 /** Marks the study that is looked at in the list as it is drawn. */
 export const markShown = () => markAt(doc().id, doc().at);
+const REMEDIES = {
+  open: ['open up to there', 'the moves before the bad one, to be mended'],
+  mend: ['mend it', 'the text of the game, to be mended and read again']
+};
 /**
- * What opens a game that was left out, where it can be read up to a bad move.
+ * What opens a game that was left out, up to a bad move or as its text.
  * @param {Entry} entry
  */
-const upToButton = ({at, line, number}) => at < 0 && canBeCut(leftOutBy(doc().lines[line])) && [
-  ' ',
-  smallButton(
-    'open up to there', 'the moves before the bad one, to be mended', () => showLeftOut(line), {'data-upto': number})
-];
+function remedyButton({at, line, number}) {
+  const remedy = at < 0 && remedyOf(doc().lines, line);
+  if (!remedy) return null;
+  const [words, title] = REMEDIES[remedy];
+  return [' ', smallButton(words, title, () => showLeftOut(line), {'data-upto': number})];
+}
 /**
  * The verdict, its first fault, and which studies have the same position; of an entry that was left out why, and what
  * to write instead, as wide as the row has room.
@@ -50,7 +55,7 @@ function stampView(entry) {
         [, stamp, more] = /^(left out: )(.*)$/.exec(entry.stamp) || ['', entry.stamp, ''];
   return [
     h('b', {class: `stamped ${entry.open ? 'open' : entry.kind.replace(' ', '-')}`}, stamp),
-    more && h('span', {}, more), upToButton(entry),
+    more && h('span', {}, more), remedyButton(entry),
     [entry.fault, entry.same, ...before].filter(Boolean).map(text => h('div', {class: 'note', title: text}, text))
   ];
 }
@@ -181,7 +186,7 @@ export function paperList() {
   ];
 }
 /**
- * Opens a game that was left out up to its bad move, or says why it was left out.
+ * Opens a game that was left out up to its bad move, or its text, or says why it was left out.
  * @param {number} line
  */
 export const showLeftOut = line => track((async () => {

@@ -1,18 +1,18 @@
 // @ts-check
-// A game that was read up to a bad move: why, and a field to mend its text.
+// A game that was read up to a bad move, or not at all: why, and a field to mend its text.
 import {button, h} from './dom.js';
 import {messageAt} from './head_view.js';
 import {whyLeftOut} from './left_out.js';
-import {endHere, readAgain, unreadText} from './mending.js';
+import {beingMended, endHere, leaveMending, readAgain, readLeftOut, unreadText} from './mending.js';
 import {doc} from './state.js';
-/** @typedef {import('./types.js').Study} Study */
+/** @typedef {import('./types.js').Study} Study @typedef {import('./cut_game.js').CutText} CutText */
 
-/** What was typed and not read yet stays there, as long as the study is the same. */
+/** What was typed and not read yet stays there, as long as the game is the same. */
 let typed = /** @type {{text: string, lines: string[], at: number} | null} */ (null);
 /**
  * The bad move is chosen in the field, which is scrolled to its line.
  * @param {HTMLTextAreaElement} field
- * @param {{text: string, rest: string}} game
+ * @param {CutText} game
  */
 function showPlace(field, {text, rest}) {
   const [bad] = /^\S*/.exec(rest) || [''], rows = field.value.split('\n').length;
@@ -21,21 +21,31 @@ function showPlace(field, {text, rest}) {
     field.scrollTop = field.scrollHeight / rows * (text.split('\n').length - 3);
   });
 }
-/** @param {Study} s */
-export function cutView(s) {
-  const cut = s.origin && s.origin.cut, kept = cut && unreadText();
-  if (!cut || !kept) return null;
-  const {lines, at} = doc(), mine = typed && typed.lines === lines && typed.at === at;
+/**
+ * A field with the text of a game.
+ * @param {string} id
+ * @param {CutText} game
+ * @param {number} at      the place of its study, or less than 0
+ */
+function textField(id, game, at) {
+  const {lines} = doc(), mine = typed && typed.lines === lines && typed.at === at;
   const field = h('textarea', {
-    id: 'cutText',
+    id,
     spellcheck: 'false',
     'aria-label': 'The text of the game',
     oninput: () => {
       typed = {text: field.value, lines, at};
     }
   });
-  field.value = mine && typed ? typed.text : kept.text + kept.rest;
-  showPlace(field, kept);
+  field.value = mine && typed ? typed.text : game.text + game.rest;
+  showPlace(field, game);
+  return field;
+}
+/** @param {Study} s */
+export function cutView(s) {
+  const cut = s.origin && s.origin.cut, kept = cut && unreadText();
+  if (!cut || !kept) return null;
+  const field = textField('cutText', kept, doc().at);
   return h('div', {id: 'cut'},
     h('p', {class: 'note'},
       `The moves up to ${cut.move} were read. In line ${cut.game.line}, column ${cut.game.column} stands `,
@@ -45,4 +55,19 @@ export function cutView(s) {
       button('Read it again', 'the text as it stands in the field', () => readAgain(field.value),
         {id: 'readAgain', class: 'main'}),
       button('End the study here', 'the moves that were read are the whole solution', endHere, {id: 'endHere'})));
+}
+/** The text of a game that was left out. */
+export function gameView() {
+  const it = beingMended();
+  if (!it) return null;
+  const field = textField('gameText', it.cut, -1 - it.place.line),
+        place = it.game.column ? `, column ${it.game.column}` : '';
+  return h('div', {id: 'gameMended'},
+    h('p', {class: 'note'}, `Game ${it.game.game} was left out, for what stands in line ${it.game.line}${place}: `,
+      h('b', {}, it.why), '.'),
+    field, messageAt('game'),
+    h('p', {class: 'row'},
+      button('Read this game', 'the text as it stands in the field', () => readLeftOut(field.value),
+        {id: 'readGame', class: 'main'}),
+      button('Close', 'the game stays left out', leaveMending, {id: 'closeGame'})));
 }

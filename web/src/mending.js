@@ -1,7 +1,7 @@
 // @ts-check
-// Games with a bad move: opened up to there, mended, and read again.
+// Games with a bad move, opened up to there, and others that were left out: mended, and read again.
 import {change, track, work} from './actions.js';
-import {asGame, cutBlock, cutOf, hasPosition, leftOutText, textIn} from './cut_game.js';
+import {asGame, cutBlock, cutOf, hasPosition, leftOutText, remedyOf, textIn} from './cut_game.js';
 import {documentOf, noteAfter} from './imported.js';
 import {freshId} from './keep.js';
 import {NO_POSITION, canBeCut, isCutLine, leftOut, whyLeftOut, withoutCut} from './left_out.js';
@@ -38,6 +38,12 @@ async function readUpTo(game, cut, aim) {
   return {lines: [], out: canBeCut(out) && !aim ? {...out, why: 'NoStipulation', text: ''} : out};
 }
 /**
+ * Why a game was left out, in words.
+ * @param {LeftOut} game
+ * @param {import('./cut_game.js').CutText} cut
+ */
+const whyGone = (game, cut) => (canBeCut(game) && !hasPosition(cut) ? NO_POSITION : whyLeftOut(game));
+/**
  * The stipulation that was chosen for games which state none, if one was.
  * @param {Study[]} studies
  */
@@ -60,11 +66,10 @@ export const asked = () => (asking && asking.lines === doc().lines ? asking : nu
  */
 async function openAt(lines, line, more = {}, aim = chosenAim(doc().studies)) {
   const {game, cut, end} = leftOutText(lines, line), before = doc();
-  if (!game || !cut || !canBeCut(game)) return false;
+  if (!game || !cut) return false;
   asking = null;
-  if (!hasPosition(cut)) {
-    say('board', `Game ${game.game}: ${NO_POSITION}.`);
-    services.show();
+  if (remedyOf(lines, line) === 'mend') {
+    mendAt(lines, line, more);
     return true;
   }
   let got = /** @type {{lines: string[], out: LeftOut | null}} */ ({lines: [], out: null});
@@ -81,13 +86,25 @@ async function openAt(lines, line, more = {}, aim = chosenAim(doc().studies)) {
     services.show();
     return true;
   }
+  await putIn({lines, line, end, more}, got.lines);
+  return true;
+}
+/**
+ * A left-out game in a script: its lines, those of its remarks, and what a document of its own would have.
+ * @typedef {{lines: string[], line: number, end: number, more: {name?: string, note?: string, id?: string}}} Place
+ */
+/**
+ * The lines of a game take the place of the remark that it was left out.
+ * @param {Place} place
+ * @param {string[]} block
+ */
+async function putIn({lines, line, end, more}, block) {
+  const before = doc(), at = more.id ? 0 : before.studies.filter(s => s.from < line).length,
+        mended = [...lines.slice(0, line), ...block, ...lines.slice(end)];
   app.setup = null;
-  const at = more.id ? 0 : before.studies.filter(s => s.from < line).length,
-        mended = [...lines.slice(0, line), ...got.lines, ...lines.slice(end)];
   const note = noteAfter(more.note === undefined ? before.note : more.note, lines, mended);
   await change(now => (now === before ? {lines: mended, at, path: 'root', lenient: true, ...more, note} : null));
   scrollTo(0, 0);
-  return true;
 }
 /**
  * @param {number} line
@@ -120,25 +137,79 @@ const replaceStudy = (s, block) => change(now => (now.studies[now.at] === s ? {
 }
                                                                             : null));
 /**
- * The mended text of the game is read; where it has another bad move, up to there.
+ * The mended text of a game is read; where it has another bad move, up to there. What cannot be read is said.
+ * @param {string} text
+ * @param {{game: number, line: number}} place
+ * @param {string} where
+ * @returns {Promise<string[]>} the lines of the game, or none
+ */
+async function readMended(text, place, where) {
+  const aim = chosenAim(doc().studies), typed = `${text.trimEnd()}\n`;
+  if (refuseLong({id: `${where}Text`, value: text}, text)) return [];
+  let got = /** @type {{lines: string[], out: LeftOut | null}} */ ({lines: [], out: null});
+  await work(async () => {
+    got = await read(typed, place, aim);
+    const {out} = got;
+    if (!out || !canBeCut(out) || !hasPosition({text: typed})) return;
+    const row = new TextEncoder().encode(typed.split('\n')[out.line - 1]),
+          letters = (/** @type {number} */ count) => new TextDecoder().decode(row.subarray(0, count)).length;
+    const game = {...out, game: place.game, line: out.line + place.line - 1};
+    got = await readUpTo(game, cutOf(typed, place.line, game, letters), aim);
+  });
+  if (isOneGame(got.lines)) return got.lines;
+  say(where, got.out ? `${whyLeftOut(got.out)}.` : 'Write one game.');
+  services.show();
+  return [];
+}
+/**
+ * Whether lines have the studies of one game: one, or the parts of a game with more than four men.
+ * @param {string[]} lines
+ */
+const isOneGame = lines => lines.filter(line => line.startsWith('position ')).length === 1 ||
+  (lines.some(line => line.startsWith('#> ')) && lines.filter(line => /^#> position /.test(line)).length === 1);
+/**
+ * The mended text of the study that is looked at is read.
  * @param {string} text
  */
 export const readAgain = text => track((async () => {
-  const s = study(), aim = chosenAim(doc().studies), typed = `${text.trimEnd()}\n`;
-  if (!s || refuseLong({id: 'cutText', value: text}, text)) return;
-  let got = /** @type {{lines: string[], out: LeftOut | null}} */ ({lines: [], out: null});
-  await work(async () => {
-    got = await read(typed, s.origin, aim);
-    const {out} = got;
-    if (!out || !canBeCut(out)) return;
-    const row = new TextEncoder().encode(typed.split('\n')[out.line - 1]),
-          letters = (/** @type {number} */ count) => new TextDecoder().decode(row.subarray(0, count)).length;
-    const game = {...out, game: s.origin.game, line: out.line + s.origin.line - 1};
-    got = await readUpTo(game, cutOf(typed, s.origin.line, game, letters), aim);
-  });
-  if (got.lines.filter(line => line.startsWith('position ')).length === 1) return replaceStudy(s, got.lines);
-  say('cut', got.out ? `${whyLeftOut(got.out)}.` : 'Write one game.');
+  const s = study(), lines = s ? await readMended(text, s.origin, 'cut') : [];
+  if (s && lines.length) await replaceStudy(s, lines);
+})());
+
+/**
+ * The game that was left out whose text is being mended: beside which document, and what it says.
+ * @type {{beside: string[], place: Place, game: LeftOut, why: string, from: number,
+ *   cut: import('./cut_game.js').CutText} | null}
+ */
+let mending = null;
+export const beingMended = () => (mending && mending.beside === doc().lines ? mending : null);
+export function leaveMending() {
+  mending = null;
   services.show();
+}
+/**
+ * The text of a game that was left out is shown, to be mended.
+ * @param {string[]} lines
+ * @param {number} line
+ * @param {Place['more']} [more]
+ */
+function mendAt(lines, line, more = {}) {
+  const {game, cut, end} = leftOutText(lines, line);
+  if (!game || !cut) return;
+  asking = null;
+  const from = game.line - cut.text.split('\n').length + 1;
+  mending = {beside: doc().lines, place: {lines, line, end, more}, game, why: whyGone(game, cut), from, cut};
+  services.show();
+}
+/**
+ * The mended text of a game that was left out is read.
+ * @param {string} text
+ */
+export const readLeftOut = text => track((async () => {
+  const it = beingMended(), lines = it ? await readMended(text, {game: it.game.game, line: it.from}, 'game') : [];
+  if (!it || !lines.length) return;
+  mending = null;
+  await putIn(it.place, lines);
 })());
 /** The study ends where the game was read to. */
 export function endHere() {

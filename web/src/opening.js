@@ -11,8 +11,8 @@ import {gamesIn, namesOf, remarksOf, saidInTail, withoutVerdicts} from './notes.
 import {replace} from './history.js';
 import {foreignGames, foreignText, inUtf8} from './code_pages.js';
 import {cutOf, textRemarks} from './cut_game.js';
-import {canBeCut, leftOut, leftOutBy} from './left_out.js';
-import {refuseLong} from './limits.js';
+import {canBeMended, leftOut, leftOutBy} from './left_out.js';
+import {MOST_KEPT, refuseLong} from './limits.js';
 import {remarkOf} from './remarks.js';
 import {savedGames} from './saved_games.js';
 import {isCommand, isSilent, linesOf} from './script.js';
@@ -93,14 +93,14 @@ const lettersIn = raw => (/** @type {number} */ count) => {
 };
 /**
  * The lines of an import, with what its games say beside their moves as remarks above each position; behind a game that
- * was left out its title and author, and its text if it can be read up to a bad move.
+ * was left out its title and author, and its text if it can be mended, as long as there is room for it.
  * @param {string[]} lines
  * @param {Uint8Array} bytes
  * @param {number[]} [starts]      where each game comes to begin
  */
 export function withRemarks(lines, bytes, starts = []) {
   const raw = rawLines(bytes), games = gamesIn(raw.map(decode).join('\n'), starts);
-  let game = 0, first = 0, way = /** @type {string[]} */ ([]);
+  let game = 0, first = 0, way = /** @type {string[]} */ ([]), room = MOST_KEPT;
   return lines.flatMap((line, at) => {
     const remark = remarkOf(line), out = leftOutBy(line), tail = tailIn(line);
     if (remark && remark.game) [game, first, way] = [remark.game, at, []];
@@ -109,9 +109,10 @@ export function withRemarks(lines, bytes, starts = []) {
     if (!source) return [line];
     if (line.startsWith('position ')) return [...saidInTail(remarksOf(source), way), line];
     if (!out) return stillGone(line);
-    const cut =
-      canBeCut(out) && cutOf(source, starts[game - 1], out, lettersIn(raw[out.line - 1] || bytes.subarray(0, 0)));
-    return [line, ...namesOf(source), ...(cut ? textRemarks(cut) : [])];
+    if (!canBeMended(out) || room <= 0) return [line, ...namesOf(source)];
+    room -= source.split('\n').length;
+    const cut = cutOf(source, starts[game - 1], out, lettersIn(raw[out.line - 1] || bytes.subarray(0, 0)));
+    return [line, ...namesOf(source), ...textRemarks(cut)];
   });
 }
 /** A position for a game that only has a tag. */
@@ -157,7 +158,7 @@ export async function openPgn(bytes, where, name, how = {
   await learn(held);
   source = {bytes, name, id: '', waiting, beside: doc().lines, said, held, how, foreign};
   if (!lines.some(line => line.startsWith('position '))) {
-    const offered = waiting || leftOut(lines).some(canBeCut) || foreign.length;
+    const offered = waiting || leftOut(lines).some(canBeMended) || foreign.length;
     say(where, offered ? '' : `No study was found in this PGN. ${came} Nothing was changed.`);
     return services.show();
   }

@@ -2,11 +2,11 @@
 import './stand_in.mjs';
 import test from 'node:test';
 import assert from 'node:assert/strict';
-import {asGame, badMove, cutBlock, cutOf, leftOutText, textIn, textRemarks} from '../src/cut_game.js';
+import {asGame, badMove, cutBlock, cutOf, leftOutText, remedyOf, textIn, textRemarks} from '../src/cut_game.js';
 import {replacePosition, stipulate, tidy, withMoves} from '../src/edits.js';
 import {entriesOf} from '../src/entries.js';
 import {stampOf, unreadIn} from '../src/stamps.js';
-import {canBeCut, cutIn, leftOutBy, withoutCut} from '../src/left_out.js';
+import {canBeCut, canBeMended, cutIn, leftOutBy, withoutCut} from '../src/left_out.js';
 import {readScript} from '../src/script.js';
 import {copyStudy} from '../src/study_edits.js';
 import {bareTree} from '../src/unmarked.js';
@@ -64,6 +64,16 @@ test('its text is kept in remarks', () => {
   assert.equal(textIn(['#! note Kg3: text']), null);
   const lines = ['', '#! game 6, line 79, column 98: NoSuchMove at b6', '#! its Event was: A', ...textRemarks(CUT), ''];
   assert.deepEqual(leftOutText(lines, 1), {game: leftOutBy(lines[1]), cut: CUT, end: lines.length - 1});
+});
+test('what can be done with a game that was left out', () => {
+  const remedy = (remark, cut) => remedyOf([remark, '#! its Event was: A', ...(cut ? textRemarks(cut) : []), ''], 0);
+  const tags = '[FEN "8/8/8/6k1/8/8/1P5K/8 w - - 0 1"]\n\n', bad = '#! game 6, line 79, column 98: NoSuchMove at b6';
+  assert.equal(remedy(bad, {text: `${tags}1. Kg3 `, rest: 'b6 *'}), 'open');
+  assert.equal(remedy(bad, {text: '1. Kg3 ', rest: 'b6 *'}), 'mend');
+  assert.equal(remedy('#! game 6, line 79: NoStipulation', {text: '', rest: `${tags}1. Kg3 *`}), 'mend');
+  assert.equal(remedy(bad, null), '');
+  assert.ok(canBeMended(leftOutBy('#! game 6, line 79: Placement')));
+  assert.ok(!canBeMended(leftOutBy('#! game 6, line 79: left out: 7 men, never four or fewer')));
 });
 const GAME = leftOutBy('#! game 6, line 79, column 98: NoSuchMove at b6'), BLOCK = [
   '#! game 1, line 5, column 98: not read: NoSuchMove at b6', '#! game 1, line 1: stipulated by its tag Result',

@@ -163,4 +163,66 @@ def test_the_row_of_the_next_study_is_seen(user):
     assert user.js("return document.querySelector('#list .scroll').scrollTop") == 0
 
 
+def mended(user, old, new):
+    """The text of the game that is being mended, with other words, is read."""
+    text = user.js("return document.getElementById('gameText').value")
+    assert text.count(old) == 1, text
+    write = "const e = document.getElementById('gameText'); e.value = arguments[0]; e.dispatchEvent(new Event('input'))"
+    user.js(write, text.replace(old, new))
+    user.click("readGame")
+
+
+def test_a_game_that_was_left_out_is_mended(user):
+    """Whatever is wrong with it, its text is there to be mended: a position, a stipulation, a tag that lacks."""
+    user.open_tables(TABLES, SMALL)
+    bad = [("One", FEN, "1. Kg3"), ("Two", FEN.replace("5K", "6K"), "1. Kg3 Kf5"), ("Three", FEN, "1. Kg3 Kf5"),
+           ("Four", FEN, "1. Kg3 Kf5 2. Kf3")]
+    texts = [games(row) for row in bad]
+    texts[2] = texts[2].replace('[Result "1-0"]\n', "").replace("1-0", "*")
+    texts[3] = texts[3].replace(f'[FEN "{FEN}"]\n', "")
+    opened(user, "".join(texts))
+    user.until(FOUND, 60)
+    assert [row[1] for row in user.js(STAMPS)] == ["sound"] + 3 * ["left out: "], user.js(STAMPS)
+    user.press_on('[data-upto="2"]')
+    user.until("document.getElementById('gameText')")
+    user.picture("mend_game", whole=False)
+    assert "Game 2 was left out" in user.text("gameMended") and "Two" in user.js("return gameText.value")
+    mended(user, "1P6K", "1P7K")
+    user.until("document.querySelector('#gameMended [role=alert]')", 60)
+    assert "1P7K" in user.js("return gameText.value")
+    user.settle()
+    mended(user, "1P7K", "1P5K")
+    user.until("!document.getElementById('gameMended')", 60)
+    user.settle()
+    assert user.text("head").startswith("Two\n\nNo. 2") and user.text("stamp").startswith("sound"), user.text("head")
+    user.press_on('[data-upto="3"]')
+    user.until("document.getElementById('gameText')")
+    user.click("closeGame")
+    assert not user.has("gameMended")
+    user.press_on('[data-upto="3"]')
+    mended(user, "1. Kg3", "{White to win} 1. Kg3")
+    user.until("!document.getElementById('gameMended')", 60)
+    user.settle()
+    user.press_on('[data-upto="4"]')
+    mended(user, "\n\n1. Kg3", f'\n[FEN "{FEN}"]\n\n1. Kg3')
+    user.until("!document.getElementById('gameMended')", 60)
+    user.settle()
+    user.until(FOUND, 60)
+    rows = user.js(STAMPS)
+    assert [row[0] for row in rows] == ["One", "Two", "Three", "Four"] and rows[2][1].startswith("sound"), rows
+    assert rows[3][1].startswith("sound"), rows
+
+
+def test_one_game_that_was_left_out_is_mended(user):
+    user.open_tables(TABLES, SMALL)
+    user.open_file("one.pgn", games(("One", FEN.replace("5K", "6K"), "1. Kg3 Kf5")))
+    user.until("document.querySelector('#toMend [data-held]')", 60)
+    user.press_on("#toMend [data-held]")
+    user.until("document.getElementById('gameText')")
+    mended(user, "1P6K", "1P5K")
+    user.until("document.getElementById('stamp')", 60)
+    user.settle()
+    assert user.text("stamp").startswith("sound") and user.text("head").startswith("One"), user.text("head")
+
+
 run(globals(), sys.argv[2:])
