@@ -55,6 +55,9 @@ function showFault(fault, where) {
 }
 
 const changing = /** @type {Set<Promise<any>>} */ (new Set());
+/** What takes longer is said to be under way. */
+const SOON = 150;
+let timer = 0;
 /** Settles when all that was requested before is done. */
 export async function idle() {
   while (changing.size) await Promise.allSettled(changing);
@@ -75,7 +78,14 @@ export const change = (make, where = 'board') => track(changeOnce(make, where));
  */
 export function track(done) {
   changing.add(done);
-  return done.finally(() => changing.delete(done));
+  if (!timer) timer = setTimeout(() => services.busy(true), SOON);
+  return done.finally(() => {
+    changing.delete(done);
+    if (changing.size) return;
+    clearTimeout(timer);
+    timer = 0;
+    services.busy(false);
+  });
 }
 /**
  * @param {(doc: Doc) => Change | null} make

@@ -66,6 +66,7 @@ services.show = show;
 services.showFacts = showFacts;
 services.showJudged = showJudged;
 services.keep = keep;
+services.busy = is => document.body.toggleAttribute('data-busy', is);
 /** @param {import('./tables.js').Progress | null} p      beside builds it is not shown */
 const showReading = p => {
   const ours = app.progress && app.progress.reading;

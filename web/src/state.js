@@ -47,8 +47,9 @@ export const app = {
  * @type {{core: import('./engine.js').Core, facts: import('./engine.js').Core,
  *   tables: ReturnType<typeof import('./tables.js').makeTables>, show: () => void, showFacts: () => void,
  *   showJudged: () => void, keep: () => void, reading: (done: number, of: number, what?: string) => void,
- *   telling: (text: string) => void}}
- *   `reading`: how many studies of a long script were run; of none, that it is done. `telling`: what else is under way
+ *   telling: (text: string) => void, busy: (is: boolean) => void}}
+ *   `reading`: how many studies of a long script were run; of none, that it is done. `telling`: what else is under way.
+ *   `busy`: whether what was done last is still under way
  */
 export const services = /** @type {any} */ ({});
 

@@ -94,13 +94,13 @@ export const copyStudy = (lines, studies, at) =>
  * @param {string[]} lines
  * @param {Study[]} studies
  * @param {number} at
- * @param {1 | -1} by
+ * @param {number} by      how many places down
  * @returns {Change | null}
  */
 export function moveStudy(lines, studies, at, by) {
   const to = at + by, order = [...studies];
-  if (to < 0 || to >= studies.length) return null;
-  [order[at], order[to]] = [order[to], order[at]];
+  if (!by || !studies[to]) return null;
+  order.splice(to, 0, ...order.splice(at, 1));
   return {lines: inOrder(lines, studies, order), at: to};
 }
 /**

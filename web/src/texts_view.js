@@ -84,16 +84,29 @@ const copy = () => change(now => copyStudy(now.lines, now.studies, now.at), 'scr
 const studyButtons = () => [smallButton('Copy link', 'a link that opens this study', copyLink, {id: 'copyLink'}),
   smallButton('Copy this study', 'one more of the same behind it', copy, {id: 'copyStudy'}),
   doc().studies.length > 1 && [
-    moveButton('Move up', -1), moveButton('Move down', 1),
+    moveButton('Move up', -1), moveButton('Move down', 1), placeField(),
     smallButton('Remove this study', 'take its lines out of the script', drop, {id: 'drop'})
   ]];
 const drop = () => change(now => dropStudy(now.lines, now.studies, now.at), 'script');
+/** @param {number} by */
+const move = by => change(now => moveStudy(now.lines, now.studies, now.at, by), 'script');
+/** The place of this study among those of the script, which can be written. */
+function placeField() {
+  const {at, studies} = doc();
+  return h('label', {class: 'place'}, 'to place ', h('input', {
+    id: 'studyPlace',
+    type: 'number',
+    min: 1,
+    max: studies.length,
+    value: at + 1,
+    onchange: (/** @type {any} */ e) => move(Math.round(e.target.valueAsNumber) - 1 - at)
+  }));
+}
 /**
  * @param {string} text
  * @param {1 | -1} by
  */
-const moveButton = (text, by) => smallButton(text, 'this study among those of the script',
-  () => change(now => moveStudy(now.lines, now.studies, now.at, by), 'script'),
+const moveButton = (text, by) => smallButton(text, 'this study among those of the script', () => move(by),
   {id: by < 0 ? 'studyUp' : 'studyDown', disabled: !doc().studies[doc().at + by]});
 /** So many refused lines are listed: one wrong word at the top of a long script has all below it refused. */
 const MOST_REFUSED = 200;

@@ -207,6 +207,10 @@ test('studies that are copied and moved stand alone', () => {
   const d = doc(['sound', 'sound', 'sound']), moved = moveStudy(d.lines, d.studies, 0, 1),
         copied = copyStudy(d.lines, d.studies, 1);
   assert.equal(moveStudy(d.lines, d.studies, 0, -1), null);
+  assert.equal(moveStudy(d.lines, d.studies, 1, 0), null);
+  assert.equal(moveStudy(d.lines, d.studies, 0, 3), null);
+  assert.equal(moveStudy(d.lines, d.studies, 0, NaN), null);
+  assert.equal(moveStudy(d.lines, d.studies, 0, 2).at, 2);
   assert.equal(moved.at, 1);
   assert.deepEqual(
     moved.lines.slice(0, 5), ['position ' + FEN, 'stipulate white win', 'tag White Reti', 'tag Event B', 'pgn']);

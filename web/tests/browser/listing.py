@@ -84,6 +84,11 @@ def test_a_move_in_the_list_keeps_what_is_known(user):
         user.js("document.getElementById(arguments[0]).click()", name)
         user.settle()
         assert user.js(STAMPS) == [before[n] for n in order] and not user.has("findingFaults"), user.js(STAMPS)
+    user.fill("studyPlace", "3")
+    user.settle()
+    assert user.js(STAMPS) == [before[n] for n in (1, 2, 0)] and user.js("return studyPlace.value") == "3"
+    user.fill("studyPlace", "2")
+    user.settle()
     user.fill("tagEvent", "Another title")
     assert [row[1:] for row in user.js(STAMPS)] == [before[n][1:] for n in (1, 0, 2)], user.js(STAMPS)
 
