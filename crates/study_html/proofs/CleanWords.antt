@@ -1,10 +1,11 @@
 -- The HTML of words is clean.
-use Rattle.std.proofs.Common.{◌≡◌, ℕ, ◌+◌, ◌/◌, ◌%◌, ◌<◌, ◌≤◌, List, [], ◌∷◌, ◌++◌, inl, inr, refl, arith}
-use Rattle.std.specs.Prelude.{codes, nat_lt}
+use Rattle.std.proofs.Common.{◌≡◌, ℕ, ◌+◌, ◌/◌, ◌%◌, ◌<◌, ◌≤◌, List, [], ◌∷◌, ◌++◌, ap, inl, inr, refl, arith}
+use Rattle.std.specs.Prelude.{codes, nat_lt, nat_le}
 use Rattle.std.proofs.Common.{eqb}
-use Rattle.std.proofs.lemmas.Bool.{cases_Bool, eqb-false, ltb-true, ltb-false}
+use Rattle.std.proofs.lemmas.Bool.{cases_Bool, eqb-false, ltb-true, ltb-false, leb-true}
+use Rattle.std.proofs.lemmas.List.{append-nil}
 use Rattle.std.specs.List.{flat_map}
-use Rattle.study_html.specs.Escape.{entity, escaped_text, visible_byte, hex_digit, IsClean, IsPlainByte}
+use Rattle.study_html.specs.Escape.{entity, escaped_text, lettered_byte, lettered_text, visible_byte, hex_digit, IsClean, IsPlainByte, IsLettered, BeginsEntity}
 
 -- a byte other than these
 other : (b : ℕ) (xs : List ℕ) → 32 ≤ b → b ≤ 126 → (b ≡ 60 → ⊥) → (b ≡ 62 → ⊥) → (b ≡ 34 → ⊥) → (b ≡ 39 → ⊥) → (b ≡ 38 → ⊥)
@@ -123,3 +124,31 @@ clean-each (b ∷ text) = one b (flat_map entity text) (clean-each text)
 pub clean : (text : List ℕ) → IsClean (escaped_text text)
 unfolding escaped_text
 clean text = clean-each text
+
+-- ---- words in their own letters
+
+begins-more : (text more : List ℕ) → BeginsEntity text → BeginsEntity (text ++ more)
+begins-more text more (rest, inl e) = (rest ++ more, inl (ap (λ (t : List ℕ). t ++ more) e))
+begins-more text more (rest, inr (inl e)) = (rest ++ more, inr (inl (ap (λ (t : List ℕ). t ++ more) e)))
+begins-more text more (rest, inr (inr (inl e))) = (rest ++ more, inr (inr (inl (ap (λ (t : List ℕ). t ++ more) e))))
+begins-more text more (rest, inr (inr (inr (inl e)))) = (rest ++ more, inr (inr (inr (inl (ap (λ (t : List ℕ). t ++ more) e)))))
+begins-more text more (rest, inr (inr (inr (inr e)))) = (rest ++ more, inr (inr (inr (inr (ap (λ (t : List ℕ). t ++ more) e)))))
+
+-- behind clean bytes
+lettered-then : (a xs : List ℕ) → IsClean a → IsLettered xs → IsLettered (a ++ xs)
+lettered-then [] xs h k = k
+lettered-then (b ∷ bs) xs (plain, begins, more) k = (inr plain, (λ e. begins-more (b ∷ bs) xs (begins e)), lettered-then bs xs more k)
+
+one-lettered : (b : ℕ) (xs : List ℕ) → IsLettered xs → IsLettered (lettered_byte b ++ xs)
+one-lettered b xs h = elim (cases_Bool (nat_le 128 b)) [
+  | inl high ↦ rw high (inl (leb-true 128 b high), (λ e. absurd (omega (arith, e, leb-true 128 b high))), h)
+  | inr low ↦ rw low (lettered-then (entity b) xs (rw append-nil at (one b [] tt)) h)
+]
+
+lettered-each : (text : List ℕ) → IsLettered (flat_map lettered_byte text)
+lettered-each [] = tt
+lettered-each (b ∷ text) = one-lettered b (flat_map lettered_byte text) (lettered-each text)
+
+pub lettered : (text : List ℕ) → IsLettered (lettered_text text)
+unfolding lettered_text
+lettered text = lettered-each text

@@ -1,5 +1,5 @@
 -- Words as HTML.
-use Rattle.std.specs.Prelude.{◌≡◌, ◌≤◌, ℕ, ◌+◌, ◌/◌, ◌%◌, ◌==◌, ◌||◌, nat_lt, List, [], ◌∷◌, ◌++◌, ◌⊎◌, if◌then◌else◌, codes}
+use Rattle.std.specs.Prelude.{◌≡◌, ◌≤◌, ℕ, ◌+◌, ◌/◌, ◌%◌, ◌==◌, ◌||◌, nat_lt, nat_le, List, [], ◌∷◌, ◌++◌, ◌⊎◌, if◌then◌else◌, codes}
 use Rattle.std.specs.List.{flat_map}
 
 -- 0 to 9, A to F
@@ -19,6 +19,13 @@ entity b =
 
 unfoldable pub escaped_text : List ℕ → List ℕ
 escaped_text text = flat_map entity text
+
+-- the text for a byte of words in UTF-8, in which the bytes of a letter outside ASCII stay as they are
+abbrev pub lettered_byte : ℕ → List ℕ
+lettered_byte b = if nat_le 128 b then b ∷ [] else entity b
+
+unfoldable pub lettered_text : List ℕ → List ℕ
+lettered_text text = flat_map lettered_byte text
 
 -- the bytes begin with one of the five entities
 abbrev pub BeginsEntity : List ℕ → Type 0
@@ -41,6 +48,14 @@ abbrev pub IsClean : List ℕ → Type 0
 IsClean [] = Unit {0}
 IsClean (b ∷ text) = IsPlainByte b × (b ≡ 38 → BeginsEntity (b ∷ text)) × IsClean text
 
+-- the same, where a byte may also be one of a letter outside ASCII
+abbrev pub IsLettered : List ℕ → Type 0
+IsLettered [] = Unit {0}
+IsLettered (b ∷ text) = ((128 ≤ b) ⊎ IsPlainByte b) × (b ≡ 38 → BeginsEntity (b ∷ text)) × IsLettered text
+
 -- whatever the words are, their HTML is clean
 abbrev pub WordsAreClean : Type 0
 WordsAreClean = (words : List ℕ) → IsClean (escaped_text words)
+
+abbrev pub LettersAreClean : Type 0
+LettersAreClean = (words : List ℕ) → IsLettered (lettered_text words)

@@ -1,6 +1,6 @@
 //! Words as HTML.
 ghost use Rattle.std.specs.Prelude.{◌≡◌, ◌<◌, ◌++◌, OnOk};
-ghost use Rattle.study_html.specs.Escape.{entity, hex_digit, visible_byte, escaped_text};
+ghost use Rattle.study_html.specs.Escape.{entity, hex_digit, visible_byte, escaped_text, lettered_byte, lettered_text};
 
 use std::alloc::{AllocError, Allocator};
 use study_text::Text;
@@ -14,7 +14,7 @@ fn hex_digit(digit: u8) -> u8
 }
 
 /// Adds a printable byte as it is, and any other by its number.
-fn add_visible<A: Allocator>(text: &mut Text<'_, A>, byte: u8) -> Result<(), AllocError>
+pub fn add_visible<A: Allocator>(text: &mut Text<'_, A>, byte: u8) -> Result<(), AllocError>
     ensures { OnOk result (text.new ≡ text.old ++ visible_byte byte) }
 {
     if byte < 32 || 126 < byte {
@@ -50,6 +50,28 @@ pub fn add_escaped<A: Allocator>(text: &mut Text<'_, A>, bytes: &[u8]) -> Result
 {
     for byte in bytes {
         add_entity(text, *byte)?;
+    }
+    Ok(())
+}
+
+/// Adds the text for a byte of words in UTF-8.
+fn add_lettered_byte<A: Allocator>(text: &mut Text<'_, A>, byte: u8) -> Result<(), AllocError>
+    ensures { OnOk result (text.new ≡ text.old ++ lettered_byte byte) }
+{
+    if 128 <= byte {
+        text.add(&[byte])
+    } else {
+        add_entity(text, byte)
+    }
+}
+
+/// Adds words in UTF-8 as HTML: those of ASCII as any words, and other letters as they are.
+#[tactic(auto, unfolding(crate::specs::Escape::lettered_text))]
+pub fn add_lettered<A: Allocator>(text: &mut Text<'_, A>, bytes: &[u8]) -> Result<(), AllocError>
+    ensures { OnOk result (text.new ≡ text.old ++ lettered_text bytes.now) }
+{
+    for byte in bytes {
+        add_lettered_byte(text, *byte)?;
     }
     Ok(())
 }

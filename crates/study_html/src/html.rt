@@ -1,13 +1,13 @@
 //! Markup that grows.
 ghost use Rattle.std.specs.Prelude.{◌≡◌, ◌++◌, ◌==◌, [], length, OnOk};
-ghost use Rattle.study_html.specs.Escape.{escaped_text};
+ghost use Rattle.study_html.specs.Escape.{escaped_text, lettered_text};
 ghost use Rattle.study_html.specs.Elements.{element_text};
 ghost use Rattle.study_html.specs.Drawings.{drawing_text};
 ghost use Rattle.study_html.specs.Markup.{IsWellNested};
 
 use crate::drawing::{Drawing, add_drawing};
 use crate::element::{Element, add_element};
-use crate::escape::add_escaped;
+use crate::escape::{add_escaped, add_lettered};
 use std::alloc::{AllocError, Allocator};
 use std::marker::Model;
 use study_text::Text;
@@ -62,6 +62,20 @@ impl<'a, A: Allocator> Html<'a, A> {
         ensures { OnOk result (self.new ≡ self.old ++ escaped_text words.now) }
     {
         match add_escaped(&mut self.text, words) {
+            Ok(_) => Ok(()),
+            Err(fault) => {
+                self.text = Text::new(self.alloc);
+                Err(fault)
+            }
+        }
+    }
+
+    /// Adds words in UTF-8 in their own letters; they are never read as markup.
+    #[tactic(auto, using(crate::proofs::MarkupGrows::spelled_nested, crate::proofs::MarkupGrows::none_nested))]
+    pub fn spell(&mut self, words: &[u8]) -> Result<(), AllocError>
+        ensures { OnOk result (self.new ≡ self.old ++ lettered_text words.now) }
+    {
+        match add_lettered(&mut self.text, words) {
             Ok(_) => Ok(()),
             Err(fault) => {
                 self.text = Text::new(self.alloc);
@@ -128,5 +142,19 @@ pub fn put_words<'a, A: Allocator>(
 {
     let mut within = Html::new(alloc);
     within.say(words)?;
+    html.put(element, &within)
+}
+
+/// Adds an element with words in UTF-8 in it, in their own letters.
+pub fn put_letters<'a, A: Allocator>(
+    alloc: &'a A,
+    html: &mut Html<'_, A>,
+    element: Element,
+    words: &[u8],
+) -> Result<(), AllocError>
+    ensures { OnOk result (html.new ≡ html.old ++ element_text element (lettered_text words.now)) }
+{
+    let mut within = Html::new(alloc);
+    within.spell(words)?;
     html.put(element, &within)
 }
