@@ -11,11 +11,12 @@ use Rattle.study_marks.specs.Study.{tag_of}
 use Rattle.study_pgn.specs.Pgn.{stipulation_text}
 use Rattle.study_html.specs.declared.element.Element.TheVariants.{Header, Title, Byline, Figure, Caption, Strong, Count, Code}
 use Rattle.study_html.specs.declared.drawing.Drawing.TheVariants.{Break, Dot}
-use Rattle.study_html.specs.Escape.{escaped_text}
+use Rattle.study_html.specs.Escape.{escaped_text, lettered_text}
 use Rattle.study_html.specs.Elements.{element_text}
 use Rattle.study_html.specs.Drawings.{drawing_text}
 use Rattle.study_head.specs.Diagram.{board, control}
-use Rattle.study_head.specs.Known.{known_words, date_words}
+use Rattle.study_entry.specs.declared.entry.Names.{Names}
+use Rattle.study_head.specs.Known.{named_words, date_words}
 use Rattle.study_head.specs.Counts.{counts_words}
 
 -- the title is the tag Event, if it is known
@@ -28,20 +29,23 @@ behind line = if length line == 0 then line else line ++ drawing_text Dot
 
 -- what is known, after what is known before it
 abbrev pub byline_item : List ℕ → List ℕ → List ℕ
-byline_item words line = if length words == 0 then line else behind line ++ escaped_text words
+byline_item words line = if length words == 0 then line else behind line ++ lettered_text words
 
 -- `entry 5`
 abbrev pub round_words : List ℕ → List ℕ
 round_words round = if length round == 0 then [] else codes "entry " ++ round
 
 -- author, place, date and entry, those that are known
-abbrev pub byline : List (Option (List ℕ)) → List ℕ
-byline tags =
-    byline_item (round_words (known_words (tag_of tags Round))) (byline_item (date_words (known_words (tag_of tags Date)))
-    (byline_item (known_words (tag_of tags Site)) (byline_item (known_words (tag_of tags White)) [])))
+abbrev pub byline : Names → List (Option (List ℕ)) → List ℕ
+byline names tags =
+    byline_item (round_words (named_words names.round (tag_of tags Round))) (byline_item (date_words (named_words names.date (tag_of tags Date)))
+    (byline_item (named_words names.site (tag_of tags Site)) (byline_item (named_words names.white (tag_of tags White)) [])))
 
-unfoldable pub head : List (Option (List ℕ)) → List ℕ
-head tags = element_text Header (element_text Title (escaped_text (title_words (known_words (tag_of tags Event)))) ++ element_text Byline (byline tags))
+-- title and byline, in their own letters as far as these are known
+unfoldable pub head : Names → List (Option (List ℕ)) → List ℕ
+head names tags =
+    element_text Header (element_text Title (lettered_text (title_words (named_words names.event (tag_of tags Event))))
+    ++ element_text Byline (byline names tags))
 
 abbrev pub moves_first : Side → List ℕ
 moves_first side.White = []

@@ -15,8 +15,8 @@ use Rattle.study_marks.specs.Study.{Study}
 use Rattle.study_marks.specs.Goals.{aim_of, hero_mates, plies_of, meets_stipulation}
 use Rattle.study_pgn.specs.Values.{side_name, value_text}
 use Rattle.study_facts.specs.Order.{is_empty}
-use Rattle.study_facts.specs.declared.entry.Standing.{Standing}
-use Rattle.study_facts.specs.declared.entry.Standing.TheVariants as standing
+use Rattle.study_entry.specs.declared.entry.Standing.{Standing}
+use Rattle.study_entry.specs.declared.entry.Standing.TheVariants as standing
 use Rattle.study_head.specs.declared.mistake.NamedMove.{NamedMove}
 use Rattle.study_head.specs.declared.verdict.Stamp.{Stamp}
 use Rattle.study_head.specs.declared.verdict.Stamp.TheVariants.{Wins, Mates, Misses, Fails, Cooked, Sound, Correct, Duals, NotRead, Refuted, SecondSolution}

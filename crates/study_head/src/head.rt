@@ -1,19 +1,20 @@
 //! The head of a page, and the diagram with what is below it.
-ghost use Rattle.std.specs.Prelude.{◌≡◌, ◌++◌, OnOk};
+ghost use Rattle.std.specs.Prelude.{◌≡◌, ◌++◌, OnOk, IfOk};
 ghost use Rattle.study_marks.specs.BenchState.{marked_study};
 ghost use Rattle.study_marks.specs.Study.{tag_of};
 ghost use Rattle.study_marks.specs.declared.tag.TagName.TheVariants as tag;
 ghost use Rattle.study_html.specs.Elements.{element_text};
-ghost use Rattle.study_html.specs.Escape.{escaped_text};
-ghost use Rattle.study_head.specs.Known.{known_words};
-ghost use Rattle.study_head.specs.Head.{title_words, behind, byline_item, round_words, head, moves_first, men_words, caption, figure};
+ghost use Rattle.study_html.specs.Escape.{escaped_text, lettered_text};
+ghost use Rattle.study_head.specs.Known.{named_words};
+ghost use Rattle.study_head.specs.Head.{title_words, behind, byline_item, round_words, byline, head, moves_first, men_words, caption, figure};
 
 use crate::diagram::{add_control, draw_board};
 use crate::gbr_code::add_counts;
-use crate::known_tags::{date_words, known_tag};
+use crate::known_tags::{date_words, named_tag};
 use std::alloc::{AllocError, Allocator};
 use study_board::{Man, Side};
-use study_html::{Drawing, Element, Html, put_words};
+use study_entry::{Name, Names};
+use study_html::{Drawing, Element, Html, put_letters, put_words};
 use study_marks::{Bench, TagName};
 use study_notation::write_fen;
 use study_pgn::add_stipulation;
@@ -24,17 +25,15 @@ fn put_title<'a, 'b, A: Allocator, B: Allocator>(
     alloc: &'a A,
     html: &mut Html<'_, A>,
     bench: &Bench<'b, B>,
+    own: &Name,
 ) -> Result<(), AllocError>
     ensures { OnOk result (html.new ≡ html.old
         ++ element_text Element.Title
-        (escaped_text (title_words (known_words (tag_of (marked_study bench.now).tags tag.Event))))) }
+        (lettered_text (title_words (named_words own.now
+        (tag_of (marked_study bench.now).tags tag.Event))))) }
 {
-    put_words(
-        alloc,
-        html,
-        Element::Title,
-        title_words(known_tag(bench, TagName::Event)),
-    )
+    let event = named_tag(alloc, bench, TagName::Event, own)?;
+    put_letters(alloc, html, Element::Title, title_words(event.as_slice()))
 }
 
 /// The title of a study with this tag.
@@ -62,7 +61,7 @@ fn say_known<A: Allocator>(html: &mut Html<'_, A>, words: &[u8]) -> Result<(), A
         return Ok(());
     }
     put_separator(html)?;
-    html.say(words)
+    html.spell(words)
 }
 
 /// `entry 5`.
@@ -76,24 +75,41 @@ fn add_round<A: Allocator>(text: &mut Text<'_, A>, round: &[u8]) -> Result<(), A
     text.add(round)
 }
 
+/// Author, place, date and entry.
+fn say_byline<'a, 'b, A: Allocator, B: Allocator>(
+    alloc: &'a A,
+    bench: &Bench<'b, B>,
+    names: &Names,
+) -> Result<Html<'a, A>, AllocError>
+    ensures { IfOk result (λ html. html ≡ byline names.now (marked_study bench.now).tags) }
+{
+    let mut html = Html::new(alloc);
+    let mut entry = Text::new(alloc);
+    let white = named_tag(alloc, bench, TagName::White, &names.white)?;
+    let site = named_tag(alloc, bench, TagName::Site, &names.site)?;
+    let date = named_tag(alloc, bench, TagName::Date, &names.date)?;
+    let round = named_tag(alloc, bench, TagName::Round, &names.round)?;
+    add_round(&mut entry, round.as_slice())?;
+    say_known(&mut html, white.as_slice())?;
+    say_known(&mut html, site.as_slice())?;
+    say_known(&mut html, date_words(date.as_slice()))?;
+    say_known(&mut html, entry.as_slice())?;
+    Ok(html)
+}
+
 /// The title, and below it author, place, date and entry.
 #[tactic(auto, unfolding(crate::specs::Head::head))]
 pub fn put_head<'a, 'b, A: Allocator, B: Allocator>(
     alloc: &'a A,
     html: &mut Html<'_, A>,
     bench: &Bench<'b, B>,
+    names: &Names,
 ) -> Result<(), AllocError>
-    ensures { OnOk result (html.new ≡ html.old ++ head (marked_study bench.now).tags) }
+    ensures { OnOk result (html.new ≡ html.old ++ head names.now (marked_study bench.now).tags) }
 {
     let mut within = Html::new(alloc);
-    let mut byline = Html::new(alloc);
-    let mut round = Text::new(alloc);
-    put_title(alloc, &mut within, bench)?;
-    add_round(&mut round, known_tag(bench, TagName::Round))?;
-    say_known(&mut byline, known_tag(bench, TagName::White))?;
-    say_known(&mut byline, known_tag(bench, TagName::Site))?;
-    say_known(&mut byline, date_words(known_tag(bench, TagName::Date)))?;
-    say_known(&mut byline, round.as_slice())?;
+    put_title(alloc, &mut within, bench, &names.event)?;
+    let byline = say_byline(alloc, bench, names)?;
     within.put(Element::Byline, &byline)?;
     html.put(Element::Header, &within)
 }

@@ -17,7 +17,7 @@ mod words;
 pub use diagram::{draw_board, draw_mini};
 pub use gbr_code::add_counts;
 pub use head::{moves_first, put_figure, put_head, title_words};
-pub use known_tags::known_tag;
+pub use known_tags::{add_in_utf8, named_tag};
 pub use laws::{duals_are_counted, solution_facts_are_unique, sound_has_no_fault};
 pub use mistake::{NamedMove, add_move_name, first_mistake};
 pub use reached::{Reached, first_to, reached_in};
