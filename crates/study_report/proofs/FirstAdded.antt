@@ -24,8 +24,8 @@ use Rattle.study_script.specs.Replies.{Reply, refused_reply}
 use Rattle.study_report.specs.declared.line_kind.LineKind.{LineKind}
 use Rattle.study_report.specs.declared.line_kind.LineKind.TheVariants.{Remark, PassedOver, NoClass, Study, Checked}
 use Rattle.study_report.specs.Reported.{Point, Added, IsAdded, IsAddedAs, IsPgnAfter, IsCheckedAfter, line_kind, refusal_count, entry_count}
-use Rattle.study_facts.specs.declared.entry.EntryInfo.{EntryInfo}
-use Rattle.study_facts.specs.declared.entry.Standing.{Standing}
+use Rattle.study_entry.specs.declared.entry.EntryInfo.{EntryInfo}
+use Rattle.study_entry.specs.declared.entry.Origin.{Origin}
 use Rattle.study_report.specs.declared.unread_line.Unread.{Unread}
 use Rattle.study_report.specs.Unread.{unread_after}
 use Rattle.study_report.proofs.LineAdds.{entry}
@@ -429,8 +429,8 @@ module _ (tells : PlainStudy → EntryInfo → List ℕ → Type 0) (refusal : �
   entry-unread old number line Try e = absurd cc
   entry-unread old number line ARefusal e = absurd cc
 
-  same-entry : (i j : ℕ) (u v : Standing) → i ≡ j → u ≡ v → entry i u ≡ entry j v
-  same-entry i j u v e f = ap (λ (x : ℕ). entry x u) e ∙ ap (λ (x : Standing). entry j x) f
+  same-entry : (i j : ℕ) (u v : Origin) → i ≡ j → u ≡ v → entry i u ≡ entry j v
+  same-entry i j u v e f = ap (λ (x : ℕ). entry x u) e ∙ ap (λ (x : Origin). entry j x) f
 
   pub ReportedOn-more : (holds holds' : State → Type 0) (Lists Lists' : List Entry → Type 0) (document : Document)
       (script now next old mid new : Option (List ℕ)) (first : State)
@@ -441,7 +441,7 @@ module _ (tells : PlainStudy → EntryInfo → List ℕ → Type 0) (refusal : �
       → refused' ≡ refused + refusal_count reported → entries' ≡ entries + entry_count reported
       → unread' ≡ unread_after unread (n + 1) line reported
       → ((s : State) → holds' s → document ≡ s.document)
-      → ((more : List Entry) → Lists more → Lists' (more ++ listed_in line reported document (record { number = entries + 1; standing = unread.own })))
+      → ((more : List Entry) → Lists more → Lists' (more ++ listed_in line reported document (record { number = entries + 1; origin = unread.own })))
       → ReportedOn holds' Lists' script next old new first (n + 1) refused' entries' unread'
   ReportedOn-more holds holds' Lists Lists' document script now next old mid new first line n refused refused' entries entries' unread unread' reported r t
       short
@@ -452,7 +452,7 @@ module _ (tells : PlainStudy → EntryInfo → List ℕ → Type 0) (refusal : �
         reported = reported_more Lists Lists' script now next old mid new first r.point line a n refused refused' r.reported t short is wrote
             (k ∙ ap (λ (x : LineOutcome). refused + refusal_count x) same)
             (λ more h. subst (λ (x : List Entry). Lists' (more ++ x))
-            (listed-same line reported a.reported document a.after.state.document (record { number = entries + 1; standing = unread.own }) (last_entry a.after)
+            (listed-same line reported a.reported document a.after.state.document (record { number = entries + 1; origin = unread.own }) (last_entry a.after)
             same (seen a.after.state held)
             (λ one. same-entry (entries + 1) a.after.entries unread.own a.after.unread.own
             (ap (λ i. i + 1) r.entries_are ∙ ap (λ i. r.point.entries + i) (sym one) ∙ sym counts.1)

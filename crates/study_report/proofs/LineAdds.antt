@@ -21,20 +21,20 @@ use Rattle.study_script.specs.SessionHolds.{Answered}
 use Rattle.study_report.specs.declared.line_kind.LineKind.TheVariants.{Study, Checked}
 use Rattle.study_report.specs.declared.line_outcome.LineOutcome.{LineOutcome}
 use Rattle.study_report.specs.declared.line_outcome.LineOutcome.TheVariants.{Nothing, Study as AStudy, LeftOut, NotRead, Try, Refusal as ARefusal}
-use Rattle.study_facts.specs.declared.entry.EntryInfo.{EntryInfo}
+use Rattle.study_entry.specs.declared.entry.EntryInfo.{EntryInfo}
 use Rattle.study_report.specs.declared.unread_line.Unread.{Unread}
 use Rattle.study_report.specs.declared.line_outcome.ReportPosition.{ReportPosition}
 use Rattle.study_remark.specs.Remarks.{Told, left_out, not_read, stipulated, doubted, not_taken_over, behind_result, original_of, latin_1, letters, tail, total}
 use Rattle.study_remark.specs.Reading.{remark_in}
-use Rattle.study_facts.specs.declared.entry.Standing.{Standing}
+use Rattle.study_entry.specs.declared.entry.Origin.{Origin}
 use Rattle.study_report.specs.Remarks.{says_left_out, outcome_told, is_try, with_try, remark_outcome}
 use Rattle.study_report.specs.Reported.{entry_count, Entry, game_entry, entry_at, next_entry, IsAt, games_in, listed_in}
 use Rattle.study_report.specs.Reported.{Point, Added, IsLeftOut, IsStudyReported, IsAddedAs, IsPgnAfter, IsCheckedAfter}
 use Rattle.study_report.specs.Reported.{nothing_added, study_added, refusal_added, remark_added}
 use Rattle.study_report.specs.Written.{Adds, Stops, StopsIn, IsSection, IsSectionPart, IsReplied}
 
-abbrev pub entry : ℕ → Standing → EntryInfo
-entry number standing = record { number = number; standing = standing }
+abbrev pub entry : ℕ → Origin → EntryInfo
+entry number origin = record { number = number; origin = origin }
 
 -- the next study is the entry of the next line
 pub at-next : (p : Point) (at : ReportPosition) → IsAt p at → entry_at at ≡ next_entry p

@@ -1,6 +1,6 @@
 -- A report in lines of plain text.
 use Rattle.std.specs.Prelude.{ℕ, List, [], ◌++◌, drop, codes, decimal, if◌then◌else◌}
-use Rattle.study_facts.specs.declared.entry.EntryInfo.{EntryInfo}
+use Rattle.study_entry.specs.declared.entry.EntryInfo.{EntryInfo}
 use Rattle.study_marks.specs.Edits.{PlainStudy}
 use Rattle.study_review.specs.Review.{BeginsReview, IsReviewOf}
 use Rattle.study_report.specs.Remarks.{is_not_read}
@@ -14,8 +14,8 @@ abbrev pub IsReviewAs : PlainStudy → EntryInfo → List ℕ → Type 0
 IsReviewAs plain info text = IsReviewOf plain info.number text
 
 -- each review begins with the number of its study, so no review is a refusal
-abbrev pub IsReviewForm : ℕ → List ℕ → Type 0
-IsReviewForm number text = BeginsReview number text
+abbrev pub IsReviewForm : PlainStudy → EntryInfo → List ℕ → Type 0
+IsReviewForm plain info text = BeginsReview info.number text
 
 -- no remark is shown
 abbrev pub no_remark : ℕ → List ℕ → List ℕ

@@ -13,7 +13,7 @@ use Rattle.study_command.specs.Documents.{empty}
 use Rattle.study_script.specs.State.{State}
 use Rattle.study_material.specs.declared.class.Class.{Class}
 use Rattle.study_script.specs.Outcome.{AreShort, AreLeft, Shape as ScriptShape}
-use Rattle.study_facts.specs.declared.entry.EntryInfo.{EntryInfo}
+use Rattle.study_entry.specs.declared.entry.EntryInfo.{EntryInfo}
 use Rattle.study_report.specs.Unread.{none_unread}
 use Rattle.study_report.specs.Reported.{Point, Added, IsAdded, refusal_count, Entry, entries_in}
 

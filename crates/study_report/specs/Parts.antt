@@ -19,6 +19,9 @@ use Rattle.study_report.specs.declared.line_kind.LineKind.TheVariants.{Remark, P
 use Rattle.study_report.specs.declared.line_outcome.LineOutcome.{LineOutcome}
 use Rattle.study_report.specs.declared.line_outcome.LineOutcome.TheVariants.{Nothing, Study as AStudy, LeftOut, NotRead, Try, Refusal as ARefusal}
 use Rattle.study_report.specs.Remarks.{remark_outcome}
+use Rattle.study_entry.specs.declared.entry.EntryInfo.{EntryInfo}
+use Rattle.study_report.specs.declared.unread_line.Unread.{Unread}
+use Rattle.study_report.specs.Unread.{none_unread, unread_after}
 use Rattle.study_report.specs.Reported.{line_kind, entry_count, refusal_count}
 
 -- the text written for a line, and what the line reports
@@ -67,7 +70,7 @@ IsNext here line reported next = IsNextAs (line_kind line) here line reported ne
 abbrev pub IsReplyPiece : List ℕ → List ℕ → Bool → Type 0
 IsReplyPiece line bytes was_refused = (piece : Piece) × IsPiece line piece × (bytes ≡ piece.text) × (was_refused ≡ piece.refused)
 
-module _ (form : PlainStudy → ℕ → List ℕ → Type 0) (refusal : ℕ → List ℕ → List ℕ → List ℕ) (remark : ℕ → List ℕ → List ℕ) where
+module _ (form : PlainStudy → EntryInfo → List ℕ → Type 0) (refusal : ℕ → List ℕ → List ℕ → List ℕ) (remark : ℕ → List ℕ → List ℕ) where
   abbrev pub refused_part : ℕ → List ℕ → List ℕ → Part
   refused_part number line reply = record { text = refusal number line reply; reported = ARefusal }
 
@@ -78,10 +81,10 @@ module _ (form : PlainStudy → ℕ → List ℕ → Type 0) (refusal : ℕ → 
   abbrev pub checked_part : ℕ → List ℕ → Piece → Part
   checked_part number line piece = if piece.refused then refused_part number line piece.text else nothing_part
 
-  -- The text for a line of this number, if the next entry has that number, and the document before the line is this one: a `pgn` line
+  -- The text for a line of this number, if the study in the document would be this entry, and the document before the line is this one: a `pgn` line
   -- reports the study in the document, in the report's form, or is refused; a remark is shown; any other line reports nothing, or is refused.
-  abbrev pub IsPartAs : LineKind → ℕ → ℕ → Document → List ℕ → Part → Type 0
-  IsPartAs Remark number next here line part = part ≡ remark_part next line
+  abbrev pub IsPartAs : LineKind → ℕ → EntryInfo → Document → List ℕ → Part → Type 0
+  IsPartAs Remark number next here line part = part ≡ remark_part next.number line
   IsPartAs PassedOver number next here line part = part ≡ nothing_part
   IsPartAs NoClass number next here line part = part ≡ refused_part number line (error_of (words_of NotAClass)).text
   IsPartAs Study number next here line part =
@@ -89,22 +92,23 @@ module _ (form : PlainStudy → ℕ → List ℕ → Type 0) (refusal : ℕ → 
       ⊎ ((plain : PlainStudy) × (text : List ℕ) × (here ≡ study plain) × form plain next text × (part ≡ study_part text))
   IsPartAs Checked number next here line part = (piece : Piece) × IsPiece line piece × (part ≡ checked_part number line piece)
 
-  abbrev pub IsPart : ℕ → ℕ → Document → List ℕ → Part → Type 0
+  abbrev pub IsPart : ℕ → EntryInfo → Document → List ℕ → Part → Type 0
   IsPart number next here line part = IsPartAs (line_kind line) number next here line part
 
-  -- a part for each line, after so many lines and entries, and the documents before the first line and after the last
-  abbrev pub AreParts : ℕ → ℕ → Document → List (List ℕ) → List Part → Document → Type 0
-  AreParts lines entries here [] [] there = there ≡ here
-  AreParts lines entries here [] (part ∷ parts) there = ⊥
-  AreParts lines entries here (line ∷ more) [] there = ⊥
-  AreParts lines entries here (line ∷ more) (part ∷ parts) there =
-      IsPart (suc lines) (suc entries) here line part
-      × ((next : Document) × IsNext here line part.reported next × AreParts (suc lines) (entries + entry_count part.reported) next more parts there)
+  -- a part for each line, after so many lines and entries, if studies stand so before the first line, and the documents before it and after the last
+  abbrev pub AreParts : ℕ → ℕ → Unread → Document → List (List ℕ) → List Part → Document → Type 0
+  AreParts lines entries unread here [] [] there = there ≡ here
+  AreParts lines entries unread here [] (part ∷ parts) there = ⊥
+  AreParts lines entries unread here (line ∷ more) [] there = ⊥
+  AreParts lines entries unread here (line ∷ more) (part ∷ parts) there =
+      IsPart (suc lines) (record { number = suc entries; origin = unread.own }) here line part
+      × ((next : Document) × IsNext here line part.reported next
+      × AreParts (suc lines) (entries + entry_count part.reported) (unread_after unread (suc lines) line part.reported) next more parts there)
 
   -- a part for each of these lines is written, after this document, and so many of them are refusals
   abbrev pub AreWritten : Document → List (List ℕ) → Option (List ℕ) → Option (List ℕ) → ℕ → Type 0
   AreWritten first lines old new count =
-      (parts : List Part) × (last : Document) × AreParts 0 0 first lines parts last × Appends old new (parts_text parts) × (count ≡ part_refusals parts)
+      (parts : List Part) × (last : Document) × AreParts 0 0 none_unread first lines parts last × Appends old new (parts_text parts) × (count ≡ part_refusals parts)
 
   -- What a report wrote, given the document at the beginning, the bytes of its script, what the reader has left of them, what the writer had and has, and
   -- the result: a part for each line that it read, with as many refusals as it counts. So the result counts no refusal exactly if none was written. If it

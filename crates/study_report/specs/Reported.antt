@@ -22,7 +22,7 @@ use Rattle.study_report.specs.declared.line_outcome.LineOutcome.TheVariants.{Not
 use Rattle.study_report.specs.Remarks.{is_remark, is_left_out, remark_outcome}
 use Rattle.study_report.specs.declared.unread_line.Unread.{Unread}
 use Rattle.study_report.specs.Unread.{unread_after}
-use Rattle.study_facts.specs.declared.entry.EntryInfo.{EntryInfo}
+use Rattle.study_entry.specs.declared.entry.EntryInfo.{EntryInfo}
 
 -- ---- the kinds of lines
 
@@ -42,8 +42,8 @@ line_kind line = if is_remark line then Remark else kind_in (command_of line)
 
 -- ---- what a line adds
 
--- Between two lines: the state of the script, the number of lines read, the number of entries, which are studies reported and games left out, and the
--- lines for which the study in the document is not read.
+-- Between two lines: the state of the script, the number of lines read, the number of entries, which are studies reported and games left out, and how
+-- the study in the document stands, and the next one.
 pub record Point : Type 0 where
   pub state : State
   pub lines : ℕ
@@ -56,13 +56,13 @@ IsAt p at = (at.line ≡ suc p.lines) × (at.entries ≡ p.entries) × (at.unrea
 
 -- the study in the document as the last entry, and as the next one
 abbrev pub last_entry : Point → EntryInfo
-last_entry p = record { number = p.entries; standing = p.unread.own }
+last_entry p = record { number = p.entries; origin = p.unread.own }
 
 abbrev pub next_entry : Point → EntryInfo
-next_entry p = record { number = suc p.entries; standing = p.unread.own }
+next_entry p = record { number = suc p.entries; origin = p.unread.own }
 
 abbrev pub entry_at : ReportPosition → EntryInfo
-entry_at at = record { number = at.entries + 1; standing = at.unread.own }
+entry_at at = record { number = at.entries + 1; origin = at.unread.own }
 
 -- the text that a line adds, the point after it, and what it reported
 pub record Added : Type 0 where
@@ -125,7 +125,7 @@ lacks_study empty = true
 lacks_study (start s) = true
 lacks_study (study plain) = false
 
--- an entry of a report: a study with its number and what of it was not read, or the remark of a game that was left out, with its number
+-- an entry of a report: a study with its number and its origin, or the remark of a game that was left out, with its number
 pub data Entry : Type 0 where
   study_entry : PlainStudy → EntryInfo → Entry
   game_entry : List ℕ → ℕ → Entry

@@ -10,7 +10,7 @@ use Rattle.study_command.specs.Documents.{Document, empty, start, study}
 use Rattle.study_script.specs.State.{State, Environment}
 use Rattle.study_script.specs.Replies.{Reply, IsReplyIn}
 use Rattle.study_report.specs.declared.line_outcome.LineOutcome.{LineOutcome}
-use Rattle.study_facts.specs.declared.entry.EntryInfo.{EntryInfo}
+use Rattle.study_entry.specs.declared.entry.EntryInfo.{EntryInfo}
 use Rattle.study_report.specs.Reported.{Added}
 
 -- no class's file has to be right, since a report opens none

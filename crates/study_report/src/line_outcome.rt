@@ -5,7 +5,7 @@ ghost use Rattle.study_report.specs.Reported.{entry_count, refusal_count};
 use crate::unread_line::Unread;
 
 /// The number of a line, the number of entries before it, and how the study in the document stands, and the next one.
-#[derive(Clone, Copy, Debug)]
+#[derive(Clone, Copy)]
 pub struct ReportPosition {
     pub line: u32,
     pub entries: u32,

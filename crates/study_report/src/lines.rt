@@ -9,7 +9,8 @@ use crate::remarks::{behind, is_not_read};
 use crate::report::Report;
 use std::alloc::Allocator;
 use std::io::Write;
-use study_facts::{EntryInfo, ReviewFault, WriteFault};
+use study_entry::EntryInfo;
+use study_facts::{ReviewFault, WriteFault};
 use study_marks::Bench;
 use study_reply::{LineRefusal, refused_pieces};
 use study_review::write_review;
@@ -26,7 +27,7 @@ impl Report for Lines {
 
     ghost tells = { λ plain info text. IsReviewAs plain info text };
 
-    ghost form = { λ plain number text. IsReviewForm number text };
+    ghost form = { λ plain info text. IsReviewForm plain info text };
 
     ghost refusal = { λ number line reply. refusal_line number reply };
 

@@ -8,13 +8,14 @@ ghost use Rattle.study_marks.specs.BenchState.{marked_study, IsKeptRight};
 ghost use Rattle.study_marks.specs.Study.{plain_study};
 ghost use Rattle.study_facts.specs.Asked.{within};
 ghost use Rattle.study_facts.specs.Order.{HasReviewed};
-ghost use Rattle.study_facts.specs.declared.entry.EntryInfo.{EntryInfo as AnEntry};
+ghost use Rattle.study_entry.specs.declared.entry.EntryInfo.{EntryInfo as AnEntry};
 ghost use Rattle.study_reply.specs.Replied.{error_text};
 ghost use Rattle.study_report.specs.Reported.{Entry, study_entry, games_in};
 
 use std::alloc::Allocator;
 use std::io::Write;
-use study_facts::{EntryInfo, ReviewFault, WriteFault};
+use study_entry::EntryInfo;
+use study_facts::{ReviewFault, WriteFault};
 use study_marks::Bench;
 use study_reply::LineRefusal;
 use study_values::Values;
@@ -24,8 +25,8 @@ pub trait Report {
     /// The text reports the study as this entry.
     ghost tells: { PlainStudy → AnEntry → List ℕ → Type 0 };
 
-    /// The form of each text for the study with this number, whatever its values are.
-    ghost form: { PlainStudy → ℕ → List ℕ → Type 0 };
+    /// The form of each text for the study as this entry, whatever its values are.
+    ghost form: { PlainStudy → AnEntry → List ℕ → Type 0 };
 
     /// The report of a refused line: its number among all lines, its bytes, and the script's reply to it.
     ghost refusal: { ℕ → List ℕ → List ℕ → List ℕ };
@@ -51,7 +52,7 @@ pub trait Report {
             × tells (plain_study (marked_study bench.now)) info text
             × Appends (W.contents out.old) (W.contents out.new) text) }
         ensures formed { OnOk result ((text : List ℕ)
-            × form (plain_study (marked_study bench.now)) info.number text
+            × form (plain_study (marked_study bench.now)) info text
             × Appends (W.contents out.old) (W.contents out.new) text) }
         ensures device { V.source.is_honest values.old → IsKeptRight bench.now
             → result ≡ Err ReviewFault.Device → (text : List ℕ)

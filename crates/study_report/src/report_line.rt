@@ -15,6 +15,7 @@ ghost use Rattle.study_report.specs.Reported.{Point, line_kind, IsAdded, IsAdded
 ghost use Rattle.study_report.specs.Remarks.{remark_outcome};
 ghost use Rattle.study_report.specs.Reported.{Entry, entry_at, games_in, listed_in};
 ghost use Rattle.study_report.specs.Written.{none_trusted, Adds, StopsIn, Stops};
+ghost use Rattle.study_entry.specs.declared.entry.EntryInfo.{EntryInfo as AnEntry};
 ghost use Rattle.study_report.specs.Parts.{IsPart, IsPartAs, WritesPart, IsNext, IsNextAs};
 
 use crate::line_kind::{LineKind, kind_of};
@@ -24,7 +25,8 @@ use crate::report::Report;
 use crate::section::{add_section, lacks_study};
 use std::alloc::Allocator;
 use std::io::Write;
-use study_facts::{EntryInfo, ReviewFault, WriteFault};
+use study_entry::EntryInfo;
+use study_facts::{ReviewFault, WriteFault};
 use study_reply::{LineRefusal, Refusal, of_probe};
 use study_script::{Document, RunFault, Session, TableStore, Tables};
 use study_tablefile::PageSource;
@@ -132,7 +134,7 @@ fn answer_silently<'a, 's, S: TableStore, A: Allocator, W: Write, T: Report>(
     ensures listed { (reported : List Entry) → T.lists report.old reported
         → T.lists report.new reported }
     ensures none_reported { IfOk result (λ t. entry_count t ≡ 0) }
-    ensures written { (next : ℕ)
+    ensures written { (next : AnEntry)
         → IfOk result
         (WritesPart (IsPartAs T.form T.refusal T.remark LineKind.Checked number next
         (document_seen session.old.document) line.now)
@@ -180,14 +182,14 @@ fn report_study<'a, P: PageSource, A: Allocator, W: Write, T: Report>(
         → IfErr result (λ e. T.lists report.new reported) }
     ensures written { IfOk result
         (WritesPart
-        (IsPartAs T.form T.refusal T.remark LineKind.Study at.line (at.entries + 1)
+        (IsPartAs T.form T.refusal T.remark LineKind.Study at.line (entry_at at)
         (document_seen document.now) line.now)
         (W.contents out.old) (W.contents out.new)) }
     ensures stops { IfErr result (λ e. (e ≡ WriteDevice) ⊎ (e ≡ OutOfMemory)) }
 {
     let info = EntryInfo {
         number: at.entries + 1,
-        standing: at.unread.own,
+        origin: at.unread.own,
     };
     match add_section(alloc, document, tables, report, info, out) {
         Ok(()) => Ok(LineOutcome::Study),
@@ -240,7 +242,7 @@ fn add_pgn<'a, 's, S: TableStore, A: Allocator, W: Write, T: Report>(
         → IfErr result (λ e. T.lists report.new reported) }
     ensures written { IfOk result
         (WritesPart
-        (IsPartAs T.form T.refusal T.remark LineKind.Study at.line (at.entries + 1)
+        (IsPartAs T.form T.refusal T.remark LineKind.Study at.line (entry_at at)
         (document_seen session.old.document) line.now)
         (W.contents out.old) (W.contents out.new)) }
     ensures document { session.new.document ≡ session.old.document }
@@ -298,7 +300,7 @@ pub fn add_line<'a, 's, S: TableStore, A: Allocator, W: Write, T: Report>(
     ensures unlisted { (reported : List Entry) → T.lists report.old reported
         → IfErr result (λ e. T.lists report.new reported) }
     ensures written { IfOk result
-        (WritesPart (IsPart T.form T.refusal T.remark at.line (at.entries + 1)
+        (WritesPart (IsPart T.form T.refusal T.remark at.line (entry_at at)
         (document_seen session.old.document) line.now)
         (W.contents out.old) (W.contents out.new)) }
     ensures document { IfOk result (λ t.

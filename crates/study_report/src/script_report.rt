@@ -95,7 +95,8 @@ pub fn report_session<'a, 's, R: Read, W: Write, S: TableStore, A: Allocator, T:
             Ok(reported) => {
                 entries += reported.entries();
                 refused += reported.refusals();
-                unread = unread_after(unread, n + 1, line.as_slice(), reported);
+                let next = unread_after(&unread, n + 1, line.as_slice(), reported);
+                unread = next;
             }
         }
     }

@@ -17,7 +17,8 @@ ghost use Rattle.study_report.specs.Written.{IsSection, IsSectionPart};
 use crate::report::Report;
 use std::alloc::Allocator;
 use std::io::Write;
-use study_facts::{EntryInfo, ReviewFault};
+use study_entry::EntryInfo;
+use study_facts::ReviewFault;
 use study_marks::Bench;
 use study_script::{Document, Tables};
 use study_tablefile::PageSource;
@@ -38,7 +39,7 @@ pub fn add_study<'a, P: PageSource, A: Allocator, W: Write, T: Report>(
         × T.tells (plain_study (marked_study bench.now)) info text
         × Appends (W.contents out.old) (W.contents out.new) text) }
     ensures formed { OnOk result ((text : List ℕ)
-        × T.form (plain_study (marked_study bench.now)) info.number text
+        × T.form (plain_study (marked_study bench.now)) info text
         × Appends (W.contents out.old) (W.contents out.new) text) }
     ensures device { tables_honest P.honest tables.old → IsKeptRight bench.now
         → result ≡ Err ReviewFault.Device → (text : List ℕ)
@@ -84,7 +85,7 @@ pub fn add_section<'a, P: PageSource, A: Allocator, W: Write, T: Report>(
         (IsSection T.tells s.document info (W.contents out.old) (W.contents out.new)) }
     ensures formed { lacks_study (document_seen document.now) ≡ false
         → OnOk result ((plain : PlainStudy) × (text : List ℕ)
-        × (document_seen document.now ≡ study plain) × T.form plain info.number text
+        × (document_seen document.now ≡ study plain) × T.form plain info text
         × Appends (W.contents out.old) (W.contents out.new) text) }
     ensures device { (s : State) → Holds P.honest P.gives document.now tables.old s
         → result ≡ Err ReviewFault.Device

@@ -49,7 +49,7 @@ returns-in-Remark-clause-listed g c = λ p reported held kept.
 pub returns-in-Remark-clause-written : goal.returns-in-Remark-clause-written
 returns-in-Remark-clause-written g c =
     remark-part g.T.Report.form g.T.Report.refusal g.T.Report.remark (document_seen c.args.session.now.document)
-    (line_kind c.args.line.now) c.args.line.now c.args.at.line (c.args.at.entries + 1)
+    (line_kind c.args.line.now) c.args.line.now c.args.at.line (entry_at c.args.at)
     c.add_remark.result (g.W.Write.contents c.args.out.now) (g.W.Write.contents c.add_remark.new.out) (sym c.in-Remark.is ∙ c.kind_of.ensures)
     c.add_remark.ensures.ok
 
@@ -156,29 +156,29 @@ returns-in-Checked-clause-listed g c = λ p reported held kept.
 pub returns-in-PassedOver-clause-written : goal.returns-in-PassedOver-clause-written
 returns-in-PassedOver-clause-written g c =
     passed-part g.T.Report.form g.T.Report.refusal g.T.Report.remark (document_seen c.args.session.now.document)
-    (line_kind c.args.line.now) c.args.line.now c.args.at.line (c.args.at.entries + 1)
+    (line_kind c.args.line.now) c.args.line.now c.args.at.line (entry_at c.args.at)
     (g.W.Write.contents c.args.out.now) (sym c.in-PassedOver.is ∙ c.kind_of.ensures)
 
 pub returns-in-NoClass-clause-written : goal.returns-in-NoClass-clause-written
 returns-in-NoClass-clause-written g c =
     no-class-part g.T.Report.form g.T.Report.refusal g.T.Report.remark (document_seen c.args.session.now.document)
-    (line_kind c.args.line.now) c.args.line.now c.args.at.line (c.args.at.entries + 1)
+    (line_kind c.args.line.now) c.args.line.now c.args.at.line (entry_at c.args.at)
     c.refuse_line.result (g.W.Write.contents c.args.out.now) (g.W.Write.contents c.refuse_line.new.out) (sym c.in-NoClass.is ∙ c.kind_of.ensures)
     c.refuse_line.ensures.ok
 
 pub returns-in-Study-clause-written : goal.returns-in-Study-clause-written
 returns-in-Study-clause-written g c =
     part-of-kind g.T.Report.form g.T.Report.refusal g.T.Report.remark (document_seen c.args.session.now.document)
-    Study (line_kind c.args.line.now) c.args.line.now c.args.at.line (c.args.at.entries + 1)
+    Study (line_kind c.args.line.now) c.args.line.now c.args.at.line (entry_at c.args.at)
     c.add_pgn.result (g.W.Write.contents c.args.out.now) (g.W.Write.contents c.add_pgn.new.out) (sym c.in-Study.is ∙ c.kind_of.ensures)
     c.add_pgn.ensures.written
 
 pub returns-in-Checked-clause-written : goal.returns-in-Checked-clause-written
 returns-in-Checked-clause-written g c =
     part-of-kind g.T.Report.form g.T.Report.refusal g.T.Report.remark (document_seen c.args.session.now.document)
-    Checked (line_kind c.args.line.now) c.args.line.now c.args.at.line (c.args.at.entries + 1)
+    Checked (line_kind c.args.line.now) c.args.line.now c.args.at.line (entry_at c.args.at)
     c.answer_silently.result (g.W.Write.contents c.args.out.now) (g.W.Write.contents c.answer_silently.new.out) (sym c.in-Checked.is ∙ c.kind_of.ensures)
-    (c.answer_silently.ensures.written (c.args.at.entries + 1))
+    (c.answer_silently.ensures.written (entry_at c.args.at))
 
 pub returns-in-NoClass-clause-unlisted : goal.returns-in-NoClass-clause-unlisted
 returns-in-NoClass-clause-unlisted g c = λ reported kept. on-err c.refuse_line.result _ (c.refuse_line.ensures.listed reported kept)

@@ -94,7 +94,7 @@ returns-clause-listed g c = λ p reported kind held kept.
 pub returns-then-lacks_study-clause-written : goal.returns-then-lacks_study-clause-written
 returns-then-lacks_study-clause-written g c =
     refusal-part g.T.Report.form g.T.Report.refusal g.T.Report.remark (document_seen c.args.session.now.document)
-    c.args.line.now c.args.at.line (c.args.at.entries + 1) (words_of NoStudy)
+    c.args.line.now c.args.at.line (entry_at c.args.at) (words_of NoStudy)
     c.refuse_line.result
     (g.W.Write.contents c.args.out.now) (g.W.Write.contents c.refuse_line.new.out) c.refuse_line.ensures.ok
 

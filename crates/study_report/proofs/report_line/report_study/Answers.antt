@@ -60,7 +60,7 @@ returns-in-Err-Values-clause-ok g c = λ p s plain held b at.
     p c.args.line.now (refused_reply s why) c.args.at.line bytes c.refuse_line-in-Err-Values.result
     (g.W.Write.contents c.args.out.now) (g.W.Write.contents c.refuse_line-in-Err-Values.new.out) at.0 refl
     (left-out g.T.Report.tells g.T.Report.refusal g.T.Report.remark p s c.args.line.now plain why b
-    (inr (c.in-Err-Values.fault, c.in-Err-Values.ensures.why s plain c.in-Err-Values.fault held b cc, c.of_probe.ensures)))
+    (inr (c.in-Err-Values.fault, c.in-Err-Values.ensures.why s plain c.in-Err-Values.fault held b cc, (cc))))
     (refl, c.add_section.ensures.holds s held)
     (subst (λ w. IfOk c.refuse_line-in-Err-Values.result (RefusalWritten (g.T.Report.refusal c.args.at.line c.args.line.now bytes) (g.W.Write.contents w)
     (g.W.Write.contents c.refuse_line-in-Err-Values.new.out))) (c.in-Err-Values.ensures.no_value c.in-Err-Values.fault cc)
@@ -75,7 +75,7 @@ returns-in-Err-Values-clause-err g c = λ p s plain held b at.
     p c.args.line.now (refused_reply s why) c.args.at.line bytes c.refuse_line-in-Err-Values.result
     (g.W.Write.contents c.args.out.now) (g.W.Write.contents c.refuse_line-in-Err-Values.new.out) at.0 refl
     (left-out g.T.Report.tells g.T.Report.refusal g.T.Report.remark p s c.args.line.now plain why b
-    (inr (c.in-Err-Values.fault, c.in-Err-Values.ensures.why s plain c.in-Err-Values.fault held b cc, c.of_probe.ensures)))
+    (inr (c.in-Err-Values.fault, c.in-Err-Values.ensures.why s plain c.in-Err-Values.fault held b cc, (cc))))
     (subst (λ w. IfErr c.refuse_line-in-Err-Values.result (StopsIn (g.T.Report.refusal c.args.at.line c.args.line.now bytes) (g.W.Write.contents w)
     (g.W.Write.contents c.refuse_line-in-Err-Values.new.out))) (c.in-Err-Values.ensures.no_value c.in-Err-Values.fault cc)
     c.refuse_line-in-Err-Values.ensures.err)
@@ -97,14 +97,14 @@ returns-in-Err-Values-clause-listed g c s reported held kept =
 pub returns-in-Ok-clause-written : goal.returns-in-Ok-clause-written
 returns-in-Ok-clause-written g c =
     study-in g.T.Report.form g.T.Report.refusal g.T.Report.remark (document_seen c.args.document.now)
-    c.args.line.now c.args.at.line (c.args.at.entries + 1)
+    c.args.line.now c.args.at.line (entry_at c.args.at)
     (g.W.Write.contents c.args.out.now) (g.W.Write.contents c.add_section.new.out)
     (c.in-Ok.ensures.formed c.requires.here)
 
 pub returns-in-Err-OutOfMemory-clause-written : goal.returns-in-Err-OutOfMemory-clause-written
 returns-in-Err-OutOfMemory-clause-written g c =
     left-out-part g.T.Report.form g.T.Report.refusal g.T.Report.remark (document_seen c.args.document.now)
-    c.args.line.now c.args.at.line (c.args.at.entries + 1) OutOfMemory
+    c.args.line.now c.args.at.line (entry_at c.args.at) OutOfMemory
     c.refuse_line.result
     (g.W.Write.contents c.args.out.now) (g.W.Write.contents c.add_section.new.out) (g.W.Write.contents c.refuse_line.new.out)
     (ap (λ w. g.W.Write.contents w) (c.in-Err-OutOfMemory.ensures.memory cc)) c.refuse_line.ensures.ok
@@ -112,7 +112,7 @@ returns-in-Err-OutOfMemory-clause-written g c =
 pub returns-in-Err-Values-clause-written : goal.returns-in-Err-Values-clause-written
 returns-in-Err-Values-clause-written g c =
     left-out-part g.T.Report.form g.T.Report.refusal g.T.Report.remark (document_seen c.args.document.now)
-    c.args.line.now c.args.at.line (c.args.at.entries + 1) c.of_probe.result
+    c.args.line.now c.args.at.line (entry_at c.args.at) c.of_probe.result
     c.refuse_line-in-Err-Values.result
     (g.W.Write.contents c.args.out.now) (g.W.Write.contents c.add_section.new.out) (g.W.Write.contents c.refuse_line-in-Err-Values.new.out)
     (ap (λ w. g.W.Write.contents w) (c.in-Err-Values.ensures.no_value c.in-Err-Values.fault cc)) c.refuse_line-in-Err-Values.ensures.ok

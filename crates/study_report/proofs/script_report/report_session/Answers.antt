@@ -8,6 +8,7 @@ use Rattle.study_script.specs.declared.running.RunFault.TheVariants.{ReadDevice,
 use Rattle.study_script.specs.SessionHolds.{document_seen}
 use Rattle.study_script.specs.Session.{SessionHolds}
 use Rattle.study_script.specs.Stores.{HonestOn}
+use Rattle.study_report.specs.declared.unread_line.Unread.{Unread}
 use Rattle.study_report.specs.Outcome.{start_point}
 use Rattle.study_report.specs.Reported.{IsAdded, Entry, listed_in}
 use Rattle.study_report.specs.Written.{none_trusted, Adds, Stops}
@@ -209,7 +210,11 @@ loop-n-init g c = (
   omega arith,
   ([], Consumes-nil (g.R.Read.remaining c.args.script.now), omega arith),
   gone_none (g.R.Read.remaining c.args.script.now),
-  parts_none g.T.Report.form g.T.Report.refusal g.T.Report.remark (document_seen c.args.session.now.document) (g.R.Read.remaining c.args.script.now) (g.W.Write.contents c.args.out.now),
+  subst (λ (u : Unread). HasParts g.T.Report.form g.T.Report.refusal g.T.Report.remark (document_seen c.args.session.now.document)
+      (document_seen c.args.session.now.document) (g.R.Read.remaining c.args.script.now) (g.R.Read.remaining c.args.script.now)
+      (g.W.Write.contents c.args.out.now) (g.W.Write.contents c.args.out.now) 0 0 0 u) (sym c.none-unread.ensures)
+      (parts_none g.T.Report.form g.T.Report.refusal g.T.Report.remark (document_seen c.args.session.now.document) (g.R.Read.remaining c.args.script.now)
+      (g.W.Write.contents c.args.out.now)),
 )
 
 pub loop-n-preserved : goal.loop-n-preserved
@@ -242,12 +247,12 @@ loop-n-preserved g c =
           (g.R.Read.remaining c.args.script.now) (g.R.Read.remaining c.loop-n.script) (g.R.Read.remaining c.read.new.script)
           (g.W.Write.contents c.args.out.now) mid new first line c.loop-n.n c.loop-n.refused _ c.loop-n.entries _ c.loop-n.unread _ reported on some
           c.in-Ok-true.ensures.short said (ap (λ i. c.loop-n.refused + i) counted) (ap (λ i. c.loop-n.entries + i) numbered)
-          (rw c.as_slice-in-Ok.ensures at c.unread_after-unread.ensures)
+          (rw c.as_slice-in-Ok.ensures at c.unread_after-next.ensures)
           (λ s after. after.held.document)
           (λ more kept before have.
           subst (λ (l : List Entry). g.T.Report.lists c.add_line.new.report l)
           (append_assoc before more (listed_in line reported (document_seen c.add_line.new.session.document)
-          (record { number = c.loop-n.entries + 1; standing = c.loop-n.unread.own })))
+          (record { number = c.loop-n.entries + 1; origin = c.loop-n.unread.own })))
           (rw c.as_slice.ensures at (c.in-Ok.ensures.listed on.point (before ++ more) on.held (kept before have)))),
       omega (arith, counted, some-more),
       omega (arith, numbered, one-more),
@@ -258,9 +263,10 @@ loop-n-preserved g c =
       parts_more g.T.Report.form g.T.Report.refusal g.T.Report.remark (document_seen c.args.session.now.document)
           (document_seen c.loop-n.session.document) (document_seen c.add_line.new.session.document) (g.R.Read.remaining c.args.script.now) (g.R.Read.remaining c.loop-n.script)
           (g.R.Read.remaining c.read.new.script) (g.W.Write.contents c.args.out.now) mid new line c.loop-n.n (c.loop-n.n + 1)
-          c.loop-n.refused _ c.loop-n.entries _ reported c.loop-n.invariant.5 some refl
+          c.loop-n.refused _ c.loop-n.entries _ c.loop-n.unread _ reported c.loop-n.invariant.5 some refl
           (rw c.as_slice.ensures at c.in-Ok.ensures.written) (rw c.as_slice.ensures at c.in-Ok.ensures.document)
-          (ap (λ i. c.loop-n.refused + i) counted) (ap (λ i. c.loop-n.entries + i) numbered),
+          (ap (λ i. c.loop-n.refused + i) counted) (ap (λ i. c.loop-n.entries + i) numbered)
+          (rw c.as_slice-in-Ok.ensures at c.unread_after-next.ensures),
     )
 
 -- ---- what is written, whatever the tables say
@@ -270,7 +276,7 @@ returns-in-Err-TooLong-clause-fits g c =
     parts_long g.T.Report.form g.T.Report.refusal g.T.Report.remark (document_seen c.args.session.now.document)
     (document_seen c.loop-n.session.document) (g.R.Read.remaining c.read.new.script) (g.R.Read.remaining c.args.script.now)
     (g.R.Read.remaining c.loop-n.script) (g.W.Write.contents c.args.out.now) (g.W.Write.contents c.loop-n.out) c.loop-n.n c.loop-n.refused
-    c.loop-n.entries c.loop-n.invariant.5
+    c.loop-n.entries c.loop-n.unread c.loop-n.invariant.5
 
 pub returns-in-Ok-false-clause-fits : goal.returns-in-Ok-false-clause-fits
 returns-in-Ok-false-clause-fits g c =
@@ -278,7 +284,7 @@ returns-in-Ok-false-clause-fits g c =
     parts_end g.T.Report.form g.T.Report.refusal g.T.Report.remark (document_seen c.args.session.now.document)
     (document_seen c.loop-n.session.document) (g.R.Read.remaining c.read.new.script) (g.R.Read.remaining c.args.script.now)
     (g.R.Read.remaining c.loop-n.script) (g.R.Read.remaining c.read.new.script) (g.W.Write.contents c.args.out.now)
-    (g.W.Write.contents c.loop-n.out) c.read.new.self c.loop-n.n c.loop-n.refused c.loop-n.entries c.loop-n.invariant.5 none
+    (g.W.Write.contents c.loop-n.out) c.read.new.self c.loop-n.n c.loop-n.refused c.loop-n.entries c.loop-n.unread c.loop-n.invariant.5 none
 
 pub returns-in-Err-clause-fits : goal.returns-in-Err-clause-fits
 returns-in-Err-clause-fits g c =
@@ -293,12 +299,12 @@ returns-in-Ok-None-clause-fits g c =
     let old = g.W.Write.contents c.args.out.now in
     let new = g.W.Write.contents c.loop-n.out in
     let at : c.loop-n.n ≡ 100000 = omega arith in
-    let parts = subst (λ k. HasParts g.T.Report.form g.T.Report.refusal g.T.Report.remark (document_seen c.args.session.now.document) (document_seen c.loop-n.session.document) script now old new k c.loop-n.refused c.loop-n.entries) at
+    let parts = subst (λ k. HasParts g.T.Report.form g.T.Report.refusal g.T.Report.remark (document_seen c.args.session.now.document) (document_seen c.loop-n.session.document) script now old new k c.loop-n.refused c.loop-n.entries c.loop-n.unread) at
     c.loop-n.invariant.5 in
     parts_end g.T.Report.form g.T.Report.refusal g.T.Report.remark (document_seen c.args.session.now.document)
     (document_seen c.loop-n.session.document) (g.R.Read.remaining c.read_byte.new.script) script now (g.R.Read.remaining
     c.read_byte.new.script)
-    old new [] 100000 c.loop-n.refused c.loop-n.entries parts (has_none now (g.R.Read.remaining c.read_byte.new.script) end.0 end.1)
+    old new [] 100000 c.loop-n.refused c.loop-n.entries c.loop-n.unread parts (has_none now (g.R.Read.remaining c.read_byte.new.script) end.0 end.1)
 
 pub returns-in-Ok-Some-clause-fits : goal.returns-in-Ok-Some-clause-fits
 returns-in-Ok-Some-clause-fits g c =
@@ -307,11 +313,11 @@ returns-in-Ok-Some-clause-fits g c =
     let old = g.W.Write.contents c.args.out.now in
     let new = g.W.Write.contents c.loop-n.out in
     let at : c.loop-n.n ≡ 100000 = omega arith in
-    let parts = subst (λ k. HasParts g.T.Report.form g.T.Report.refusal g.T.Report.remark (document_seen c.args.session.now.document) (document_seen c.loop-n.session.document) script now old new k c.loop-n.refused c.loop-n.entries) at
+    let parts = subst (λ k. HasParts g.T.Report.form g.T.Report.refusal g.T.Report.remark (document_seen c.args.session.now.document) (document_seen c.loop-n.session.document) script now old new k c.loop-n.refused c.loop-n.entries c.loop-n.unread) at
     c.loop-n.invariant.5 in
     parts_many g.T.Report.form g.T.Report.refusal g.T.Report.remark (document_seen c.args.session.now.document)
     (document_seen c.loop-n.session.document) (g.R.Read.remaining c.read_byte.new.script) script now old new c.loop-n.refused
-    c.loop-n.entries parts
+    c.loop-n.entries c.loop-n.unread parts
 
 pub returns-in-Err-Device-clause-fits : goal.returns-in-Err-Device-clause-fits
 returns-in-Err-Device-clause-fits g c =
@@ -320,7 +326,7 @@ returns-in-Err-Device-clause-fits g c =
     let left = g.R.Read.remaining c.read.new.script in
     parts_read g.T.Report.form g.T.Report.refusal g.T.Report.remark (document_seen c.args.session.now.document)
     (document_seen c.loop-n.session.document) left script now (g.W.Write.contents c.args.out.now) (g.W.Write.contents c.loop-n.out)
-    c.loop-n.n c.loop-n.refused c.loop-n.entries c.loop-n.invariant.5
+    c.loop-n.n c.loop-n.refused c.loop-n.entries c.loop-n.unread c.loop-n.invariant.5
     (gave-same script now left c.loop-n.n c.loop-n.invariant.3 (c.in-Err-Device.ensures.no_feed cc))
 
 pub returns-in-Err-read_byte-clause-fits : goal.returns-in-Err-read_byte-clause-fits
@@ -331,7 +337,7 @@ returns-in-Err-read_byte-clause-fits g c =
     let kept : GaveFeeds now left 0 = ([], Consumes-kept now now left [] (Consumes-nil now) c.in-Err-read_byte.ensures.err, omega arith) in
     parts_read g.T.Report.form g.T.Report.refusal g.T.Report.remark (document_seen c.args.session.now.document)
     (document_seen c.loop-n.session.document) left script now (g.W.Write.contents c.args.out.now) (g.W.Write.contents c.loop-n.out)
-    c.loop-n.n c.loop-n.refused c.loop-n.entries c.loop-n.invariant.5 (gave-same script now left c.loop-n.n c.loop-n.invariant.3 kept)
+    c.loop-n.n c.loop-n.refused c.loop-n.entries c.loop-n.unread c.loop-n.invariant.5 (gave-same script now left c.loop-n.n c.loop-n.invariant.3 kept)
 
 -- ---- the list of a run that stopped
 

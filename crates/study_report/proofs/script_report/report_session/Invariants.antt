@@ -27,4 +27,4 @@ invariant-loop-n g l =
     × Gone (g.R.Read.remaining l.fn.script) (g.R.Read.remaining l.script) l.n
     × HasParts g.T.Report.form g.T.Report.refusal g.T.Report.remark (document_seen l.fn.session.document) (document_seen l.session.document)
     (g.R.Read.remaining l.fn.script) (g.R.Read.remaining l.script)
-    (g.W.Write.contents l.fn.out) (g.W.Write.contents l.out) l.n l.refused l.entries
+    (g.W.Write.contents l.fn.out) (g.W.Write.contents l.out) l.n l.refused l.entries l.unread
