@@ -11,7 +11,8 @@ use Rattle.study_notation.specs.declared.start.Start.{Start}
 use Rattle.study_html.specs.declared.element.Element.TheVariants.{Figure}
 use Rattle.study_html.specs.Elements.{element_text}
 use Rattle.study_head.specs.Diagram.{board}
-use Rattle.study_head.specs.Known.{known_words}
+use Rattle.study_entry.specs.declared.entry.EntryInfo.{EntryInfo}
+use Rattle.study_head.specs.Known.{named_words}
 use Rattle.study_page.specs.Sheet.{first_words, second_words, key_words, place, place_caption}
 
 first_plain : (start : Start) (d : ℕ) (p : Position) (f : Forest Mark)
@@ -28,9 +29,9 @@ key_plain : (start : Start) (hero_first : Bool) (f : Forest Mark)
 key_plain start true f = first_plain start 0 start.position f
 key_plain start false f = second_plain start f
 
-pub place_plain : (s : Study Mark) (number : ℕ) → place s number ≡ place (plain_study s) number
+pub place_plain : (s : Study Mark) (entry : EntryInfo) → place s entry ≡ place (plain_study s) entry
 unfolding place
-place_plain s number =
+place_plain s entry =
     ap (λ (key : List ℕ). element_text Figure (board s.start.position
-    ++ place_caption number s.stipulation s.start (known_words (tag_of s.tags White)) key))
+    ++ place_caption entry.number s.stipulation s.start (named_words entry.origin.names.white (tag_of s.tags White)) key))
     (sym (key_plain s.start (aim_of s).hero_first s.tree.below))

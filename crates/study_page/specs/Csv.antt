@@ -7,9 +7,9 @@ use Rattle.study_marks.specs.declared.tag.TagName.TheVariants.{Event, White}
 use Rattle.study_marks.specs.Study.{Study, tag_of, plain_study}
 use Rattle.study_marks.specs.Annotated.{IsAnnotated}
 use Rattle.study_pgn.specs.Pgn.{stipulation_text}
-use Rattle.study_head.specs.Known.{known_words}
-use Rattle.study_facts.specs.declared.entry.EntryInfo.{EntryInfo}
-use Rattle.study_facts.specs.declared.entry.Standing.{Standing}
+use Rattle.study_head.specs.Known.{named_words}
+use Rattle.study_entry.specs.declared.entry.EntryInfo.{EntryInfo}
+use Rattle.study_entry.specs.declared.entry.Names.{Names}
 use Rattle.study_head.specs.declared.solution.SolutionFacts.{SolutionFacts}
 use Rattle.study_head.specs.declared.verdict.Stamp.{Stamp}
 use Rattle.study_head.specs.Solution.{AreSolutionFacts}
@@ -36,9 +36,9 @@ column text = field text ++ codes ","
 unfoldable pub head_record : List ℕ
 head_record = codes "Number,Title,Author,FEN,Stipulation,Verdict,Worst dual\r\n"
 
--- title and author, if they are known
-unfoldable pub names : Study Mark → List ℕ
-names s = column (known_words (tag_of s.tags Event)) ++ column (known_words (tag_of s.tags White))
+-- title and author, if they are known, in their own letters as far as these are known
+unfoldable pub names : Study Mark → Names → List ℕ
+names s own = column (named_words own.event (tag_of s.tags Event)) ++ column (named_words own.white (tag_of s.tags White))
 
 -- a verdict, and the worst dual
 abbrev pub verdict_fields : Stamp → SolutionFacts → List ℕ
@@ -47,8 +47,8 @@ verdict_fields x facts = column (stamp_words x) ++ field (first_fault x facts)
 -- its number, title and author, its start as FEN, the stipulation, the verdict, and the worst dual
 unfoldable pub record_text : Study Mark → SolutionFacts → EntryInfo → List ℕ
 record_text s facts entry =
-    column (decimal entry.number) ++ (names s ++ (column (fen_text s.start) ++ (column (stipulation_text s.stipulation)
-    ++ (verdict_fields (entry_judgement s facts entry.standing).stamp facts ++ codes "\r\n"))))
+    column (decimal entry.number) ++ (names s entry.origin.names ++ (column (fen_text s.start) ++ (column (stipulation_text s.stipulation)
+    ++ (verdict_fields (entry_judgement s facts entry.origin.standing).stamp facts ++ codes "\r\n"))))
 
 -- a refused line: its number and its text in place of a title, and the name of the refusal in place of a verdict
 unfoldable pub refused_record : ℕ → List ℕ → List ℕ → List ℕ
@@ -59,11 +59,9 @@ refused_record number line name =
 abbrev pub IsRecord : Study Mark → EntryInfo → List ℕ → Type 0
 IsRecord s entry text = (facts : SolutionFacts) × AreSolutionFacts s facts × (text ≡ record_text s facts entry)
 
--- the record of a plain study with this number, whatever its marks are and however it stands: verdict and worst dual are left open
-abbrev pub IsSomeRecordOf : Study (Unit {0}) → ℕ → List ℕ → Type 0
-IsSomeRecordOf plain number text =
-    (s : Study Mark) × (plain_study s ≡ plain) × (facts : SolutionFacts) × (standing : Standing)
-    × (text ≡ record_text s facts (record { number = number; standing = standing }))
+-- the record of a plain study as this entry, whatever its marks are: the verdict on what was read to its end, and the worst dual, are left open
+abbrev pub IsSomeRecordOf : Study (Unit {0}) → EntryInfo → List ℕ → Type 0
+IsSomeRecordOf plain entry text = (s : Study Mark) × (plain_study s ≡ plain) × (facts : SolutionFacts) × (text ≡ record_text s facts entry)
 
 -- the record of a plain study is that of its annotation
 abbrev pub IsRecordOf : Study (Unit {0}) → EntryInfo → List ℕ → Type 0

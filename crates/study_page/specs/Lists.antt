@@ -6,11 +6,11 @@ use Rattle.study_marks.specs.Study.{Study, tag_of}
 use Rattle.study_pgn.specs.Pgn.{stipulation_text}
 use Rattle.study_html.specs.declared.element.Element.TheVariants.{Cell, Code, Head, Heads, Header, Link, Row, Rows, Small, Strong, Summary, Table, Title}
 use Rattle.study_html.specs.declared.element.Element.TheVariants.{Warning}
-use Rattle.study_html.specs.Escape.{escaped_text}
+use Rattle.study_html.specs.Escape.{escaped_text, lettered_text}
 use Rattle.study_html.specs.Elements.{element_text}
-use Rattle.study_head.specs.Known.{known_words}
+use Rattle.study_head.specs.Known.{named_words}
 use Rattle.study_head.specs.Head.{title_words}
-use Rattle.study_facts.specs.declared.entry.EntryInfo.{EntryInfo}
+use Rattle.study_entry.specs.declared.entry.EntryInfo.{EntryInfo}
 use Rattle.study_html.specs.declared.drawing.Drawing.TheVariants.{Break}
 use Rattle.study_html.specs.Drawings.{drawing_text}
 use Rattle.study_head.specs.declared.solution.SolutionFacts.{SolutionFacts}
@@ -36,10 +36,10 @@ verdict_cell x facts = element_text Cell (escaped_text (stamp_words x) ++ fault_
 unfoldable pub summary_row : Study Mark → SolutionFacts → EntryInfo → List ℕ
 summary_row s facts entry =
     element_text Row (element_text Cell (escaped_text (decimal entry.number))
-    ++ (element_text Cell (element_text (Link entry.number) (escaped_text (title_words (known_words (tag_of s.tags Event)))))
-    ++ (element_text Cell (escaped_text (known_words (tag_of s.tags White)))
+    ++ (element_text Cell (element_text (Link entry.number) (lettered_text (title_words (named_words entry.origin.names.event (tag_of s.tags Event)))))
+    ++ (element_text Cell (lettered_text (named_words entry.origin.names.white (tag_of s.tags White)))
     ++ (element_text Cell (escaped_text (stipulation_text s.stipulation))
-    ++ verdict_cell (entry_judgement s facts entry.standing).stamp facts))))
+    ++ verdict_cell (entry_judgement s facts entry.origin.standing).stamp facts))))
 
 unfoldable pub two_heads : List ℕ → List ℕ → List ℕ
 two_heads a b = element_text Head (escaped_text a) ++ element_text Head (escaped_text b)

@@ -9,7 +9,8 @@ use Rattle.study_html.specs.Escape.{escaped_text}
 use Rattle.study_html.specs.Elements.{element_text}
 use Rattle.study_html.specs.Markup.{IsWellNested}
 use Rattle.study_head.specs.Head.{head, figure}
-use Rattle.study_facts.specs.declared.entry.EntryInfo.{EntryInfo}
+use Rattle.study_entry.specs.declared.entry.EntryInfo.{EntryInfo}
+use Rattle.study_entry.specs.declared.entry.Names.{Names}
 use Rattle.study_head.specs.declared.solution.SolutionFacts.{SolutionFacts}
 use Rattle.study_head.specs.declared.verdict.Judgement.{Judgement}
 use Rattle.study_head.specs.declared.verdict.Stamp.{Stamp}
@@ -90,14 +91,15 @@ tables tries zugzwangs defences ends =
 unfoldable pub top : Study Mark → Judgement → List ℕ → List ℕ
 top s j faults = element_text element.Top (figure s.stipulation s.start ++ verdict_part j faults)
 
-unfoldable pub content : Study Mark → Judgement → List ℕ → List ℕ → List ℕ → List ℕ → List ℕ → List ℕ → List ℕ
-content s j faults duals tries zugzwangs defences ends =
-    head s.tags ++ (top s j faults ++ (solution_part (solution_words s) ++ (cards_part j.stamp duals
+unfoldable pub content : Study Mark → Names → Judgement → List ℕ → List ℕ → List ℕ → List ℕ → List ℕ → List ℕ → List ℕ
+content s names j faults duals tries zugzwangs defences ends =
+    head names s.tags ++ (top s j faults ++ (solution_part (solution_words s) ++ (cards_part j.stamp duals
     ++ (tables tries zugzwangs defences ends ++ element_text element.Foot (escaped_text foot_words)))))
 
 abbrev pub page_text : Study Mark → EntryInfo → SolutionFacts → List ℕ → List ℕ → List ℕ → List ℕ → List ℕ → List ℕ → List ℕ
 page_text s entry facts faults duals tries zugzwangs defences ends =
-    element_text (element.Entry entry.number) (content s (entry_judgement s facts entry.standing) faults duals tries zugzwangs defences ends)
+    element_text (element.Entry entry.number)
+    (content s entry.origin.names (entry_judgement s facts entry.origin.standing) faults duals tries zugzwangs defences ends)
 
 -- ---- what it says
 

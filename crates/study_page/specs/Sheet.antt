@@ -12,12 +12,13 @@ use Rattle.study_marks.specs.declared.tag.TagName.TheVariants.{White}
 use Rattle.study_pgn.specs.Pgn.{stipulation_text}
 use Rattle.study_html.specs.declared.element.Element.TheVariants.{Figure, Caption, Strong}
 use Rattle.study_html.specs.declared.drawing.Drawing.TheVariants.{Break}
-use Rattle.study_html.specs.Escape.{escaped_text}
+use Rattle.study_html.specs.Escape.{escaped_text, lettered_text}
 use Rattle.study_html.specs.Elements.{element_text}
 use Rattle.study_html.specs.Drawings.{drawing_text}
 use Rattle.study_head.specs.Diagram.{board}
 use Rattle.study_head.specs.Head.{moves_first}
-use Rattle.study_head.specs.Known.{known_words}
+use Rattle.study_entry.specs.declared.entry.EntryInfo.{EntryInfo}
+use Rattle.study_head.specs.Known.{named_words}
 use Rattle.study_head.specs.Words.{label}
 
 -- `5. White wins`
@@ -26,7 +27,7 @@ number_words number stipulation = decimal number ++ (codes ". " ++ stipulation)
 
 -- the author on a line, if one is known
 abbrev pub author_line : List ℕ → List ℕ
-author_line author = if length author == 0 then [] else drawing_text Break ++ escaped_text author
+author_line author = if length author == 0 then [] else drawing_text Break ++ lettered_text author
 
 -- below a diagram: the number, the stipulation, who moves first if Black does, the author and the key
 unfoldable pub place_caption : ℕ → Stipulation → Start → List ℕ → List ℕ → List ℕ
@@ -50,11 +51,12 @@ module _ {L : Type 0} where
   key_words start hero_first f = if hero_first then first_words start 0 start.position f else second_words start f
 
   -- a study on a sheet: the diagram of the start, with what is below it
-  unfoldable pub place : Study L → ℕ → List ℕ
-  place s number =
-      element_text Figure (board s.start.position ++ place_caption number s.stipulation s.start (known_words (tag_of s.tags White))
+  unfoldable pub place : Study L → EntryInfo → List ℕ
+  place s entry =
+      element_text Figure (board s.start.position
+      ++ place_caption entry.number s.stipulation s.start (named_words entry.origin.names.white (tag_of s.tags White))
       (key_words s.start (aim_of s).hero_first s.tree.below))
 
--- the place of this study, with this number
-abbrev pub IsPlaceOf : PlainStudy → ℕ → List ℕ → Type 0
-IsPlaceOf plain number text = text ≡ place plain number
+-- the place of this study as this entry
+abbrev pub IsPlaceOf : PlainStudy → EntryInfo → List ℕ → Type 0
+IsPlaceOf plain entry text = text ≡ place plain entry

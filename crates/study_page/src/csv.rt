@@ -17,9 +17,10 @@ ghost use Rattle.study_page.specs.Csv.{IsRecord, IsSomeRecordOf, IsRecordOf};
 
 use std::alloc::{AllocError, Allocator};
 use std::io::Write;
-use study_facts::{EntryInfo, ReviewFault, TextFault, WriteFault};
+use study_entry::{EntryInfo, Names};
+use study_facts::{ReviewFault, TextFault, WriteFault};
 use study_head::{
-    SolutionFacts, Stamp, add_first_fault, add_stamp_words, entry_judgement, known_tag,
+    SolutionFacts, Stamp, add_first_fault, add_stamp_words, entry_judgement, named_tag,
     solution_facts,
 };
 use study_marks::{Bench, TagName};
@@ -103,16 +104,20 @@ fn add_number<'a, A: Allocator>(
     add_column(text, digits.as_slice())
 }
 
-/// Title and author, if they are known.
+/// Title and author, if they are known, in their own letters as far as these are known.
 #[tactic(auto, unfolding(crate::specs::Csv::names))]
-fn add_names<'b, A: Allocator, B: Allocator>(
+fn add_names<'a, 'b, A: Allocator, B: Allocator>(
+    alloc: &'a A,
     text: &mut Text<'_, A>,
     bench: &Bench<'b, B>,
+    own: &Names,
 ) -> Result<(), AllocError>
-    ensures { OnOk result (text.new ≡ text.old ++ names (marked_study bench.now)) }
+    ensures { OnOk result (text.new ≡ text.old ++ names (marked_study bench.now) own.now) }
 {
-    add_column(text, known_tag(bench, TagName::Event))?;
-    add_column(text, known_tag(bench, TagName::White))
+    let title = named_tag(alloc, bench, TagName::Event, &own.event)?;
+    let author = named_tag(alloc, bench, TagName::White, &own.white)?;
+    add_column(text, title.as_slice())?;
+    add_column(text, author.as_slice())
 }
 
 fn add_fen<'b, A: Allocator, B: Allocator>(
@@ -168,9 +173,9 @@ fn add_record<'a, 'b, A: Allocator, B: Allocator>(
     ensures { OnOk result (text.new ≡ text.old
         ++ record_text (marked_study bench.now) facts.now info) }
 {
-    let judged = entry_judgement(bench, facts, info.standing);
+    let judged = entry_judgement(bench, facts, info.origin.standing);
     add_number(alloc, text, info.number)?;
-    add_names(text, bench)?;
+    add_names(alloc, text, bench, &info.origin.names)?;
     add_fen(text, bench)?;
     add_wanted(alloc, text, bench)?;
     add_verdict(alloc, text, &judged.stamp, facts)?;
@@ -187,7 +192,7 @@ fn record_of<'a, 'b, A: Allocator, B: Allocator, V: Values>(
     ensures text { V.source.is_honest values.old
         → IfOk result (λ text. IsRecord (marked_study bench.now) info text) }
     ensures form { IfOk result
-        (IsSomeRecordOf (plain_study (marked_study bench.now)) info.number) }
+        (IsSomeRecordOf (plain_study (marked_study bench.now)) info) }
     ensures asked { HasAsked (within (marked_study bench.now).start.position V.source)
         values.old result values.new }
 {
@@ -225,7 +230,7 @@ pub fn write_record<'a, 'b, A: Allocator, B: Allocator, V: Values, W: Write>(
         × IsRecordOf (plain_study (marked_study bench.now)) info text
         × Appends (W.contents out.old) (W.contents out.new) text) }
     ensures form { OnOk result ((text : List ℕ)
-        × IsSomeRecordOf (plain_study (marked_study bench.now)) info.number text
+        × IsSomeRecordOf (plain_study (marked_study bench.now)) info text
         × Appends (W.contents out.old) (W.contents out.new) text) }
     ensures device { V.source.is_honest values.old → IsKeptRight bench.now
         → result ≡ Err ReviewFault.Device → (text : List ℕ)

@@ -27,7 +27,8 @@ use crate::tree::put_following;
 use crate::verdict::{put_verdict, shows_duals};
 use std::alloc::{AllocError, Allocator};
 use std::io::Write;
-use study_facts::{EntryInfo, ReviewFault, TextFault, walk_study};
+use study_entry::{EntryInfo, Names};
+use study_facts::{ReviewFault, TextFault, walk_study};
 use study_head::{
     Judgement, SolutionFacts, Stamp, entry_judgement, put_figure, put_head, reached_in,
     solution_facts,
@@ -304,15 +305,16 @@ fn put_content<'a, 'b, A: Allocator, B: Allocator>(
     alloc: &'a A,
     html: &mut Html<'_, A>,
     bench: &Bench<'b, B>,
+    names: &Names,
     judged: &Judgement,
     parts: &Sections<'_, A>,
 ) -> Result<(), AllocError>
     requires { IsLegalStamp judged.now.stamp }
     ensures { OnOk result (html.new ≡ html.old
-        ++ content (marked_study bench.now) judged.now parts.now.faults
+        ++ content (marked_study bench.now) names.now judged.now parts.now.faults
         parts.now.duals parts.now.tries parts.now.zugzwangs parts.now.defences parts.now.ends) }
 {
-    put_head(alloc, html, bench)?;
+    put_head(alloc, html, bench, names)?;
     put_top(alloc, html, bench, judged, &parts.faults)?;
     put_solution(alloc, html, bench)?;
     put_cards(alloc, html, &judged.stamp, &parts.duals)?;
@@ -399,8 +401,15 @@ fn entry_of<'a, 's, 'b, A: Allocator, S: Allocator, B: Allocator, V: Values>(
     let mut page = Html::new(alloc);
     let mut content = Html::new(alloc);
     let found = found_in(alloc, bench, values)?;
-    let judged = entry_judgement(bench, &found.facts, info.standing);
-    put_content(alloc, &mut content, bench, &judged, &found.parts)?;
+    let judged = entry_judgement(bench, &found.facts, info.origin.standing);
+    put_content(
+        alloc,
+        &mut content,
+        bench,
+        &info.origin.names,
+        &judged,
+        &found.parts,
+    )?;
     page.put(Element::Entry(info.number), &content)?;
     // (the content is well nested, as the clause of its bytes says)
     let _content = content.as_slice();

@@ -8,14 +8,15 @@ ghost use Rattle.study_marks.specs.BenchState.{marked_study};
 ghost use Rattle.study_marks.specs.Goals.{aim_of};
 ghost use Rattle.study_marks.specs.Study.{tag_of, plain_study};
 ghost use Rattle.study_marks.specs.declared.tag.TagName.TheVariants as tag;
-ghost use Rattle.study_head.specs.Known.{known_words};
+ghost use Rattle.study_head.specs.Known.{named_words};
 ghost use Rattle.study_pgn.specs.Pgn.{stipulation_text};
 ghost use Rattle.study_page.specs.Sheet.{number_words, author_line, first_words, second_words, key_words, place_caption, place, IsPlaceOf};
 
 use std::alloc::{AllocError, Allocator};
 use std::io::Write;
+use study_entry::EntryInfo;
 use study_facts::{WriteFault, move_to};
-use study_head::{add_label, draw_board, known_tag, moves_first};
+use study_head::{add_label, draw_board, moves_first, named_tag};
 use study_html::{Drawing, Element, Html, put_words};
 use study_marks::{Bench, TagName};
 use study_moves::{Move, played};
@@ -45,7 +46,7 @@ fn say_author<A: Allocator>(html: &mut Html<'_, A>, author: &[u8]) -> Result<(),
         return Ok(());
     }
     html.draw(&Drawing::Break)?;
-    html.say(author)
+    html.spell(author)
 }
 
 /// The hero's first move, with its number, where he moves first.
@@ -119,21 +120,23 @@ fn put_place_caption<'a, 'b, A: Allocator, B: Allocator>(
     alloc: &'a A,
     html: &mut Html<'_, A>,
     bench: &Bench<'b, B>,
-    number: u32,
+    info: EntryInfo,
 ) -> Result<(), AllocError>
     ensures { OnOk result (html.new ≡ html.old
-        ++ place_caption number (marked_study bench.now).stipulation (marked_study bench.now).start
-        (known_words (tag_of (marked_study bench.now).tags tag.White))
+        ++ place_caption info.number (marked_study bench.now).stipulation
+        (marked_study bench.now).start
+        (named_words info.origin.names.white (tag_of (marked_study bench.now).tags tag.White))
         (key_words (marked_study bench.now).start (aim_of (marked_study bench.now)).hero_first
         (marked_study bench.now).tree.below)) }
 {
     let mut within = Html::new(alloc);
     let mut numbered = Text::new(alloc);
     let mut key = Text::new(alloc);
-    add_numbered(&mut numbered, bench, number)?;
+    let author = named_tag(alloc, bench, TagName::White, &info.origin.names.white)?;
+    add_numbered(&mut numbered, bench, info.number)?;
     put_words(alloc, &mut within, Element::Strong, numbered.as_slice())?;
     within.say(moves_first(bench.start().position.to_move()))?;
-    say_author(&mut within, known_tag(bench, TagName::White))?;
+    say_author(&mut within, author.as_slice())?;
     within.draw(&Drawing::Break)?;
     add_key(&mut key, bench)?;
     within.say(key.as_slice())?;
@@ -145,14 +148,14 @@ fn put_place_caption<'a, 'b, A: Allocator, B: Allocator>(
 fn place_of<'a, 'b, A: Allocator, B: Allocator>(
     alloc: &'a A,
     bench: &Bench<'b, B>,
-    number: u32,
+    info: EntryInfo,
 ) -> Result<Html<'a, A>, AllocError>
-    ensures { IfOk result (λ html. html ≡ place (marked_study bench.now) number) }
+    ensures { IfOk result (λ html. html ≡ place (marked_study bench.now) info) }
 {
     let mut html = Html::new(alloc);
     let mut within = Html::new(alloc);
     draw_board(alloc, &mut within, &bench.start().position)?;
-    put_place_caption(alloc, &mut within, bench, number)?;
+    put_place_caption(alloc, &mut within, bench, info)?;
     html.put(Element::Figure, &within)?;
     Ok(html)
 }
@@ -162,11 +165,11 @@ fn place_of<'a, 'b, A: Allocator, B: Allocator>(
 fn plain_place_of<'a, 'b, A: Allocator, B: Allocator>(
     alloc: &'a A,
     bench: &Bench<'b, B>,
-    number: u32,
+    info: EntryInfo,
 ) -> Result<Html<'a, A>, AllocError>
-    ensures { IfOk result (λ html. IsPlaceOf (plain_study (marked_study bench.now)) number html) }
+    ensures { IfOk result (λ html. IsPlaceOf (plain_study (marked_study bench.now)) info html) }
 {
-    let html = place_of(alloc, bench, number)?;
+    let html = place_of(alloc, bench, info)?;
     Ok(html)
 }
 
@@ -175,18 +178,18 @@ fn plain_place_of<'a, 'b, A: Allocator, B: Allocator>(
 pub fn write_place<'a, 'b, A: Allocator, B: Allocator, W: Write>(
     alloc: &'a A,
     bench: &Bench<'b, B>,
-    number: u32,
+    info: EntryInfo,
     out: &mut W,
 ) -> Result<(), WriteFault>
     ensures ok { OnOk result ((text : List ℕ)
-        × IsPlaceOf (plain_study (marked_study bench.now)) number text
+        × IsPlaceOf (plain_study (marked_study bench.now)) info text
         × Appends (W.contents out.old) (W.contents out.new) text) }
     ensures device { result ≡ Err WriteFault.Device → (text : List ℕ)
-        × IsPlaceOf (plain_study (marked_study bench.now)) number text
+        × IsPlaceOf (plain_study (marked_study bench.now)) info text
         × TakesPrefix (W.contents out.old) (W.contents out.new) text }
     ensures memory { result ≡ Err WriteFault.OutOfMemory → out.new ≡ out.old }
 {
-    let html = plain_place_of(alloc, bench, number)?;
+    let html = plain_place_of(alloc, bench, info)?;
     write_text(out, html.as_slice())?;
     Ok(())
 }

@@ -7,19 +7,20 @@ ghost use Rattle.study_marks.specs.Study.{tag_of};
 ghost use Rattle.study_marks.specs.declared.tag.TagName.TheVariants as tag;
 ghost use Rattle.study_pgn.specs.Pgn.{stipulation_text};
 ghost use Rattle.study_html.specs.Elements.{element_text};
-ghost use Rattle.study_html.specs.Escape.{escaped_text};
-ghost use Rattle.study_head.specs.Known.{known_words};
+ghost use Rattle.study_html.specs.Escape.{escaped_text, lettered_text};
+ghost use Rattle.study_head.specs.Known.{named_words};
 ghost use Rattle.study_head.specs.Head.{title_words};
 ghost use Rattle.study_head.specs.Verdict.{IsLegalStamp};
 ghost use Rattle.study_page.specs.Lists.{refusal_part, fault_note, verdict_cell, summary_row, two_heads, three_heads, summary_heads, summary_part};
 
 use std::alloc::{AllocError, Allocator};
 use std::io::Write;
-use study_facts::{EntryInfo, WriteFault};
+use study_entry::{EntryInfo, Name};
+use study_facts::WriteFault;
 use study_head::{
-    SolutionFacts, Stamp, add_first_fault, add_stamp_words, entry_judgement, known_tag, title_words,
+    SolutionFacts, Stamp, add_first_fault, add_stamp_words, entry_judgement, named_tag, title_words,
 };
-use study_html::{Drawing, Element, Html, put_words};
+use study_html::{Drawing, Element, Html, put_letters, put_words};
 use study_marks::{Bench, TagName};
 use study_pgn::add_stipulation;
 use study_text::{Text, write_text};
@@ -92,29 +93,52 @@ fn put_link<'a, 'b, A: Allocator, B: Allocator>(
     alloc: &'a A,
     html: &mut Html<'_, A>,
     bench: &Bench<'b, B>,
+    own: &Name,
     number: u32,
 ) -> Result<(), AllocError>
     ensures { OnOk result (html.new ≡ html.old
         ++ element_text (Element.Link number)
-        (escaped_text (title_words (known_words (tag_of (marked_study bench.now).tags tag.Event))))) }
+        (lettered_text (title_words (named_words own.now
+        (tag_of (marked_study bench.now).tags tag.Event))))) }
 {
-    let title = title_words(known_tag(bench, TagName::Event));
-    put_words(alloc, html, Element::Link(number), title)
+    let event = named_tag(alloc, bench, TagName::Event, own)?;
+    put_letters(
+        alloc,
+        html,
+        Element::Link(number),
+        title_words(event.as_slice()),
+    )
 }
 
 fn put_link_cell<'a, 'b, A: Allocator, B: Allocator>(
     alloc: &'a A,
     html: &mut Html<'_, A>,
     bench: &Bench<'b, B>,
+    own: &Name,
     number: u32,
 ) -> Result<(), AllocError>
     ensures { OnOk result (html.new ≡ html.old ++ element_text Element.Cell
         (element_text (Element.Link number)
-        (escaped_text (title_words (known_words (tag_of (marked_study bench.now).tags tag.Event)))))) }
+        (lettered_text (title_words (named_words own.now
+        (tag_of (marked_study bench.now).tags tag.Event)))))) }
 {
     let mut within = Html::new(alloc);
-    put_link(alloc, &mut within, bench, number)?;
+    put_link(alloc, &mut within, bench, own, number)?;
     html.put(Element::Cell, &within)
+}
+
+/// The cell with the author.
+fn put_author<'a, 'b, A: Allocator, B: Allocator>(
+    alloc: &'a A,
+    html: &mut Html<'_, A>,
+    bench: &Bench<'b, B>,
+    own: &Name,
+) -> Result<(), AllocError>
+    ensures { OnOk result (html.new ≡ html.old ++ element_text Element.Cell
+        (lettered_text (named_words own.now (tag_of (marked_study bench.now).tags tag.White)))) }
+{
+    let author = named_tag(alloc, bench, TagName::White, own)?;
+    put_letters(alloc, html, Element::Cell, author.as_slice())
 }
 
 /// The worst dual below a verdict, if there is one.
@@ -179,16 +203,17 @@ pub fn add_entry<'a, 'b, A: Allocator, B: Allocator>(
     ensures { OnOk result (rows.new ≡ rows.old
         ++ summary_row (marked_study bench.now) facts.now info) }
 {
-    let judged = entry_judgement(bench, facts, info.standing);
+    let judged = entry_judgement(bench, facts, info.origin.standing);
     let mut row = Html::new(alloc);
     put_number(alloc, &mut row, Element::Cell, info.number)?;
-    put_link_cell(alloc, &mut row, bench, info.number)?;
-    put_words(
+    put_link_cell(
         alloc,
         &mut row,
-        Element::Cell,
-        known_tag(bench, TagName::White),
+        bench,
+        &info.origin.names.event,
+        info.number,
     )?;
+    put_author(alloc, &mut row, bench, &info.origin.names.white)?;
     put_wanted(alloc, &mut row, bench)?;
     put_verdict_cell(alloc, &mut row, &judged.stamp, facts)?;
     rows.put(Element::Row, &row)

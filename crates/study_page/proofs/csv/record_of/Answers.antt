@@ -8,6 +8,5 @@ returns-clause-form g c = (
   marked_study c.args.bench.now,
   refl,
   c.in_ok-facts.facts,
-  c.args.info.standing,
   from-nothing _ _ _ c.new-text.ensures c.in_ok-add_record.ensures,
 )

@@ -29,7 +29,7 @@ returns-clause-text g c h =
       p.5,
       from-nothing _ _ _ c.new-page.ensures c.in_ok-put.ensures
           ∙ ap (element_text (element.Entry c.args.info.number)) (from-nothing _ _ _ c.new-content.ensures c.in_ok-put_content.ensures
-          ∙ ap (λ (j : Judgement). content s j parts.faults parts.duals parts.tries parts.zugzwangs parts.defences parts.ends)
+          ∙ ap (λ (j : Judgement). content s c.args.info.origin.names j parts.faults parts.duals parts.tries parts.zugzwangs parts.defences parts.ends)
           c.entry_judgement-judged.ensures.judged),
     )
 
