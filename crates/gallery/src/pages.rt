@@ -3,7 +3,7 @@ use std::alloc::{Allocator, Global};
 use std::io;
 use std::io::{ErrorKind, Write};
 use study_board::Side;
-use study_facts::{EntryInfo, Standing};
+use study_entry::{EntryInfo, Origin};
 use study_html::{Html, write_closing, write_opening};
 use study_marks::{Bench, Goal, MateMoves, Stipulation, TagName};
 use study_material::Class;
@@ -98,7 +98,7 @@ fn write_all<'a, A: Allocator, W: Write>(alloc: &'a A, out: &mut W) -> Option<()
         };
         let info = EntryInfo {
             number,
-            standing: Standing::Whole,
+            origin: Origin::whole(),
         };
         let more = write_page(alloc, &bench, &mut values, info, list, out).ok()?;
         entries = more;

@@ -2,7 +2,7 @@
 use crate::remarks::write_remark;
 use std::alloc::Allocator;
 use std::io::Write;
-use study_facts::EntryInfo;
+use study_entry::EntryInfo;
 use study_marks::Bench;
 use study_page::{write_record, write_refused_record};
 use study_print::refusal_name;
@@ -20,7 +20,7 @@ impl Report for Records {
 
     ghost tells = { λ plain info text. IsRecordOf plain info text };
 
-    ghost form = { λ plain number text. IsSomeRecordOf plain number text };
+    ghost form = { λ plain info text. IsSomeRecordOf plain info text };
 
     ghost refusal = { λ number line reply. refusal_record number line reply };
 

@@ -1,7 +1,5 @@
 pub mod EntriesGrow
 pub mod FileWritten
 pub mod PageReported
-pub mod Paragraphs
-pub mod BodyGrows
 pub mod FileNested
 mod Refused

@@ -3,7 +3,7 @@ use Rattle.std.proofs.Common.{ℕ, List, Option, refl}
 use Rattle.study_text.specs.Taken.{TakesPrefix}
 use Rattle.study_marks.specs.BenchState.{BenchState, marked_study, IsKeptRight}
 use Rattle.study_marks.specs.Study.{plain_study}
-use Rattle.study_facts.specs.declared.entry.EntryInfo.{EntryInfo}
+use Rattle.study_entry.specs.declared.entry.EntryInfo.{EntryInfo}
 use Rattle.study_page.specs.Page.{IsPage, IsPageOf}
 
 pub reported_plain : (k : BenchState) (info : EntryInfo) (old new : Option (List ℕ)) → IsKeptRight k

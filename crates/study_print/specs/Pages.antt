@@ -11,14 +11,20 @@ use Rattle.study_report.specs.Outcome.{Outcome, AreListed, AreListedBefore, Shap
 use Rattle.study_report.specs.Parts.{Fits}
 use Rattle.study_reply.specs.Reasons.{reason_of}
 use Rattle.study_html.specs.Frame.{page_opening, page_closing}
-use Rattle.study_html.specs.Markup.{Markup, text_of}
+use Rattle.study_html.specs.Markup.{IsWellNested}
+use Rattle.study_marks.specs.Edits.{PlainStudy}
+use Rattle.study_entry.specs.declared.entry.EntryInfo.{EntryInfo}
 use Rattle.study_page.specs.Page.{IsPageOf, IsEntry}
 use Rattle.study_page.specs.Lists.{refusal_part, summary_part}
 use Rattle.study_print.specs.declared.pages.EntryCount.{EntryCount}
 use Rattle.study_print.specs.declared.pages.EntryCount.TheVariants.{Nothing, One, Several}
 use Rattle.study_print.specs.Entries.{AreEntries}
 use Rattle.study_print.specs.Refusals.{refusal_name}
-use Rattle.study_print.specs.Remarks.{original_part, remark_text}
+use Rattle.study_print.specs.Remarks.{remark_text}
+
+-- whatever the values are, a page is one element, with the number of its entry
+abbrev pub IsEntryAs : PlainStudy → EntryInfo → List ℕ → Type 0
+IsEntryAs plain info text = IsEntry info.number text
 
 -- a refused line: its number, its text, and the script's reply to it, with the reason in words
 abbrev pub refusal_text : ℕ → List ℕ → List ℕ → List ℕ
@@ -82,26 +88,11 @@ abbrev pub FileFits : List ℕ → Option (List ℕ) → Option (List ℕ) → O
 FileFits script left old new answer =
     ((answer ≡ Err WriteDevice) × TakesPrefix old new page_opening)
     ⊎ ((begun ended : Option (List ℕ)) × (ran : Result Summary RunFault) × (count : EntryCount) × (rows : List ℕ) × Appends old begun page_opening
-    × Fits (λ plain. IsEntry) refusal_text remark_text empty script left begun ended ran × IsEnded (end_text count rows) ended new ran answer)
+    × Fits IsEntryAs refusal_text remark_text empty script left begun ended ran × IsEnded (end_text count rows) ended new ran answer)
 
--- markup, and between it paragraphs of original texts, which may have letters outside ASCII
-pub data Body : Type 0 where
-  nothing : Body
-  markup : Markup → Body → Body
-  original : List ℕ → Body → Body
-
-abbrev pub body_text : Body → List ℕ
-body_text nothing = []
-body_text (markup tree rest) = text_of tree ++ body_text rest
-body_text (original line rest) = original_part line ++ body_text rest
-
--- the text is that of such a body: each element that is opened is closed, in order, and text from outside is in it only as words
-abbrev pub IsBody : List ℕ → Type 0
-IsBody text = (body : Body) × (text ≡ body_text body)
-
--- a whole file: between the opening and the closing all is well nested
+-- a whole file: between the opening and the closing all is well nested, and text from outside is in it only as words
 abbrev pub IsWholeFile : Option (List ℕ) → Option (List ℕ) → Type 0
-IsWholeFile old new = (text : List ℕ) × IsBody text × Appends old new (page_opening ++ (text ++ page_closing))
+IsWholeFile old new = (text : List ℕ) × IsWellNested text × Appends old new (page_opening ++ (text ++ page_closing))
 
 -- A file is whole, whatever is held and whatever its tables say, unless its writer failed or there was no memory: a run that stops at a fault of its
 -- script closes the file, too.

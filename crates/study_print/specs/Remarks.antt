@@ -1,10 +1,13 @@
 -- The remarks of an imported script on printed pages.
-use Rattle.std.specs.Prelude.{ℕ, ◌+◌, ◌/◌, ◌%◌, nat_le, List, [], ◌∷◌, ◌++◌, drop, if◌then◌else◌, codes, decimal}
-use Rattle.std.specs.List.{flat_map}
-use Rattle.study_games.specs.Characters.{is_utf8}
-use Rattle.study_html.specs.declared.element.Element.TheVariants.{Warning}
-use Rattle.study_html.specs.Escape.{escaped_text}
+use Rattle.std.specs.Prelude.{ℕ, Bool, true, false, List, [], ◌++◌, drop, Option, Some, if◌then◌else◌, codes, decimal}
+use Rattle.study_html.specs.declared.element.Element.TheVariants.{Note, Warning}
+use Rattle.study_html.specs.Escape.{escaped_text, lettered_text}
 use Rattle.study_html.specs.Elements.{element_text}
+use Rattle.study_head.specs.Known.{in_utf8}
+use Rattle.study_remark.specs.declared.remark.Original.{Original}
+use Rattle.study_remark.specs.declared.remark.Original.TheVariants as original
+use Rattle.study_remark.specs.Remarks.{Told, original_of}
+use Rattle.study_remark.specs.Reading.{remark_in}
 use Rattle.study_report.specs.Remarks.{is_left_out, is_not_read, subject, statement}
 use Rattle.study_print.specs.LeftOut.{explanation}
 
@@ -33,23 +36,27 @@ not_read_words line =
 unfoldable pub not_read_part : List ℕ → List ℕ
 not_read_part line = element_text Warning (escaped_text (codes "The game is read only up to here: ") ++ not_read_words line)
 
--- a byte of a text in UTF-8: ASCII as in all words, and other letters as they are
-abbrev pub letter : ℕ → List ℕ
-letter b = if nat_le 128 b then b ∷ [] else escaped_text (b ∷ [])
+-- what else an import says of a block, in its own letters: `not taken over: comments 9`, `Black was: Вильнев`
+unfoldable pub note_part : List ℕ → List ℕ
+note_part line = element_text Note (lettered_text (in_utf8 (drop 3 line)))
 
--- a byte of a text in Latin 1, as UTF-8
-abbrev pub latin_letter : ℕ → List ℕ
-latin_letter b = if nat_le 160 b then (192 + b / 64) ∷ (128 + b % 64) ∷ [] else escaped_text (b ∷ [])
+-- each tag but Black stands in the head of a page
+abbrev pub stands_in_head : Original → Bool
+stands_in_head original.Black = false
+stands_in_head _ = true
 
--- a text is UTF-8 if all of it is, else Latin 1
-unfoldable pub printed_text : List ℕ → List ℕ
-printed_text text = if is_utf8 text then flat_map letter text else flat_map latin_letter text
+-- the original of such a tag, which stands there in its own letters
+abbrev pub says_name : Option Told → Bool
+says_name (Some (original_of name text)) = stands_in_head name
+says_name _ = false
 
--- `White was: Réti, Richard`
-unfoldable pub original_part : List ℕ → List ℕ
-original_part line = codes "<p class=\"note\">" ++ (printed_text (drop 3 line) ++ codes "</p>")
+abbrev pub is_name : List ℕ → Bool
+is_name line = says_name (remark_in line)
+
+abbrev pub note_text : List ℕ → List ℕ
+note_text line = if is_name line then [] else note_part line
 
 -- the paragraph of a remark; a game that was left out is the entry with this number
 abbrev pub remark_text : ℕ → List ℕ → List ℕ
 remark_text number line =
-    if is_left_out line then left_out_part number line else (if is_not_read line then not_read_part line else original_part line)
+    if is_left_out line then left_out_part number line else (if is_not_read line then not_read_part line else note_text line)

@@ -7,7 +7,7 @@ use crate::remarks::write_remark;
 use crate::watch::Watch;
 use std::alloc::Allocator;
 use std::io::Write;
-use study_facts::EntryInfo;
+use study_entry::EntryInfo;
 use study_html::Html;
 use study_marks::Bench;
 use study_page::{Listed, write_page};
@@ -64,14 +64,14 @@ impl<'s, S: Allocator, N: Watch> Pages<'s, S, N> {
 }
 
 impl<'s, S: Allocator, N: Watch> Report for Pages<'s, S, N> {
-    ghost use Rattle.study_page.specs.Page.{IsPageOf, IsEntry};
+    ghost use Rattle.study_page.specs.Page.{IsPageOf};
     ghost use Rattle.study_print.specs.Entries.{AreEntries};
-    ghost use Rattle.study_print.specs.Pages.{refusal_text};
+    ghost use Rattle.study_print.specs.Pages.{IsEntryAs, refusal_text};
     ghost use Rattle.study_print.specs.Remarks.{remark_text};
 
     ghost tells = { λ plain info text. IsPageOf plain info text };
 
-    ghost form = { λ plain number text. IsEntry number text };
+    ghost form = { λ plain info text. IsEntryAs plain info text };
 
     ghost refusal = { λ number line reply. refusal_text number line reply };
 
@@ -91,10 +91,11 @@ impl<'s, S: Allocator, N: Watch> Report for Pages<'s, S, N> {
             alloc: self.alloc,
             rows: &self.rows,
         };
+        let number = info.number;
         let rows = write_page(alloc, bench, values, info, list, out)?;
         self.rows = rows;
         self.count = self.count.next();
-        self.watch.report(info.number);
+        self.watch.report(number);
         Ok(())
     }
 

@@ -1,17 +1,17 @@
 //! The remarks of an imported script as paragraphs.
-ghost use Rattle.std.specs.Prelude.{◌≡◌, ◌∷◌, ◌++◌, [], Err, OnOk, IfOk};
-ghost use Rattle.std.specs.List.{flat_map};
+ghost use Rattle.std.specs.Prelude.{◌≡◌, ◌++◌, Err, OnOk, IfOk};
 ghost use Rattle.std.specs.Io.KnownBytes.{Appends};
 ghost use Rattle.study_text.specs.Taken.{TakesPrefix};
 ghost use Rattle.study_html.specs.Escape.{escaped_text};
 ghost use Rattle.study_print.specs.Remarks.{entry_words, left_out_words, left_out_part, fault_words, not_read_words, not_read_part};
-ghost use Rattle.study_print.specs.Remarks.{letter, latin_letter, printed_text, original_part, remark_text};
+ghost use Rattle.study_print.specs.Remarks.{note_part, stands_in_head, is_name, note_text, remark_text};
 
 use crate::left_out::say_explanation;
 use std::alloc::{AllocError, Allocator};
 use std::io::Write;
-use study_games::is_utf8;
-use study_html::{Element, Html};
+use study_head::add_in_utf8;
+use study_html::{Element, Html, put_letters};
+use study_remark::{Original, Remark, read_remark};
 use study_report::{WriteFault, behind, is_left_out, is_not_read, statement, subject};
 use study_text::{Text, write_text};
 
@@ -123,117 +123,55 @@ fn write_not_read<'a, A: Allocator, W: Write>(
     Ok(())
 }
 
-/// Adds a byte as words, which are never read as markup.
-fn add_said<'a, A: Allocator>(
-    alloc: &'a A,
-    text: &mut Text<'_, A>,
-    byte: u8,
-) -> Result<(), AllocError>
-    ensures { OnOk result (text.new ≡ text.old ++ escaped_text (byte ∷ [])) }
+/// The paragraph of what else an import says of a block.
+#[tactic(auto, unfolding(crate::specs::Remarks::note_part))]
+fn note_of<'a, A: Allocator>(alloc: &'a A, line: &[u8]) -> Result<Html<'a, A>, AllocError>
+    ensures { IfOk result (λ html. html ≡ note_part line.now) }
 {
     let mut html = Html::new(alloc);
-    html.say(&[byte])?;
-    text.add(html.as_slice())
+    let mut words = Text::new(alloc);
+    add_in_utf8(&mut words, behind(line, 3))?;
+    put_letters(alloc, &mut html, Element::Note, words.as_slice())?;
+    Ok(html)
 }
 
-/// Adds a byte of a text in UTF-8.
-fn add_letter<'a, A: Allocator>(
-    alloc: &'a A,
-    text: &mut Text<'_, A>,
-    byte: u8,
-) -> Result<(), AllocError>
-    ensures { OnOk result (text.new ≡ text.old ++ letter byte) }
+/// Whether a tag stands in the head of a page.
+fn stands_in_head(name: Original) -> bool
+    ensures { result ≡ stands_in_head name }
 {
-    if 128 <= byte {
-        return text.add(&[byte]);
+    match name {
+        Original::Black => false,
+        _ => true,
     }
-    add_said(alloc, text, byte)
 }
 
-/// Adds a byte of a text in Latin 1, as UTF-8.
-fn add_latin_letter<'a, A: Allocator>(
-    alloc: &'a A,
-    text: &mut Text<'_, A>,
-    byte: u8,
-) -> Result<(), AllocError>
-    ensures { OnOk result (text.new ≡ text.old ++ latin_letter byte) }
+/// Whether the line is the original of a tag that stands in the head of a page.
+fn is_name(line: &[u8]) -> bool
+    ensures { result ≡ is_name line.now }
 {
-    if 160 <= byte {
-        return text.add(&[192 + byte / 64, 128 + byte % 64]);
+    match read_remark(line) {
+        Some(Remark::Original(name, _)) => stands_in_head(name),
+        _ => false,
     }
-    add_said(alloc, text, byte)
 }
 
-fn add_letters<'a, A: Allocator>(
-    alloc: &'a A,
-    text: &mut Text<'_, A>,
-    bytes: &[u8],
-) -> Result<(), AllocError>
-    ensures { OnOk result (text.new ≡ text.old ++ flat_map letter bytes.now) }
-{
-    for byte in bytes {
-        add_letter(alloc, text, *byte)?;
-    }
-    Ok(())
-}
-
-fn add_latin_letters<'a, A: Allocator>(
-    alloc: &'a A,
-    text: &mut Text<'_, A>,
-    bytes: &[u8],
-) -> Result<(), AllocError>
-    ensures { OnOk result (text.new ≡ text.old ++ flat_map latin_letter bytes.now) }
-{
-    for byte in bytes {
-        add_latin_letter(alloc, text, *byte)?;
-    }
-    Ok(())
-}
-
-/// Adds a text in its own letters.
-#[tactic(auto, unfolding(crate::specs::Remarks::printed_text))]
-fn add_spelled<'a, A: Allocator>(
-    alloc: &'a A,
-    text: &mut Text<'_, A>,
-    bytes: &[u8],
-) -> Result<(), AllocError>
-    ensures { OnOk result (text.new ≡ text.old ++ printed_text bytes.now) }
-{
-    if is_utf8(bytes) {
-        return add_letters(alloc, text, bytes);
-    }
-    add_latin_letters(alloc, text, bytes)
-}
-
-/// Adds the paragraph with the original text of a tag.
-#[tactic(auto, unfolding(crate::specs::Remarks::original_part))]
-fn add_original<'a, A: Allocator>(
-    alloc: &'a A,
-    text: &mut Text<'_, A>,
-    line: &[u8],
-) -> Result<(), AllocError>
-    ensures { OnOk result (text.new ≡ text.old ++ original_part line.now) }
-{
-    text.add(b"<p class=\"note\">")?;
-    add_spelled(alloc, text, behind(line, 3))?;
-    text.add(b"</p>")
-}
-
-/// Writes the paragraph with the original text of a tag.
-fn write_original<'a, A: Allocator, W: Write>(
+/// Writes the paragraph of what else an import says of a block, unless it stands in the head of a page.
+fn write_note<'a, A: Allocator, W: Write>(
     alloc: &'a A,
     line: &[u8],
     out: &mut W,
 ) -> Result<(), WriteFault>
     ensures ok { OnOk result
-        (Appends (W.contents out.old) (W.contents out.new) (original_part line.now)) }
+        (Appends (W.contents out.old) (W.contents out.new) (note_text line.now)) }
     ensures device { result ≡ Err WriteFault.Device
-        → TakesPrefix (W.contents out.old) (W.contents out.new) (original_part line.now) }
+        → TakesPrefix (W.contents out.old) (W.contents out.new) (note_text line.now) }
     ensures memory { result ≡ Err WriteFault.OutOfMemory → out.new ≡ out.old }
 {
-    let mut text = Text::new(alloc);
-    add_original(alloc, &mut text, line)?;
-    write_text(out, text.as_slice())?;
+    if is_name(line) {
+        return Ok(());
+    }
+    let html = note_of(alloc, line)?;
+    write_text(out, html.as_slice())?;
     Ok(())
 }
 
@@ -256,5 +194,5 @@ pub fn write_remark<'a, A: Allocator, W: Write>(
     if is_not_read(line) {
         return write_not_read(alloc, line, out);
     }
-    write_original(alloc, line, out)
+    write_note(alloc, line, out)
 }

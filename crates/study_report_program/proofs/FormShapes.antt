@@ -30,7 +30,7 @@ none_reported Sheet (Some script) left out = (inr (Err OutOfMemory, not_begun sc
 none_reported AList (Some script) left out = (inr (not_begun script left), inl (refl, refl))
 
 pub lines_reported : (script left old new : Option (List ℕ)) (answer : Result Summary RunFault) → IfSome script (λ bytes. Shape bytes left answer)
-    → IfSome script (λ bytes. Fits (λ plain. IsReviewForm) (λ number line reply. refusal_line number reply) review_remark empty bytes left old new answer) → HasReported
+    → IfSome script (λ bytes. Fits IsReviewForm (λ number line reply. refusal_line number reply) review_remark empty bytes left old new answer) → HasReported
     Lines script left old new answer
 lines_reported None left old new answer shape fits = tt
 lines_reported (Some script) left old new answer shape fits = (shape, fits)

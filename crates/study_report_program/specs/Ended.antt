@@ -27,7 +27,7 @@ FormShape AList script left answer = ListShape script left answer
 -- refusals of a sheet, or records
 abbrev pub FormFits : Form → List ℕ → Option (List ℕ) → Option (List ℕ) → Option (List ℕ) → Result Summary RunFault → Type 0
 FormFits Lines script left old new answer =
-    Fits (λ plain. IsReviewForm) (λ number line reply. refusal_line number reply) review_remark empty script left old new answer
+    Fits IsReviewForm (λ number line reply. refusal_line number reply) review_remark empty script left old new answer
 FormFits Pages script left old new answer = ((answer ≡ Err OutOfMemory) × (new ≡ old)) ⊎ FileFits script left old new answer
 FormFits Sheet script left old new answer = ((answer ≡ Err OutOfMemory) × (new ≡ old)) ⊎ SheetFits script left old new answer
 FormFits AList script left old new answer = ((answer ≡ Err OutOfMemory) × (new ≡ old)) ⊎ ListFits script left old new answer

@@ -15,11 +15,11 @@ use Rattle.study_print.specs.Pages.{refusal_text, IsEnded, FileShape}
 use Rattle.study_print.proofs.FileWritten.{whole_shape, no_shape}
 use Rattle.study_command.specs.Documents.{empty}
 use Rattle.study_page.specs.Sheet.{IsPlaceOf}
-use Rattle.study_sheet.specs.Sheet.{IsPlaceAs, IsSheet, SheetFits}
+use Rattle.study_sheet.specs.Sheet.{IsSheet, SheetFits}
 
 module _ (left old begun ended new : Option (List ℕ)) (answer : Result Summary RunFault) where
   pub whole_sheet : (first : State) (given : Option (List ℕ)) (ran : Result Summary RunFault) → Appends old begun sheet_opening
-      → IfSome given (λ bytes. Outcome IsPlaceAs refusal_text no_remark first bytes left begun ended ran) → IsEnded page_closing ended new ran answer
+      → IfSome given (λ bytes. Outcome IsPlaceOf refusal_text no_remark first bytes left begun ended ran) → IsEnded page_closing ended new ran answer
       → IfSome given (λ bytes. IsSheet first bytes left old new answer)
   whole_sheet first None ran opened reported end = tt
   whole_sheet first (Some script) ran opened reported end = inr (begun, ended, ran, opened, reported, end)

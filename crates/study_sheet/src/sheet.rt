@@ -1,7 +1,7 @@
 //! A report as a sheet of diagrams.
 use std::alloc::Allocator;
 use std::io::Write;
-use study_facts::EntryInfo;
+use study_entry::EntryInfo;
 use study_marks::Bench;
 use study_page::write_place;
 use study_print::write_refused;
@@ -17,11 +17,10 @@ impl Report for Sheet {
     ghost use Rattle.study_report.specs.Lines.{no_remark};
     ghost use Rattle.study_print.specs.Pages.{refusal_text};
     ghost use Rattle.study_page.specs.Sheet.{IsPlaceOf};
-    ghost use Rattle.study_sheet.specs.Sheet.{IsPlaceAs};
 
-    ghost tells = { λ plain info text. IsPlaceAs plain info text };
+    ghost tells = { λ plain info text. IsPlaceOf plain info text };
 
-    ghost form = { λ plain number text. IsPlaceOf plain number text };
+    ghost form = { λ plain info text. IsPlaceOf plain info text };
 
     ghost refusal = { λ number line reply. refusal_text number line reply };
 
@@ -39,7 +38,7 @@ impl Report for Sheet {
         info: EntryInfo,
         out: &mut W,
     ) -> Result<(), ReviewFault> {
-        match write_place(alloc, bench, info.number, out) {
+        match write_place(alloc, bench, info, out) {
             Ok(()) => Ok(()),
             Err(WriteFault::OutOfMemory) => Err(ReviewFault::OutOfMemory),
             Err(WriteFault::Device) => Err(ReviewFault::Device),

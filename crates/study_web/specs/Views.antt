@@ -8,7 +8,7 @@ use Rattle.study_command.specs.Lines.{script_lines}
 use Rattle.study_values.specs.declared.fault.SourceFault.{SourceFault}
 use Rattle.study_values.specs.Values.{ValueSource}
 use Rattle.study_values.specs.declared.values.ProbeFault.{ProbeFault}
-use Rattle.study_facts.specs.declared.entry.EntryInfo.{EntryInfo}
+use Rattle.study_entry.specs.declared.entry.EntryInfo.{EntryInfo}
 use Rattle.study_facts.specs.Asked.{Stopped, within}
 use Rattle.study_script.specs.declared.store.StoreFault.{StoreFault}
 use Rattle.study_command.specs.Documents.{Document, empty, start, study}

@@ -2,7 +2,8 @@
 
 use std::alloc::Allocator;
 use std::io::Write;
-use study_facts::{EntryInfo, ReviewFault};
+use study_entry::EntryInfo;
+use study_facts::ReviewFault;
 use study_marks::Bench;
 use study_reply::LineRefusal;
 use study_report::{Lines, Report, WriteFault};
@@ -19,7 +20,7 @@ impl Report for Refusals {
 
     ghost tells = { λ plain info text. tells_nothing plain info text };
 
-    ghost form = { λ plain number text. text ≡ [] };
+    ghost form = { λ plain info text. text ≡ [] };
 
     ghost refusal = { λ number line reply. refusal_line number reply };
 
