@@ -19,6 +19,7 @@ import os
 import re
 import subprocess
 import sys
+import unicodedata
 
 TOP = os.path.abspath(os.path.join(os.path.dirname(os.path.abspath(__file__)), "..", ".."))
 EXAMPLES = os.path.join(TOP, "examples")
@@ -154,6 +155,7 @@ class Study:
     def __init__(self, pgn, facts):
         self.tags = dict(re.findall(r'^\[(\w+) "(.*)"\]$', pgn, re.M))
         self.unread = None  # the first line of it that was refused
+        self.names = {}  # the originals of its tags
         self.fen = self.tags["FEN"]
         fields = self.fen.split()
         self.number = int(fields[5])
@@ -372,14 +374,41 @@ def counts(position):
 
 # ---- the parts of a page
 
+CYRILLIC = dict(zip("абвгдезийклмнопрстуфхцъыьэё", "a b v g d e z i j k l m n o p r s t u f kh c ' y ' e yo".split()),
+                ж="zh", ч="ch", ш="sh", щ="shch", ю="yu", я="ya", і="i", ї="yi", є="ye", ў="u")
+OTHERS = {"ß": "ss", "æ": "ae", "ø": "o", "ł": "l", "đ": "d", "ð": "d", "þ": "th", "œ": "oe", "ı": "i", "½": "1/2"}
+
+
+def plain_letter(letter):
+    """The plain letters for one letter of a name."""
+    small = letter.lower()
+    if found := CYRILLIC.get(small) or OTHERS.get(small):
+        return found if letter == small else found[0].upper() + found[1:]
+    bare = unicodedata.normalize("NFKD", letter)[0]
+    return bare if " " <= bare <= "~" else "?"
+
+
+def plain(original):
+    """What studyimport writes for the text of a tag, read as bytes."""
+    try:
+        text = original.encode("latin-1").decode("utf-8")
+    except UnicodeDecodeError:
+        text = original
+    return "".join(map(plain_letter, text)).strip()[:60].strip()
+
+
+def printed(study, name):
+    """What is printed for a tag, as HTML: its own letters, if the tag is what studyimport makes of them; nothing if it is not known."""
+    tag, original = study.tags[name], study.names.get(name)
+    if original and plain(original) == tag:
+        return in_its_letters(original)
+    return "" if tag in ("?", "????.??.??") else say(tag)
+
+
 def head(study):
-    known = {name: study.tags[name] for name in ("Event", "White", "Site", "Date", "Round")
-             if study.tags[name] not in ("?", "????.??.??")}
-    known["Date"] = re.sub(r"(\.\?\?){1,2}$", "", known.get("Date", ""))
-    by = [say(known[name]) for name in ("White", "Site", "Date") if known.get(name)]
-    if "Round" in known:
-        by.append("entry " + say(known["Round"]))
-    return inside("header", inside("h1", say(known.get("Event", "Untitled"))) + inside("p", " &#183; ".join(by), 'class="by"'))
+    by = [printed(study, "White"), printed(study, "Site"), re.sub(r"(\.\?\?){1,2}$", "", printed(study, "Date"))]
+    by.append("entry " + printed(study, "Round") if printed(study, "Round") else "")
+    return inside("header", inside("h1", printed(study, "Event") or "Untitled") + inside("p", " &#183; ".join(filter(None, by)), 'class="by"'))
 
 
 def figure(study):
@@ -758,9 +787,8 @@ def summary(entries):
         if isinstance(study, str):
             rows += left_out_row(study, number)
             continue
-        event = study.tags["Event"] if study.tags["Event"] != "?" else "Untitled"
-        white = study.tags["White"] if study.tags["White"] != "?" else ""
-        rows += inside("tr", inside("td", str(number)) + inside("td", inside("a", say(event), f'href="#e{number}"')) + inside("td", say(white))
+        event, white = printed(study, "Event") or "Untitled", printed(study, "White")
+        rows += inside("tr", inside("td", str(number)) + inside("td", inside("a", event, f'href="#e{number}"')) + inside("td", white)
                        + inside("td", say(study.asked)) + verdict_cell(judged(study)))
     heads = "".join(inside("th", h) for h in ("No.", "Title", "Author", "Stipulation", "Verdict"))
     return inside("article", inside("header", inside("h1", "Entries and verdicts"))
@@ -862,12 +890,12 @@ def meaning(line):
 
 def remark(line, number):
     """The paragraph of a comment of studyimport: a game without a block, which is the entry with this number, one that was read only up to a fault, the
-    original text of a tag, or what a block does not have. Other comments have none."""
+    original of the tag Black, which no head shows, or what a block does not have. Other comments have none."""
     if is_left_out(line):
         return inside("p", say(f"No page for entry {number}: {line[3:]}{meaning(line)}"), 'class="warn"')
     if is_not_read(line):
         return inside("p", say(f"The game is read only up to here: {line[3:].replace(': not read', '', 1)}{meaning(line)}"), 'class="warn"')
-    if re.match(r"#! ((Event|Site|Date|Round|White|Black) was: |(not taken over|behind the result|a tail): |the stipulation )", line):
+    if re.match(r"#! (Black was: |(not taken over|behind the result|a tail): |the stipulation )", line):
         return inside("p", in_its_letters(line[3:]), 'class="note"')
     return ""
 
@@ -900,6 +928,19 @@ QUESTIONS = "mark moves fen solve pgn build load save verify".split()
 ALL_READ = (None, None, False)
 
 
+def names_after(names, line, refused):
+    """The originals of the tags of the study in the document, and of the next one, after this line."""
+    own, ahead = names
+    if match := re.match(r"#! (Event|Site|Date|Round|White) was: (.*)", line):
+        return own, {**ahead, match[1]: match[2]}
+    if re.match(r"#! tail (?!1 of )", line):
+        return own, own
+    word = (line.split() or [""])[0]
+    if word == "position" and not refused:
+        return ahead, {}
+    return own, {} if word == "pgn" else ahead
+
+
 def unread_after(unread, number, line, refused):
     """The line for which the study in the document is not read, that for which the next one is not, and whether the study was reported, after this line:
     questions and lines of tables are of no study."""
@@ -920,6 +961,7 @@ def part(studies, number, script, refused, tags, count):
     out, games = "", []
     for n, line in enumerate(script, 1):
         tags["unread"] = unread_after(tags.get("unread", ALL_READ), n + number, line, n in refused)
+        tags["names"] = names_after(tags.get("names", ({}, {})), line, n in refused)
         if n in refused:
             out += refusal(n + number, line, refused[n])
         elif line.startswith("#"):
@@ -933,15 +975,16 @@ def part(studies, number, script, refused, tags, count):
             study = studies.pop(0)
             study.tags.update(tags)
             study.unread = tags["unread"][0]
+            study.names = tags["names"][0]
             count += 1
             yield study, count, out, games
             out, games = "", []
     yield None, count, out, games
 
 
-def expected_file(names, more=()):
-    """The file of pages of gallery scripts one after the other, and then of lines that are refused, each with its name."""
-    texts = [(read(EXAMPLES, name + ".script"), read(EXAMPLES, name + ".lines"), read(EXAMPLES, name + ".expected")) for name in names]
+def expected_file(names, more=(), front=""):
+    """The file of pages of some lines without a study, of gallery scripts one after the other, and then of lines that are refused, each with its name."""
+    texts = [(front, "", "")] + [(read(EXAMPLES, name + ".script"), read(EXAMPLES, name + ".lines"), read(EXAMPLES, name + ".expected")) for name in names]
     return file_of(texts, more)
 
 
@@ -1043,6 +1086,8 @@ def check(tables, names):
 
 
 GATE = ["kqk_stalemate_duals"]
+# Above the position: the original of a tag, and that of one which the study gets later.
+GATE_FRONT = "#! Event was: B\xe9ware of stalemate\n#! White was: \xd0\x96\xd1\x83\xd0\xba <b>\n"
 # In the folder are the tables of KQK and KBK, and none of KK.
 GATE_MORE = [
     ("# Lines that are refused, and remarks of studyimport.", None),
@@ -1056,7 +1101,9 @@ GATE_MORE = [
     ("# White was: a comment by hand", None),
     ("#! the stipulation differs from its tag Result", None),
     ("#! White was: <b>Caf\xe9", None),
-    ("#! Event was: \xd0\x9c\xd0\xb0\xd1\x82 & \"", None),
+    ("#! Black was: <b>Caf\xe9", None),
+    ("#! Black was: \xd0\x9c\xd0\xb0\xd1\x82 & \"", None),
+    ("tag White Zhuk <b>", None),
     ("pgn", "again"),
     ("#! game 3, line 31 (Kasparyan, G.): left out: 7 men", None),
     ("#! game 4, line 52, column 17: NoSuchMove at Kb6", None),
@@ -1102,8 +1149,8 @@ if __name__ == "__main__":
                        + refusal(7, "insert root <b>\xe9", "BadByte", "a letter outside plain ASCII & 'so'") + summary(two) + "</body></html>\n")
         crate = os.path.join(TOP, "crates/studyreport")
         with open(os.path.join(crate, "stdin"), "w", encoding="latin-1") as file:
-            file.write("".join(read(EXAMPLES, name + ".script") for name in GATE) + "".join(line + "\n" for line, _ in GATE_MORE))
+            file.write(GATE_FRONT + "".join(read(EXAMPLES, name + ".script") for name in GATE) + "".join(line + "\n" for line, _ in GATE_MORE))
         with open(os.path.join(crate, "stdout"), "w", encoding="latin-1") as file:
-            file.write(expected_file(GATE, GATE_MORE))
+            file.write(expected_file(GATE, GATE_MORE, GATE_FRONT))
     else:
         sys.exit(__doc__)

@@ -11,6 +11,8 @@ mod late;
 #[cfg(test)]
 mod list;
 #[cfg(test)]
+mod names;
+#[cfg(test)]
 mod numbers;
 #[cfg(test)]
 mod old_remarks;

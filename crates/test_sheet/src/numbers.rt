@@ -109,7 +109,7 @@ fn a_game_that_is_read_up_to_a_fault_has_no_verdict(rt: HostRuntime) -> Result<(
     assert!(rt;
         behind.starts_with(
             "<p class=\"warn\">The game is read only up to here: game 2, line 14, column 12 (Kling, J.): \
-NoSuchMove at &lt;Kb6&gt;: no legal move of this position</p><p class=\"note\">White was: Kling</p><article id=\"e2\">"
+NoSuchMove at &lt;Kb6&gt;: no legal move of this position</p><article id=\"e2\">"
         )
     );
     let (page, _) = behind.split_once("</article>").unwrap_or(("", ""));

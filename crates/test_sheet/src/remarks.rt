@@ -8,12 +8,13 @@ use study_print::{Unwatched, write_pages};
 use study_script::{RunFault, Summary};
 use study_text::{MemoryReader, MemoryWriter, WhenFull};
 
-/// Each remark that is shown, comments that are not, and a refused line.
+/// Each remark that is shown, comments that are not, among them originals that stand in the head of a page, and a refused line.
 const SCRIPT: &str = "#! game 1, line 1: stipulated by its tag Result
 #! not taken over: comments 2
 #! behind the result: line 9, column 4
 #! White was: Réti, Richard
-#! Event was: <b> & \"Ж\"
+#! Event was: Etude
+#! Black was: <b> & \"Ж\"
 #! the stipulation differs from its tag Result
  #! Site was: Prague
 #! Whites was: R
@@ -36,9 +37,9 @@ delete 7
 /// The text between the opening and the closing.
 const REMARKS: &str =
     "<p class=\"note\">not taken over: comments 2</p><p class=\"note\">behind the result: line 9, column 4</p>\
-<p class=\"note\">White was: Réti, Richard</p><p class=\"note\">Event was: &lt;b&gt; &amp; &quot;Ж&quot;</p>\
+<p class=\"note\">Black was: &lt;b&gt; &amp; &quot;Ж&quot;</p>\
 <p class=\"note\">the stipulation differs from its tag Result</p>\
-<p class=\"warn\">Line 11 was refused: <code>delete 7</code> <b>NoStudy</b>: no stipulation yet</p>\
+<p class=\"warn\">Line 12 was refused: <code>delete 7</code> <b>NoStudy</b>: no stipulation yet</p>\
 <p class=\"warn\">No page for entry 1: game 2, line 31: left out: 7 men</p>\
 <p class=\"warn\">No page for entry 2: game 3, line 52, column 17: NoSuchMove at Kb6: no legal move of this position</p>\
 <p class=\"warn\">No page for entry 3: game 4, line 60: StipulationUnread at its comment: a stipulation that is not understood</p>\
@@ -53,7 +54,7 @@ const REMARKS: &str =
 
 /// A script of version 1.7.
 pub const OLD: &[u8] = b"# game 1, line 1: stipulated by its tag Result
-# White was: R\xc3\xa9ti
+# Black was: R\xc3\xa9ti
 #! Black was: Pog
  # Site was: Prague
 #Date was: 1921
@@ -65,7 +66,7 @@ pgn # Event was: x
 
 /// The same as studyimport writes it today.
 pub const NEW: &[u8] = b"#! game 1, line 1: stipulated by its tag Result
-#! White was: R\xc3\xa9ti
+#! Black was: R\xc3\xa9ti
 #! Black was: Pog
  # Site was: Prague
 #Date was: 1921
@@ -105,7 +106,7 @@ fn remarks_are_printed(rt: HostRuntime) -> Result<(), Fail> {
     let (_, pages) = text.split_once("</defs></svg>\n").unwrap_or(("", ""));
     assert!(rt; pages == REMARKS);
     let wanted = Summary {
-        lines: 22,
+        lines: 23,
         refused: 1,
     };
     assert_eq!(rt; answer, Ok(wanted));
@@ -117,10 +118,10 @@ fn remarks_are_printed(rt: HostRuntime) -> Result<(), Fail> {
 fn an_original_may_be_latin_1(rt: HostRuntime) -> Result<(), Fail> {
     let alloc = rt.alloc();
     let writer = MemoryWriter::new(&alloc);
-    let (text, _) = pages_to(&rt, &alloc, b"#! White was: R\xE9ti \x80\xFF\n", writer);
+    let (text, _) = pages_to(&rt, &alloc, b"#! Black was: R\xE9ti \x80\xFF\n", writer);
     let text = std::str::from_utf8(text.as_slice()).unwrap_or("no text");
     let (_, pages) = text.split_once("</defs></svg>\n").unwrap_or(("", ""));
-    assert!(rt; pages == "<p class=\"note\">White was: Réti \\x80ÿ</p></body></html>\n");
+    assert!(rt; pages == "<p class=\"note\">Black was: Réti \\x80ÿ</p></body></html>\n");
     Ok(())
 }
 
