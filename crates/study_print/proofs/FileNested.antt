@@ -128,7 +128,8 @@ summary_nested Several rows h = list_nested rows h
 -- ---- the file
 
 module _ (old begun ended new : Option (List ℕ)) (count : EntryCount) (rows : List ℕ) (nested : IsWellNested rows) where
-  whole : (lines : List (List ℕ)) (refusals : ℕ) → Appends old begun page_opening → AreWritten IsEntryAs refusal_text remark_text empty lines begun ended refusals
+  whole : (lines : List (List ℕ)) (refusals : ℕ) → Appends old begun page_opening
+      → AreWritten IsEntryAs refusal_text remark_text empty lines begun ended refusals
       → Appends ended new (end_text count rows) → IsWholeFile old new
   whole lines refusals opened written closed =
       let parts = parts_text written.0 in

@@ -14,7 +14,8 @@ use Rattle.study_html.specs.Frame.{page_opening}
 use Rattle.study_page.specs.Page.{IsPageOf}
 use Rattle.study_print.specs.declared.pages.EntryCount.{EntryCount}
 use Rattle.study_print.specs.Entries.{AreEntries}
-use Rattle.study_print.specs.Pages.{IsEntryAs, refusal_text, end_text, writer_failed, IsEndedIf, IsEnded, AreItsEntries, IsFile, FileShape, IsAnswerTo, FileFits}
+use Rattle.study_print.specs.Pages.{IsEntryAs, refusal_text, end_text, writer_failed, IsEndedIf, IsEnded}
+use Rattle.study_print.specs.Pages.{AreItsEntries, IsFile, FileShape, IsAnswerTo, FileFits}
 use Rattle.study_print.specs.Remarks.{remark_text}
 
 pub where_ok : {A E : Type 0} (r : Result A E) (P : Type 0) → is_err r ≡ false → OnOk r P → P
@@ -70,7 +71,8 @@ no_shape (Some script) = inl (refl, refl)
 -- ---- what is written, whatever the tables say
 
 pub whole_fits : (left old begun ended new : Option (List ℕ)) (answer : Result Summary RunFault) (count : EntryCount) (rows : List ℕ) (given : Option (List ℕ))
-    (ran : Result Summary RunFault) → Appends old begun page_opening → IfSome given (λ bytes. Fits IsEntryAs refusal_text remark_text empty bytes left begun ended ran)
+    (ran : Result Summary RunFault) → Appends old begun page_opening
+    → IfSome given (λ bytes. Fits IsEntryAs refusal_text remark_text empty bytes left begun ended ran)
     → IsEnded (end_text count rows) ended new ran answer → IfSome given (λ bytes. FileFits bytes left old new answer)
 whole_fits left old begun ended new answer count rows None ran opened fits end = tt
 whole_fits left old begun ended new answer count rows (Some script) ran opened fits end = inr (begun, ended, ran, count, rows, opened, fits, end)

@@ -71,14 +71,16 @@ module _ (form : PlainStudy → EntryInfo → List ℕ → Type 0) (refusal : �
   passed-part k line number next out e =
       (nothing_part, subst (λ (x : LineKind). IsPartAs form refusal remark x number next here line nothing_part) e refl, Appends-nil out, refl)
 
-  pub remark-part : {E : Type 0} (k : LineKind) (line : List ℕ) (number : ℕ) (next : EntryInfo) (r : Result LineOutcome E) (old new : Option (List ℕ)) → Remark ≡ k
+  pub remark-part : {E : Type 0} (k : LineKind) (line : List ℕ) (number : ℕ) (next : EntryInfo) (r : Result LineOutcome E) (old new : Option (List ℕ))
+      → Remark ≡ k
       → IfOk r (RemarkWritten line (remark next.number line) old new) → IfOk r (WritesPart (IsPartAs form refusal remark k number next here line) old new)
   remark-part k line number next r old new e h =
       let part = remark_part form refusal remark next.number line in
       IfOk-weaker r (RemarkWritten line (remark next.number line) old new) (WritesPart (IsPartAs form refusal remark k number next here line) old new)
       (λ reported (t, wrote). (part, subst (λ (x : LineKind). IsPartAs form refusal remark x number next here line part) e refl, wrote, t)) h
 
-  pub no-class-part : {E : Type 0} (k : LineKind) (line : List ℕ) (number : ℕ) (next : EntryInfo) (r : Result LineOutcome E) (old new : Option (List ℕ)) → NoClass ≡ k
+  pub no-class-part : {E : Type 0} (k : LineKind) (line : List ℕ) (number : ℕ) (next : EntryInfo) (r : Result LineOutcome E) (old new : Option (List ℕ))
+      → NoClass ≡ k
       → IfOk r (RefusalWritten (refusal number line (reply_line (codes "error ") (words_of NotAClass))) old new)
       → IfOk r (WritesPart (IsPartAs form refusal remark k number next here line) old new)
   no-class-part k line number next r old new e h =
@@ -87,7 +89,8 @@ module _ (form : PlainStudy → EntryInfo → List ℕ → Type 0) (refusal : �
       (WritesPart (IsPartAs form refusal remark k number next here line) old new)
       (λ reported (t, wrote). (part, subst (λ (x : LineKind). IsPartAs form refusal remark x number next here line part) e refl, wrote, t)) h
 
-  pub part-of-kind : {E : Type 0} (j k : LineKind) (line : List ℕ) (number : ℕ) (next : EntryInfo) (r : Result LineOutcome E) (old new : Option (List ℕ)) → j ≡ k
+  pub part-of-kind : {E : Type 0} (j k : LineKind) (line : List ℕ) (number : ℕ) (next : EntryInfo) (r : Result LineOutcome E) (old new : Option (List ℕ))
+      → j ≡ k
       → IfOk r (WritesPart (IsPartAs form refusal remark j number next here line) old new)
       → IfOk r (WritesPart (IsPartAs form refusal remark k number next here line) old new)
   part-of-kind j k line number next r old new e h =
@@ -102,7 +105,8 @@ module _ (form : PlainStudy → EntryInfo → List ℕ → Type 0) (refusal : �
       (WritesPart (IsPartAs form refusal remark Study number next here line) old new)
       (λ reported (e, wrote). (refused_part form refusal remark number line (reply_line (codes "error ") words), inl (words, refl), wrote, e)) h
 
-  pub refusal-of-reply : {E : Type 0} (line : List ℕ) (number : ℕ) (next : EntryInfo) (bytes : List ℕ) (was : Bool) (r : Result LineOutcome E) (old new : Option (List ℕ))
+  pub refusal-of-reply : {E : Type 0} (line : List ℕ) (number : ℕ) (next : EntryInfo) (bytes : List ℕ) (was : Bool) (r : Result LineOutcome E)
+      (old new : Option (List ℕ))
       → IsReplyPiece line bytes was → was ≡ true → IfOk r (RefusalWritten (refusal number line bytes) old new)
       → IfOk r (WritesPart (IsPartAs form refusal remark Study number next here line) old new)
   refusal-of-reply line number next bytes was r old new (piece, is, b, same) so h =
@@ -126,7 +130,8 @@ module _ (form : PlainStudy → EntryInfo → List ℕ → Type 0) (refusal : �
       go true e = absurd cc
       go false e = refl
 
-  pub checked-refusal : {E : Type 0} (line : List ℕ) (number : ℕ) (next : EntryInfo) (bytes : List ℕ) (was : Bool) (r : Result LineOutcome E) (old new : Option (List ℕ))
+  pub checked-refusal : {E : Type 0} (line : List ℕ) (number : ℕ) (next : EntryInfo) (bytes : List ℕ) (was : Bool) (r : Result LineOutcome E)
+      (old new : Option (List ℕ))
       → IsReplyPiece line bytes was → was ≡ true → IfOk r (RefusalWritten (refusal number line bytes) old new)
       → IfOk r (WritesPart (IsPartAs form refusal remark Checked number next here line) old new)
   checked-refusal line number next bytes was r old new (piece, is, b, same) so h =
@@ -150,7 +155,8 @@ module _ (form : PlainStudy → EntryInfo → List ℕ → Type 0) (refusal : �
   study-in line number next old new (plain, text, at, is, wrote) = (study_part text, inr (plain, text, at, is, refl), wrote, refl)
 
   -- the study is refused
-  pub left-out-part : {E : Type 0} (line : List ℕ) (number : ℕ) (next : EntryInfo) (why : Refusal) (r : Result LineOutcome E) (old mid new : Option (List ℕ)) → mid ≡ old
+  pub left-out-part : {E : Type 0} (line : List ℕ) (number : ℕ) (next : EntryInfo) (why : Refusal) (r : Result LineOutcome E)
+      (old mid new : Option (List ℕ)) → mid ≡ old
       → IfOk r (RefusalWritten (refusal number line (reply_line (codes "error ") (words_of why))) mid new)
       → IfOk r (WritesPart (IsPartAs form refusal remark Study number next here line) old new)
   left-out-part line number next why r old mid new same h =
@@ -236,7 +242,16 @@ module _ (form : PlainStudy → EntryInfo → List ℕ → Type 0) (refusal : �
   pub parts_none : (first : Document) (script out : Option (List ℕ)) → HasParts first first script script out out 0 0 0 none_unread
   parts_none first None out = record { known = tt }
   parts_none first (Some bs) out = record {
-    known = record { left_is = refl; within = omega arith; parts = []; are = refl; written = Appends-nil out; refused_is = refl; entries_are = refl; unread_is = refl };
+    known = record {
+      left_is = refl;
+      within = omega arith;
+      parts = [];
+      are = refl;
+      written = Appends-nil out;
+      refused_is = refl;
+      entries_are = refl;
+      unread_is = refl;
+    };
   }
 
   pub parts_more : (first here there : Document) (script now next old mid new : Option (List ℕ)) (line : List ℕ)
@@ -246,9 +261,12 @@ module _ (form : PlainStudy → EntryInfo → List ℕ → Type 0) (refusal : �
       → refused' ≡ refused + refusal_count reported → entries' ≡ entries + entry_count reported
       → unread' ≡ unread_after unread (n + 1) line reported
       → HasParts first there script next old new (n + 1) refused' entries' unread'
-  parts_more first here there None now next old mid new line n number refused refused' entries entries' unread unread' reported r t at w d k j q = record { known = tt }
-  parts_more first here there (Some bs) None next old mid new line n number refused refused' entries entries' unread unread' reported r t at w d k j q = absurd r.known
-  parts_more first here there (Some bs) (Some rest) None old mid new line n number refused refused' entries entries' unread unread' reported r t at w d k j q = absurd t
+  parts_more first here there None now next old mid new line n number refused refused' entries entries' unread unread' reported r t at w d k j q =
+      record { known = tt }
+  parts_more first here there (Some bs) None next old mid new line n number refused refused' entries entries' unread unread' reported r t at w d k j q =
+      absurd r.known
+  parts_more first here there (Some bs) (Some rest) None old mid new line n number refused refused' entries entries' unread unread' reported r t at w d k j q =
+      absurd t
   parts_more first here there (Some bs) (Some rest) (Some rest') old mid new line n number refused refused' entries entries' unread unread' reported r t at
       (part, is, wrote, same) d k j q =
       let v = r.known in
@@ -261,7 +279,8 @@ module _ (form : PlainStudy → EntryInfo → List ℕ → Type 0) (refusal : �
       let len : length (take n all) ≡ n = length-take-le n all le in
       let at-line : number ≡ suc (0 + length (take n all)) = omega (arith, at, len) in
       let at-entry : entries + 1 ≡ suc (0 + part_entries v.parts) = omega (arith, v.entries_are) in
-      let at-place = subst (λ (u : Unread). IsPart form refusal remark (suc (0 + length (take n all))) (entry (suc (0 + part_entries v.parts)) u.own) here line part)
+      let at-place = subst
+      (λ (u : Unread). IsPart form refusal remark (suc (0 + length (take n all))) (entry (suc (0 + part_entries v.parts)) u.own) here line part)
       v.unread_is
       (subst (λ i. IsPart form refusal remark (suc (0 + length (take n all))) (entry i unread.own) here line part) at-entry
       (subst (λ i. IsPart form refusal remark i (entry (entries + 1) unread.own) here line part) at-line is)) in
@@ -272,7 +291,8 @@ module _ (form : PlainStudy → EntryInfo → List ℕ → Type 0) (refusal : �
           left_is = ap (λ i. drop i all) e ∙ f.2;
           within = omega arith;
           parts = v.parts ++ part ∷ [];
-          are = rw grown (parts-more 0 0 none_unread first here there (take n all) v.parts line part v.are at-place (subst (λ x. IsNext here line x there) same d));
+          are = rw grown (parts-more 0 0 none_unread first here there (take n all) v.parts line part v.are at-place
+              (subst (λ x. IsNext here line x there) same d));
           written = rw (text-more v.parts part) (Appends-trans old mid new (parts_text v.parts) part.text v.written wrote);
           refused_is = k ∙ ap (λ (x : LineOutcome). refused + refusal_count x) same ∙ ap (λ i. i + refusal_count part.reported) v.refused_is
               ∙ sym (sum_by_push (λ (p : Part). refusal_count p.reported) v.parts part);
@@ -297,7 +317,8 @@ module _ (form : PlainStudy → EntryInfo → List ℕ → Type 0) (refusal : �
       let d = none_left (script_lines bs) n v.within (v.left_is ∙ t) in
       (v.parts, last, subst (λ (ls : List (List ℕ)). AreParts form refusal remark 0 0 none_unread first ls v.parts last) d.0 v.are, v.written, v.refused_is)
 
-  pub parts_long : (first last : Document) (left script now old new : Option (List ℕ)) (n refused entries : ℕ) (unread : Unread) → HasParts first last script now old new n refused entries unread
+  pub parts_long : (first last : Document) (left script now old new : Option (List ℕ)) (n refused entries : ℕ) (unread : Unread)
+      → HasParts first last script now old new n refused entries unread
       → IfSome script (λ bytes. Fits form refusal remark first bytes left old new (Err (LineTooLong (n + 1))))
   parts_long first last left None now old new n refused entries unread r = tt
   parts_long first last left (Some bs) None old new n refused entries unread r = absurd r.known
@@ -306,14 +327,16 @@ module _ (form : PlainStudy → EntryInfo → List ℕ → Type 0) (refusal : �
       let e : n + 1 - 1 ≡ n = omega arith in
       (refused, (v.parts, last, rw e v.are, v.written, v.refused_is))
 
-  pub parts_read : (first last : Document) (left script now old new : Option (List ℕ)) (n refused entries : ℕ) (unread : Unread) → HasParts first last script now old new n refused entries unread
+  pub parts_read : (first last : Document) (left script now old new : Option (List ℕ)) (n refused entries : ℕ) (unread : Unread)
+      → HasParts first last script now old new n refused entries unread
       → GaveFeeds script left n → IfSome script (λ bytes. Fits form refusal remark first bytes left old new (Err ReadDevice))
   parts_read first last left None now old new n refused entries unread r g = tt
   parts_read first last left (Some bs) None old new n refused entries unread r g = absurd r.known
   parts_read first last left (Some bs) (Some rest) old new n refused entries unread r g =
       let v = r.known in (n, v.within, g, refused, (v.parts, last, v.are, v.written, v.refused_is))
 
-  pub parts_many : (first last : Document) (left script now old new : Option (List ℕ)) (refused entries : ℕ) (unread : Unread) → HasParts first last script now old new 100000 refused entries unread
+  pub parts_many : (first last : Document) (left script now old new : Option (List ℕ)) (refused entries : ℕ) (unread : Unread)
+      → HasParts first last script now old new 100000 refused entries unread
       → IfSome script (λ bytes. Fits form refusal remark first bytes left old new (Err TooManyLines))
   parts_many first last left None now old new refused entries unread r = tt
   parts_many first last left (Some bs) None old new refused entries unread r = absurd r.known

@@ -108,7 +108,8 @@ module _ (form : PlainStudy → EntryInfo → List ℕ → Type 0) (refusal : �
   -- a part for each of these lines is written, after this document, and so many of them are refusals
   abbrev pub AreWritten : Document → List (List ℕ) → Option (List ℕ) → Option (List ℕ) → ℕ → Type 0
   AreWritten first lines old new count =
-      (parts : List Part) × (last : Document) × AreParts 0 0 none_unread first lines parts last × Appends old new (parts_text parts) × (count ≡ part_refusals parts)
+      (parts : List Part) × (last : Document) × AreParts 0 0 none_unread first lines parts last
+      × Appends old new (parts_text parts) × (count ≡ part_refusals parts)
 
   -- What a report wrote, given the document at the beginning, the bytes of its script, what the reader has left of them, what the writer had and has, and
   -- the result: a part for each line that it read, with as many refusals as it counts. So the result counts no refusal exactly if none was written. If it

@@ -261,7 +261,8 @@ loop-n-preserved g c =
       gone_more (g.R.Read.remaining c.args.script.now) (g.R.Read.remaining c.loop-n.script)
           (g.R.Read.remaining c.read.new.script) line c.loop-n.n c.loop-n.invariant.4 some c.in-Ok-true.ensures.short,
       parts_more g.T.Report.form g.T.Report.refusal g.T.Report.remark (document_seen c.args.session.now.document)
-          (document_seen c.loop-n.session.document) (document_seen c.add_line.new.session.document) (g.R.Read.remaining c.args.script.now) (g.R.Read.remaining c.loop-n.script)
+          (document_seen c.loop-n.session.document) (document_seen c.add_line.new.session.document) (g.R.Read.remaining c.args.script.now)
+          (g.R.Read.remaining c.loop-n.script)
           (g.R.Read.remaining c.read.new.script) (g.W.Write.contents c.args.out.now) mid new line c.loop-n.n (c.loop-n.n + 1)
           c.loop-n.refused _ c.loop-n.entries _ c.loop-n.unread _ reported c.loop-n.invariant.5 some refl
           (rw c.as_slice.ensures at c.in-Ok.ensures.written) (rw c.as_slice.ensures at c.in-Ok.ensures.document)
@@ -288,7 +289,8 @@ returns-in-Ok-false-clause-fits g c =
 
 pub returns-in-Err-clause-fits : goal.returns-in-Err-clause-fits
 returns-in-Err-clause-fits g c =
-    parts_stop g.T.Report.form g.T.Report.refusal g.T.Report.remark (document_seen c.args.session.now.document) (g.R.Read.remaining c.read.new.script) (g.W.Write.contents c.args.out.now)
+    parts_stop g.T.Report.form g.T.Report.refusal g.T.Report.remark (document_seen c.args.session.now.document) (g.R.Read.remaining c.read.new.script)
+    (g.W.Write.contents c.args.out.now)
     (g.W.Write.contents c.add_line.new.out) (g.R.Read.remaining c.args.script.now) c.in-Err.fault c.in-Err.ensures.stops
 
 pub returns-in-Ok-None-clause-fits : goal.returns-in-Ok-None-clause-fits
@@ -299,7 +301,8 @@ returns-in-Ok-None-clause-fits g c =
     let old = g.W.Write.contents c.args.out.now in
     let new = g.W.Write.contents c.loop-n.out in
     let at : c.loop-n.n ≡ 100000 = omega arith in
-    let parts = subst (λ k. HasParts g.T.Report.form g.T.Report.refusal g.T.Report.remark (document_seen c.args.session.now.document) (document_seen c.loop-n.session.document) script now old new k c.loop-n.refused c.loop-n.entries c.loop-n.unread) at
+    let parts = subst (λ k. HasParts g.T.Report.form g.T.Report.refusal g.T.Report.remark (document_seen c.args.session.now.document)
+    (document_seen c.loop-n.session.document) script now old new k c.loop-n.refused c.loop-n.entries c.loop-n.unread) at
     c.loop-n.invariant.5 in
     parts_end g.T.Report.form g.T.Report.refusal g.T.Report.remark (document_seen c.args.session.now.document)
     (document_seen c.loop-n.session.document) (g.R.Read.remaining c.read_byte.new.script) script now (g.R.Read.remaining
@@ -313,7 +316,8 @@ returns-in-Ok-Some-clause-fits g c =
     let old = g.W.Write.contents c.args.out.now in
     let new = g.W.Write.contents c.loop-n.out in
     let at : c.loop-n.n ≡ 100000 = omega arith in
-    let parts = subst (λ k. HasParts g.T.Report.form g.T.Report.refusal g.T.Report.remark (document_seen c.args.session.now.document) (document_seen c.loop-n.session.document) script now old new k c.loop-n.refused c.loop-n.entries c.loop-n.unread) at
+    let parts = subst (λ k. HasParts g.T.Report.form g.T.Report.refusal g.T.Report.remark (document_seen c.args.session.now.document)
+    (document_seen c.loop-n.session.document) script now old new k c.loop-n.refused c.loop-n.entries c.loop-n.unread) at
     c.loop-n.invariant.5 in
     parts_many g.T.Report.form g.T.Report.refusal g.T.Report.remark (document_seen c.args.session.now.document)
     (document_seen c.loop-n.session.document) (g.R.Read.remaining c.read_byte.new.script) script now old new c.loop-n.refused
