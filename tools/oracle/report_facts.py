@@ -533,10 +533,12 @@ class Facts:
                 self.worst = f"{label(path)}: also {other}{more}{', wastes time' if kind == 'time' else ''}{after}"
         for fact in missing:
             path = () if fact[0] == "root" else tuple(map(int, fact[0].split(".")))
-            given = value(path + (0,))
-            if any(path) or given is None or fact[2] != "win" or fact[4] != "1" or "mates" not in given:
+            given, draws = value(path + (0,)), fact[2] == "draw"
+            if any(path) or given is None or fact[3 if draws else 4] != "1" or fact[2] == "loss":
                 continue
-            if moves_of(f"win {fact[3]}") >= moves_of(given) and not elsewhere(path, fact[1]):
+            # (a draw lasts longer than any mate, and as long as another draw; behind a move of the hero that fails no stamp has a defence)
+            lasts = draws or "mates" in given and moves_of(f"win {fact[3]}") >= moves_of(given)
+            if lasts and not elsewhere(path, fact[1]):
                 self.missing = f"{front(path)}{fact[1]}"
                 break
 

@@ -6,7 +6,7 @@ use Rattle.study_board.specs.Position.{Position}
 use Rattle.study_moves.specs.declared.moves.Move.{Move}
 use Rattle.study_moves.specs.Rules.{after}
 use Rattle.study_values.specs.declared.value.Value.{Value}
-use Rattle.study_values.specs.declared.value.Value.TheVariants.{Win}
+use Rattle.study_values.specs.declared.value.Value.TheVariants.{Win, Draw}
 use Rattle.study_tree.specs.Tree.{spot_at}
 use Rattle.study_marks.specs.declared.mark.Mark.{Mark}
 use Rattle.study_marks.specs.declared.mark.MoveMark.{MoveMark}
@@ -147,9 +147,11 @@ with_mistake f reply = record {
 
 -- ---- defences
 
--- by the values after two defences, the hero mates after the second at least as late as after the first
+-- By the values after two defences, the second keeps the hero at least as long from mate as the first. A draw lasts for ever.
 abbrev pub lasts_as_long : Value → Value → Bool
 lasts_as_long (Win k) (Win n) = not (nat_lt n k)
+lasts_as_long (Win k) Draw = true
+lasts_as_long Draw Draw = true
 lasts_as_long _ _ = false
 
 -- the moves of the study lead to these positions

@@ -311,18 +311,22 @@ pub fn first_reply<'b, B: Allocator>(
     })
 }
 
-/// Whether, by the values after two defences, the hero mates after the second at least as late as after the first.
+/// Whether, by the values after two defences, the second keeps the hero at least as long from mate as the first: a draw lasts for ever.
 fn lasts_as_long(given: Value, other: Value) -> bool
     ensures { result ≡ lasts_as_long given other }
 {
-    match given {
-        Value::Win(plies) => match other {
-            Value::Win(more) => more >= plies,
+    match other {
+        Value::Win(more) => match given {
+            Value::Win(plies) => more >= plies,
             Value::Loss(_) => false,
             Value::Draw => false,
         },
         Value::Loss(_) => false,
-        Value::Draw => false,
+        Value::Draw => match given {
+            Value::Win(_) => true,
+            Value::Loss(_) => false,
+            Value::Draw => true,
+        },
     }
 }
 

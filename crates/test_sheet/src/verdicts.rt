@@ -130,7 +130,7 @@ fn each_study_has_its_verdict(rt: HostRuntime) {
 }
 
 /// After 1... Kf5 White wins by Kd4, too; 2. Kd3 only comes back to the start, by 2... Ke5 3. Ke3. In the second study Kf5 lasts longer than the move
-/// given, and has one answer, 2. Kf3: that is said beside a dual in the last move.
+/// given, and has one answer, 2. Kf3: that is said beside a dual in the last move. In the third Black keeps the opposition, after 1. Kf3 by Kf5 alone.
 const PAWN_VERDICTS: &str = "position 8/8/8/4k3/8/4K3/4P3/8 b - - 0 1
 stipulate white win
 insert root Kf5
@@ -142,6 +142,12 @@ stipulate white win
 insert root Kg3
 insert 0 Kh5
 insert 0.0 Kf4 -> 1 dual in the last move; main defence 1... Kf5 not given,2. Kf4: also b4 and 3 more
+position 8/8/8/4k3/8/4K3/4P3/8 w - - 0 1
+stipulate black draw
+insert root Kd3
+insert 0 Kd5 -> sound; main defence 1. Kf3 not given,
+insert root Kf3
+insert 1 Kf5 -> sound,
 ";
 
 #[test]
