@@ -501,6 +501,15 @@ def wrong_claim(asked, start, white_first):
 KINDS_OF_DUALS = ("cook", "main", "variations", "last", "time")
 
 
+def is_main_defence(fact, given):
+    """Whether a missing defence lasts at least as long as the one that is given, after which this is the value, and has one answer. A draw lasts longer
+    than any mate, and as long as another draw; behind a move of the hero that fails nothing is asked."""
+    draws = fact[2] == "draw"
+    if given is None or fact[2] == "loss" or fact[3 if draws else 4] != "1":
+        return False
+    return draws or "mates" in given and moves_of(f"win {fact[3]}") >= moves_of(given)
+
+
 class Facts:
     """What a judge asks of a solution beside its marks: its duals by their kinds and the worst in words, a refutation of its first mistake, and the
     first main defence that is not given. `of(kind)` has the facts of the lines, `label` names the node at a path, `front` is the number before a move
@@ -533,12 +542,7 @@ class Facts:
                 self.worst = f"{label(path)}: also {other}{more}{', wastes time' if kind == 'time' else ''}{after}"
         for fact in missing:
             path = () if fact[0] == "root" else tuple(map(int, fact[0].split(".")))
-            given, draws = value(path + (0,)), fact[2] == "draw"
-            if any(path) or given is None or fact[3 if draws else 4] != "1" or fact[2] == "loss":
-                continue
-            # (a draw lasts longer than any mate, and as long as another draw; behind a move of the hero that fails no stamp has a defence)
-            lasts = draws or "mates" in given and moves_of(f"win {fact[3]}") >= moves_of(given)
-            if lasts and not elsewhere(path, fact[1]):
+            if not any(path) and is_main_defence(fact, value(path + (0,))) and not elsewhere(path, fact[1]):
                 self.missing = f"{front(path)}{fact[1]}"
                 break
 
@@ -720,23 +724,20 @@ def zugzwang_rows(study):
 def defences(study):
     rows = ""
     for path, missing in facts_about(study, "missing"):
-        one, several = {}, ""
-        for fact in missing:
+        first = study.node.get(path + (0,))
+        main = [f for f in missing if is_main_defence(f, first.value if first else None) and not study.elsewhere(path, f[1])]
+        groups = {}
+        for fact in main:
             value = "draw" if fact[2] == "draw" else " ".join(fact[2:4])
-            rest = fact[3:] if fact[2] == "draw" else fact[4:]
-            move = move_and_value(study, path, fact[1], value)
-            if rest[0] == "1":
-                one[rest[1]] = one.get(rest[1], "") + inside("span", move, 'class="nb"') + " "
-            else:
-                words = "stalemate" if rest[-1] == "stalemate" else f"{rest[0]} answers"
-                several += inside("span", move + say(" " + words), 'class="nb"') + " "
-        groups = "".join(inside("div", inside("i", say(answer)) + " after " + moves) for answer, moves in one.items())
-        all_moves = legal(study, path)
+            groups[fact[-1]] = groups.get(fact[-1], "") + inside("span", move_and_value(study, path, fact[1], value), 'class="nb"') + " "
+        named = "".join(inside("div", inside("i", say(answer)) + " after " + moves) for answer, moves in groups.items())
+        all_moves, others = legal(study, path), len(missing) - len(main)
         twins = [(fact[1], study.elsewhere(path, fact[1])) for fact in missing]
         answered = inside("small", say(f"answers {all_moves - len(missing)} of {all_moves}" +
                                        "".join(f", {san} (as after {twin})" for san, twin in twins if twin)))
-        rows += inside("tr", inside("td", say(study.label(path)) + "<br>" + answered) + inside("td", groups) + inside("td", several))
-    return table("Defences not given", ("After", "One answer", "Several"), rows)
+        rows += inside("tr", inside("td", say(study.label(path)) + "<br>" + answered) + inside("td", named) +
+                       inside("td", say(f"{others} other{'' if others == 1 else 's'}" if others else "")))
+    return table("Defences not given", ("After", "Main defences", "Others"), rows)
 
 
 def ends(study):

@@ -33,7 +33,7 @@ export function reviewView(s, paper = false) {
                         : h('p', {class: 'note'}, 'The facts are being found …');
   return [
     !paper && dualsView(s, review, view.root), triesView(s, review, view.root, paper), zugzwangView(view.root),
-    defencesView(s, review, view.root), endsView(review, view.root)
+    defencesView(s, review, view.root, paper), endsView(review, view.root)
   ];
 }
 /**
@@ -61,18 +61,22 @@ function zugzwangView(root) {
  * @param {Study} s
  * @param {Review} review
  * @param {TreeNode} root
+ * @param {boolean} paper      where the main defences are named alone
  */
-function defencesView(s, review, root) {
+function defencesView(s, review, root, paper) {
   const rows = byNode(review.missing, root), aim = s.aim;
-  const hero = aim ? aim.hero : '',
-        mates = `The small number says in how many moves ${hero} mates after the defence; † ` +
-    'lasts at least as long as the longest that is given. ';
+  const hero = aim ? aim.hero : '', mates = `The small number says in how many moves ${hero} mates after the defence; `;
   const draws = 'After a defence with = it stays a draw; after one with a small number ' +
     `${hero} even mates, in so many moves. `;
   const note = [
     aim && (aim.goal === 'draw' ? draws : mates),
+    !paper && '† is a main defence: it lasts at least as long as the first that is given, and has one answer. ',
     h('span', {class: 'act'}, 'A click adds it, with its answer if there is only one.')
   ];
+  if (paper)
+    return rows.length > 0 &&
+      section('defences', wordOf('defences'), aim && (aim.goal === 'draw' ? draws : mates),
+        table(['After', 'Main defences', 'Others'], rows, ([n, list]) => mainView(s, review, n, list)));
   const single = rows.flatMap(([n, list]) => toAdd(review, n, list)).length;
   return rows.length > 0 && section('defences', wordOf('defences'), note, [
     single > 1 &&
@@ -107,25 +111,32 @@ const toAdd = (review, n, list) => list.filter(d => d.count === 1 && !elsewhere(
 const lasting = d => (d.value.kind === 'draw' ? 1000 : d.value.n);
 const FIRST = 5;
 /**
- * Whether a defence lasts at least as long as the longest that the tree has.
+ * Whether a defence lasts at least as long as the first that is given, has one answer, and leads nowhere where a move
+ * of the tree leads. A draw lasts for ever.
  * @param {Study} s
+ * @param {Review} review
  * @param {TreeNode} n
  * @param {Missing} d
  */
-const isLong = (s, n, d) => s.aim !== null && s.aim.goal !== 'draw' &&
-  winner(other(sideOf(n.fen)), d.value) === s.aim.hero && n.children.length > 0 &&
-  d.value.n >= Math.max(...n.children.map(c => c.value.n));
+function isMain(s, review, n, d) {
+  const [given] = n.children, after = other(sideOf(n.fen));
+  if (!given || !s.aim || d.count !== 1 || elsewhere(review, n, d)) return false;
+  const {hero} = s.aim, wins = (/** @type {Missing['value']} */ value) => winner(after, value) === hero;
+  return d.value.kind === 'draw' ? given.value.kind === 'draw' || wins(given.value)
+                                 : wins(d.value) && wins(given.value) && d.value.n >= given.value.n;
+}
 /**
- * Those that matter first: that last long, then those with one answer which neither takes nor mates, then by length.
+ * Main defences first, then those with one answer which neither takes nor mates, then by length.
  * @param {Study} s
+ * @param {Review} review
  * @param {TreeNode} n
  * @param {Missing[]} list
  */
-function byWorth(s, n, list) {
-  const worth = (/** @type {Missing} */ d) => (isLong(s, n, d) ? 0
-      : d.count === 1 && !/[x#]/.test(d.answer)                ? 1
-      : d.count === 0                                          ? 2
-                                                               : 3);
+function byWorth(s, review, n, list) {
+  const worth = (/** @type {Missing} */ d) => (isMain(s, review, n, d) ? 0
+      : d.count === 1 && !/[x#]/.test(d.answer)                        ? 1
+      : d.count === 0                                                  ? 2
+                                                                       : 3);
   return [...list].sort((x, y) => worth(x) - worth(y) || lasting(y) - lasting(x));
 }
 /**
@@ -142,21 +153,44 @@ function answerView(review, n, d) {
   ];
 }
 /**
+ * A node, and how many of its legal moves the tree has.
+ * @param {TreeNode} n
+ * @param {Missing[]} list
+ */
+function afterView(n, list) {
+  const given = n.children.length;
+  return [nodeLink(n), h('br', {}), h('small', {}, `answers ${given} of ${given + list.length}`)];
+}
+/**
+ * The main defences with their answers, and how many others there are.
+ * @param {Study} s
+ * @param {Review} review
+ * @param {TreeNode} n
+ * @param {Missing[]} list
+ */
+function mainView(s, review, n, list) {
+  const main = list.filter(d => isMain(s, review, n, d)), others = list.length - main.length;
+  return [
+    afterView(n, list),
+    main.map((d, i) => [i ? '; ' : '', defenceView(s, review, n, d, false), ' ', h('i', {}, d.answer)]),
+    others ? counted(others, 'other') : ''
+  ];
+}
+/**
  * @param {Study} s
  * @param {Review} review
  * @param {TreeNode} n
  * @param {Missing[]} list
  */
 function missingView(s, review, n, list) {
-  const sorted = byWorth(s, n, list),
-        view = (/** @type {Missing} */ d) => [defenceView(s, n, d), ' ', answerView(review, n, d),
+  const sorted = byWorth(s, review, n, list),
+        view = (/** @type {Missing} */ d) => [defenceView(s, review, n, d), ' ', answerView(review, n, d),
           d === sorted[sorted.length - 1] ? '' : '; '];
   const rest = sorted.slice(FIRST),
         more = h('button', {class: 'chip act more', onclick: () => more.replaceWith(h('span', {}, rest.map(view)))},
           `and ${rest.length} more`);
-  const given = n.children.length, answered = `answers ${given} of ${given + list.length}`;
   return [
-    [nodeLink(n), h('br', {}), h('small', {}, answered)], n.children.map(c => c.san).join(' ') || '–',
+    afterView(n, list), n.children.map(c => c.san).join(' ') || '–',
     [...sorted.slice(0, FIRST).map(view), rest.length > 0 && more]
   ];
 }
@@ -178,19 +212,21 @@ const addAll = (review, rows) => change(now => {
 });
 /**
  * @param {Study} s
+ * @param {Review} review
  * @param {TreeNode} n
  * @param {Missing} d
+ * @param {boolean} [marked]      whether a main defence has its sign
  */
-function defenceView(s, n, d) {
+function defenceView(s, review, n, d, marked = true) {
   const after = other(sideOf(n.fen)), aim = s.aim;
   if (!aim) return null;
-  const long = isLong(s, n, d);
+  const main = marked && isMain(s, review, n, d);
   const [sans, what] =
     d.count === 1 ? [[d.san, d.answer], `add ${d.san} with its only answer ${d.answer}`] : [[d.san], `add ${d.san}`];
-  const lasts = long ? ', as long as the longest that is given' : '';
+  const lasts = main ? ', a main defence' : '';
   const title = `${d.san}: ${valueText(after, d.value)}${lasts}; ${what}`;
   return add(
-    n.path, sans, [h('b', {}, d.san), h('sub', {}, valueSign(aim.hero, after, d.value)), long && '†'], title, true);
+    n.path, sans, [h('b', {}, d.san), h('sub', {}, valueSign(aim.hero, after, d.value)), main && '†'], title, true);
 }
 /**
  * @param {Review} review

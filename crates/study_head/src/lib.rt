@@ -21,7 +21,7 @@ pub use known_tags::{add_in_utf8, named_tag};
 pub use laws::{duals_are_counted, solution_facts_are_unique, sound_has_no_fault};
 pub use mistake::{NamedMove, add_move_name, first_mistake};
 pub use reached::{Reached, first_to, reached_in};
-pub use solution::{DualCounts, DualKind, NamedDual, SolutionFacts};
+pub use solution::{DualCounts, DualKind, NamedDual, SolutionFacts, is_main_defence};
 pub use solution_walk::solution_facts;
 pub use verdict::{Judgement, Stamp, entry_judgement, judgement_of};
 pub use verdict_words::{

@@ -331,7 +331,7 @@ fn lasts_as_long(given: Value, other: Value) -> bool
 }
 
 /// Whether a defence lasts at least as long as the one with this value, has one answer, and leads to no position that a move of the study leads to.
-fn is_main_defence(known: &[Reached], p: &Position, given: Value, y: &Defence) -> bool
+pub fn is_main_defence(known: &[Reached], p: &Position, given: Value, y: &Defence) -> bool
     requires { IsPlayed p.now y.now }
     ensures { result ≡ is_main_defence known.now p.now given y.now }
 {

@@ -32,8 +32,7 @@ use Rattle.study_facts.proofs.AtPath.{as-made, as-placed}
 use Rattle.study_facts.proofs.NodesShown.{are-there, not-there}
 use Rattle.study_page.specs.Words.{where_words, label_to}
 use Rattle.study_head.specs.Words.{label}
-use Rattle.study_page.specs.Rows.{IsFaultOf, FaultItems, IsCardOf, Cards, TryRows, DefenceRowsAmong, IsEnd, EndRows, try_row, defence_row, zugzwang_rows}
-use Rattle.study_page.specs.Rows.{elsewhere_words}
+use Rattle.study_page.specs.Rows.{IsFaultOf, FaultItems, IsCardOf, Cards, TryRows, DefenceRowsAmong, IsEnd, EndRows, try_row, missing_row, zugzwang_rows}
 use Rattle.study_head.specs.declared.reached.Reached.{Reached}
 use Rattle.study_page.specs.Rows.{ZugzwangRows, mistake_item, dual_item, card}
 use Rattle.study_facts.specs.declared.zugzwang.Zugzwang.{Zugzwang}
@@ -233,10 +232,10 @@ module _ (s : Study Mark) (x : StudyNode) (h : IsStudyNode s x) where
 
   pub defences-evaluated : (known : List Reached) (there : List Move) (list : List Defence) (old new : List ℕ) → is_defended s x.steps.now ≡ true
       → there ≡ moves_of (below_at s.tree.below x.steps.now) → AreDefences x.node.aim.now x.node.depth x.node.position.now there list
-      → new ≡ old ++ defence_row (where_words s x.steps.now) x.node.position.now (elsewhere_words known x.node.position.now list) list
+      → new ≡ old ++ missing_row known s x.steps.now x.node.position.now list
       → Grew (DefenceRowsAmong known s x.steps.now) old new
   defences-evaluated known there list old new is all k grew =
-      let row : Position → List ℕ = λ p. defence_row (where_words s here) p (elsewhere_words known p list) list in
+      let row : Position → List ℕ = λ p. missing_row known s here p list in
       let three = as-placed s x h (λ a d p. AreDefences a d p there list) k in
       let four = subst (λ (ms : List Move). AreDefences (aim_of s) (length here) (position_at s here) ms list) all three in
       are-there (is_defended s here) _ old new is (

@@ -21,9 +21,9 @@ use Rattle.study_facts.specs.Nodes.{parent_path, mark_at, value_at, is_try, is_d
 use Rattle.study_facts.proofs.OneFacts.{One, one-chosen, one-alternatives, one-defences, one-play, one-where, one-match, one-each}
 use Rattle.study_head.proofs.OneFacts.{one-facts}
 use Rattle.study_page.specs.Words.{where_words}
-use Rattle.study_page.specs.Rows.{IsFaultOf, FaultItems, IsCardOf, Cards, TryRows, DefenceRows, elsewhere_words, IsPlay, IsEnd, EndRows}
+use Rattle.study_page.specs.Rows.{IsFaultOf, FaultItems, IsCardOf, Cards, TryRows, DefenceRows, IsPlay, IsEnd, EndRows}
 use Rattle.study_head.specs.Reached.{all_reached}
-use Rattle.study_page.specs.Rows.{dual_item, card, try_row, defence_row, end_row, play_words, keep_words, zugzwang_rows, ZugzwangRows}
+use Rattle.study_page.specs.Rows.{dual_item, card, try_row, missing_row, end_row, play_words, keep_words, zugzwang_rows, ZugzwangRows}
 use Rattle.study_facts.proofs.ZugzwangReported.{one-kind}
 use Rattle.study_page.specs.Page.{page_text, PagesAreUnique}
 use Rattle.study_facts.specs.Order.{written_order}
@@ -71,8 +71,7 @@ module _ (law : EachHasAtMostOneValue) (s : Study Mark) (path : List ℕ) where
       (one-chosen law (λ v. not (holds (aim_of s) (length path + 1) v)) (position_at s path) (legal_list (position_at s path)) h.0 j.0 h.1 j.1) ∙ sym j.2)
 
   defences-once : One (DefenceRows s path)
-  defences-once = one-where (is_defended s path) _ (λ t u h j. h.2 ∙ ap (λ l. defence_row (where_words s path) (position_at s path)
-      (elsewhere_words (all_reached s) (position_at s path) l) l)
+  defences-once = one-where (is_defended s path) _ (λ t u h j. h.2 ∙ ap (λ l. missing_row (all_reached s) s path (position_at s path) l)
       (one-defences law (aim_of s) (length path) (position_at s path) (moves_of (below_at s.tree.below path)) h.0 j.0 h.1 j.1) ∙ sym j.2)
 
   ends-once : One (EndRows s path)

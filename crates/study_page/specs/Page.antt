@@ -78,7 +78,7 @@ ends_title = codes "Best play after the last move given"
 -- of the positions that are left
 unfoldable pub last_tables : List ℕ → List ℕ → List ℕ
 last_tables defences ends =
-    table_part missing_title (heads (codes "After") (codes "One answer") (codes "Several")) defences
+    table_part missing_title (heads (codes "After") (codes "Main defences") (codes "Others")) defences
     ++ table_part ends_title (heads (codes "After") (codes "Value") (codes "Continuation")) ends
 
 unfoldable pub tables : List ℕ → List ℕ → List ℕ → List ℕ → List ℕ

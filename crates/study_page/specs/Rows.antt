@@ -1,7 +1,7 @@
 -- What the parts of a page have of one node.
 use Rattle.std.specs.Prelude.{◌≡◌, ◌==◌, nat_lt, ℕ, ◌+◌, ◌-◌, ◌/◌, Bool, true, false, ◌||◌, List, [], ◌∷◌, ◌++◌, length, take, drop}
 use Rattle.std.specs.Prelude.{Option, Some, None, MatchOption, if◌then◌else◌, codes, decimal}
-use Rattle.std.specs.List.{flat_map}
+use Rattle.std.specs.List.{flat_map, filter}
 use Rattle.std.specs.Str.{bytes_eq}
 use Rattle.study_board.specs.declared.men.Side.{Side}
 use Rattle.study_board.specs.declared.men.Side.TheVariants.{White, Black}
@@ -50,6 +50,7 @@ use Rattle.study_head.specs.Words.{front_words, short_words, label}
 use Rattle.study_head.specs.declared.mistake.NamedMove.{NamedMove}
 use Rattle.study_head.specs.declared.reached.Reached.{Reached}
 use Rattle.study_head.specs.Reached.{first_to, all_reached}
+use Rattle.study_head.specs.Solution.{is_main_defence}
 use Rattle.study_head.specs.Verdict.{legal_name}
 use Rattle.study_page.specs.Words.{where_words}
 
@@ -290,21 +291,6 @@ ZugzwangRows s path text = (z : Option Zugzwang) × IsZugzwangOf (position_at s 
 
 -- ---- defences
 
--- `3 answers`, `stalemate`
-abbrev pub several_words : ℕ → List ℕ
-several_words n = if n == 0 then codes "stalemate" else (decimal n ++ codes " answers")
-
--- a defence with none or several answers, and how many
-unfoldable pub several_item : Position → Defence → List ℕ
-several_item p y = element_text Whole (move_and_value p y.played y.value ++ escaped_text (codes " " ++ several_words y.answers)) ++ escaped_text (codes " ")
-
-abbrev pub with_several : Position → Option Move → Defence → List ℕ
-with_several p None y = several_item p y
-with_several p (Some m) y = []
-
-abbrev pub each_several : Position → Defence → List ℕ
-each_several p y = with_several p y.only y
-
 -- whether the one answer in a position is written so
 abbrev pub is_answer : Position → Option Move → List ℕ → Bool
 is_answer q None text = false
@@ -360,19 +346,45 @@ unfoldable pub answered_cell : List ℕ → Position → List ℕ → List Defen
 answered_cell node p elsewhere list =
     element_text Cell (escaped_text node ++ (drawing_text Break ++ element_text Small (escaped_text (answered_words p list ++ elsewhere))))
 
--- the node, the defences with one answer by this answer, and those with none or several; `elsewhere` says which of them the tree has elsewhere
-abbrev pub defence_row : List ℕ → Position → List ℕ → List Defence → List ℕ
-defence_row node p elsewhere [] = []
-defence_row node p elsewhere (y ∷ ys) =
-    element_text Row (answered_cell node p elsewhere (y ∷ ys) ++ (element_text Cell (groups_from p (y ∷ ys) [] (y ∷ ys))
-    ++ element_text Cell (flat_map (each_several p) (y ∷ ys))))
+-- the main defences of a list, beside the one that is given, after which this is the value, if one is
+abbrev pub main_among : List Reached → Position → Option Value → List Defence → List Defence
+main_among known p None list = []
+main_among known p (Some given) list = filter (is_main_defence known p given) list
+
+-- the value after the first of these moves
+abbrev pub first_value : List Move → Value → Option Value
+first_value [] v = None
+first_value (m ∷ ms) v = Some v
+
+-- the value after the first move that the study gives at a node
+abbrev pub given_value : Study Mark → List ℕ → Option Value
+given_value s path = first_value (moves_of (below_at s.tree.below path)) (value_at s (path ++ 0 ∷ []))
+
+-- `17 others`
+unfoldable pub remaining_words : ℕ → List ℕ
+remaining_words n = if n == 0 then [] else (if n == 1 then codes "1 other" else (decimal n ++ codes " others"))
+
+-- the main defences by their answers, and how many others there are
+abbrev pub main_cells : Position → List Defence → ℕ → List ℕ
+main_cells p main others = element_text Cell (groups_from p main [] main) ++ element_text Cell (escaped_text (remaining_words others))
+
+-- the node, and the defences that it lacks, some of which are main ones; `elsewhere` says which of them the tree has elsewhere
+abbrev pub defence_row : List ℕ → Position → List ℕ → List Defence → List Defence → List ℕ
+defence_row node p elsewhere main [] = []
+defence_row node p elsewhere main (y ∷ ys) =
+    element_text Row (answered_cell node p elsewhere (y ∷ ys) ++ main_cells p main (length (y ∷ ys) - length main))
+
+-- the row of the defences that are missing at a node, in a study whose moves lead to these positions
+abbrev pub missing_row : List Reached → Study Mark → List ℕ → Position → List Defence → List ℕ
+missing_row known s path p list =
+    defence_row (where_words s path) p (elsewhere_words known p list) (main_among known p (given_value s path) list) list
 
 -- a row for each position of the solution in which a defence is missing, in a study whose moves lead to these positions
 abbrev pub DefenceRowsAmong : List Reached → Study Mark → List ℕ → List ℕ → Type 0
 DefenceRowsAmong known s path text =
     EmptyUnless (is_defended s path) (λ t. (list : List Defence)
     × AreDefences (aim_of s) (length path) (position_at s path) (moves_of (below_at s.tree.below path)) list
-    × (t ≡ defence_row (where_words s path) (position_at s path) (elsewhere_words known (position_at s path) list) list)) text
+    × (t ≡ missing_row known s path (position_at s path) list)) text
 
 abbrev pub DefenceRows : Study Mark → List ℕ → List ℕ → Type 0
 DefenceRows s = DefenceRowsAmong (all_reached s) s

@@ -1,13 +1,13 @@
-//! What is written of defences that the tree lacks: those with one answer by this answer.
+//! What is written of defences that the tree lacks: the main ones by their one answer, and how many others there are.
 ghost use Rattle.std.specs.Prelude.{◌≡◌, ◌++◌, ◌-◌, ◌<◌, ◌≤◌, ◌^◌, true, length, take, drop, OnOk, Some, IfSome};
 ghost use Rattle.std.specs.List.{All, flat_map};
 ghost use Rattle.std.specs.Option.{option_map};
 ghost use Rattle.study_moves.specs.Rules.{is_legal};
 ghost use Rattle.study_moves.specs.LegalList.{legal_list};
 ghost use Rattle.study_facts.specs.Play.{IsPlayed};
-ghost use Rattle.study_page.specs.Rows.{several_words, several_item, each_several, is_answer, has_answer, defence_item, with_answer};
+ghost use Rattle.study_page.specs.Rows.{is_answer, has_answer, defence_item, with_answer};
 ghost use Rattle.study_page.specs.Rows.{group, any_has, group_of, group_at, groups_from};
-ghost use Rattle.study_page.specs.Rows.{answered_words, as_after, elsewhere_words, answered_cell, defence_row};
+ghost use Rattle.study_page.specs.Rows.{answered_words, as_after, elsewhere_words, answered_cell, remaining_words, main_cells, defence_row};
 
 use crate::cards_and_tries::put_move_and_value;
 use std::alloc::{AllocError, Allocator};
@@ -20,65 +20,11 @@ use study_notation::write_san;
 use study_pgn::add_san;
 use study_text::Text;
 
-fn add_several<A: Allocator>(text: &mut Text<'_, A>, answers: u16) -> Result<(), AllocError>
-    ensures { OnOk result (text.new ≡ text.old ++ several_words answers) }
-{
-    if answers == 0 {
-        return text.add(b"stalemate");
-    }
-    text.add_number(answers as u32)?;
-    text.add(b" answers")
-}
-
-#[tactic(auto, unfolding(crate::specs::Rows::several_item))]
-fn put_several<'a, A: Allocator>(
-    alloc: &'a A,
-    html: &mut Html<'_, A>,
-    p: &Position,
-    y: &Defence,
-) -> Result<(), AllocError>
-    requires { IsPlayed p.now y.now }
-    ensures { OnOk result (html.new ≡ html.old ++ several_item p.now y.now) }
-{
-    let mut whole = Html::new(alloc);
-    let mut text = Text::new(alloc);
-    put_move_and_value(alloc, &mut whole, p, y.played, y.value)?;
-    text.add(b" ")?;
-    add_several(&mut text, y.answers)?;
-    whole.say(text.as_slice())?;
-    html.put(Element::Whole, &whole)?;
-    html.say(b" ")
-}
-
-/// The defence, if it has none or several answers.
-fn put_with_several<'a, A: Allocator>(
-    alloc: &'a A,
-    html: &mut Html<'_, A>,
-    p: &Position,
-    y: &Defence,
-) -> Result<(), AllocError>
-    requires { IsPlayed p.now y.now }
-    ensures { OnOk result (html.new ≡ html.old ++ each_several p.now y.now) }
-{
-    match y.only {
-        None => put_several(alloc, html, p, y),
-        Some(_) => Ok(()),
-    }
-}
-
-fn put_each_several<'a, A: Allocator>(
-    alloc: &'a A,
-    html: &mut Html<'_, A>,
-    p: &Position,
-    list: &[Defence],
-) -> Result<(), AllocError>
-    requires { All (IsPlayed p.now) list.now }
-    ensures { OnOk result (html.new ≡ html.old ++ flat_map (each_several p.now) list.now) }
-{
-    for y in list {
-        put_with_several(alloc, html, p, y)?;
-    }
-    Ok(())
+/// The words of a row: the node, and which of the missing defences the tree has elsewhere.
+#[derive(Clone, Copy)]
+pub struct DefenceNames<'n> {
+    pub node: &'n [u8],
+    pub elsewhere: &'n [u8],
 }
 
 /// Whether the one answer in the position is written so.
@@ -363,32 +309,61 @@ fn put_answered<'a, A: Allocator>(
     html.put(Element::Cell, &cell)
 }
 
-/// The row of the defences that are missing; `elsewhere` says which of them the tree has elsewhere.
+/// Adds `17 others`.
+#[tactic(auto, unfolding(crate::specs::Rows::remaining_words))]
+fn add_others<A: Allocator>(text: &mut Text<'_, A>, others: u32) -> Result<(), AllocError>
+    ensures { OnOk result (text.new ≡ text.old ++ remaining_words others) }
+{
+    if others == 0 {
+        return Ok(());
+    }
+    if others == 1 {
+        return text.add(b"1 other");
+    }
+    text.add_number(others)?;
+    text.add(b" others")
+}
+
+/// The cells of the main defences and of the number of others.
+fn put_main<'a, A: Allocator>(
+    alloc: &'a A,
+    row: &mut Html<'_, A>,
+    p: &Position,
+    main: &[Defence],
+    others: u32,
+) -> Result<(), AllocError>
+    requires { All (IsPlayed p.now) main.now }
+    ensures { OnOk result (row.new ≡ row.old ++ main_cells p.now main.now others) }
+{
+    let mut groups = Html::new(alloc);
+    let mut text = Text::new(alloc);
+    put_groups(alloc, &mut groups, p, main, 0)?;
+    row.put(Element::Cell, &groups)?;
+    add_others(&mut text, others)?;
+    put_words(alloc, row, Element::Cell, text.as_slice())
+}
+
+/// The row of the defences that are missing, with those that matter; `elsewhere` says which of them the tree has elsewhere.
 pub fn put_defences<'a, A: Allocator>(
     alloc: &'a A,
     html: &mut Html<'_, A>,
-    node: &[u8],
+    names: &DefenceNames<'_>,
     p: &Position,
-    elsewhere: &[u8],
+    main: &[Defence],
     list: &[Defence],
 ) -> Result<(), AllocError>
     requires few { length list.now < 2 ^ 32 }
-    requires all { All (IsPlayed p.now) list.now }
+    requires some { length main.now ≤ length list.now }
+    requires all { All (IsPlayed p.now) main.now }
     ensures { OnOk result (html.new ≡ html.old
-        ++ defence_row node.now p.now elsewhere.now list.now) }
+        ++ defence_row names.now.node.now p.now names.now.elsewhere.now main.now list.now) }
 {
-    match list.split_first() {
-        None => Ok(()),
-        Some(_) => {
-            let mut row = Html::new(alloc);
-            let mut single = Html::new(alloc);
-            let mut several = Html::new(alloc);
-            put_answered(alloc, &mut row, node, p, elsewhere, list)?;
-            put_groups(alloc, &mut single, p, list, 0)?;
-            row.put(Element::Cell, &single)?;
-            put_each_several(alloc, &mut several, p, list)?;
-            row.put(Element::Cell, &several)?;
-            html.put(Element::Row, &row)
-        }
+    if list.is_empty() {
+        return Ok(());
     }
+    let mut row = Html::new(alloc);
+    put_answered(alloc, &mut row, names.node, p, names.elsewhere, list)?;
+    let others = answered_count(list.len() as u32, main);
+    put_main(alloc, &mut row, p, main, others)?;
+    html.put(Element::Row, &row)
 }

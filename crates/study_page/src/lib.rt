@@ -10,6 +10,7 @@ mod defence_groups;
 mod draft;
 mod fault_list;
 mod late_mate;
+mod main_defences;
 mod laws;
 mod move_parts;
 mod node_rows;

@@ -7,13 +7,14 @@ ghost use Rattle.study_facts.specs.Asked.{within};
 ghost use Rattle.study_facts.specs.Made.{Grew, HasAsked};
 ghost use Rattle.study_facts.specs.Play.{IsPlayed, ArePlayed};
 ghost use Rattle.study_page.specs.PageNode.{IsPageNode};
-ghost use Rattle.study_page.specs.Rows.{try_row, TryRows, zugzwang_rows, ZugzwangRows, elsewhere_words, defence_row, DefenceRowsAmong};
+ghost use Rattle.study_page.specs.Rows.{try_row, TryRows, zugzwang_rows, ZugzwangRows, given_value, missing_row, DefenceRowsAmong};
 ghost use Rattle.study_page.specs.Rows.{play_words, keep_words, end_row, IsEnd, EndRows};
 ghost use Rattle.study_page.specs.Words.{where_words};
 
 use crate::cards_and_tries::{put_try, put_zugzwang};
-use crate::defence_groups::{add_elsewhere, put_defences};
+use crate::defence_groups::{DefenceNames, add_elsewhere, put_defences};
 use crate::draft::Sections;
+use crate::main_defences::{given_value, main_among};
 use crate::play_rows::{add_keep, add_moves, put_end};
 use std::alloc::{AllocError, Allocator};
 use study_board::Position;
@@ -114,22 +115,28 @@ fn put_defences_at<'a, 'b, A: Allocator, B: Allocator>(
     html: &mut Html<'_, A>,
     bench: &Bench<'b, B>,
     node: &PageNode<'_, '_>,
+    given: Option<Value>,
     list: &[Defence],
 ) -> Result<(), AllocError>
     requires node { IsPageNode (marked_study bench.now) node.now }
+    requires given { given ≡ given_value (marked_study bench.now) node.now.here.steps.now }
     requires few { length list.now < 2 ^ 32 }
     requires all { All (IsPlayed node.now.here.node.position.now) list.now }
     ensures { OnOk result (html.new ≡ html.old
-        ++ defence_row (where_words (marked_study bench.now) node.now.here.steps.now)
-        node.now.here.node.position.now
-        (elsewhere_words node.now.known.now node.now.here.node.position.now list.now) list.now) }
+        ++ missing_row node.now.known.now (marked_study bench.now) node.now.here.steps.now
+        node.now.here.node.position.now list.now) }
 {
     let p = node.here.node.position;
     let mut name = Text::new(alloc);
     let mut elsewhere = Text::new(alloc);
     add_node_name(&mut name, bench, node)?;
     add_elsewhere(&mut elsewhere, node.known, p, list)?;
-    put_defences(alloc, html, name.as_slice(), p, elsewhere.as_slice(), list)
+    let main = main_among(alloc, node.known, p, given, list)?;
+    let names = DefenceNames {
+        node: name.as_slice(),
+        elsewhere: elsewhere.as_slice(),
+    };
+    put_defences(alloc, html, &names, p, main.as_slice(), list)
 }
 
 /// The row of the defences that are missing.
@@ -154,13 +161,17 @@ fn add_defences<'a, 'b, A: Allocator, B: Allocator, V: Values>(
     }
     match children_in(alloc, bench, node.here.steps)? {
         None => Ok(()),
-        Some(there) => match defences(&node.here.node, there.as_slice(), values) {
-            Err(fault) => Err(TextFault::NoValue(fault)),
-            Ok(list) => {
-                put_defences_at(alloc, html, bench, node, list.as_slice())?;
-                Ok(())
+        Some(there) => {
+            let moves = there.as_slice();
+            match defences(&node.here.node, moves, values) {
+                Err(fault) => Err(TextFault::NoValue(fault)),
+                Ok(list) => {
+                    let given = given_value(alloc, bench, node.here.steps, moves)?;
+                    put_defences_at(alloc, html, bench, node, given, list.as_slice())?;
+                    Ok(())
+                }
             }
-        },
+        }
     }
 }
 

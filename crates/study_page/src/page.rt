@@ -249,7 +249,7 @@ fn put_last_tables<'a, A: Allocator>(
 {
     let mut defences = Html::new(alloc);
     let mut ends = Html::new(alloc);
-    put_heads(alloc, &mut defences, b"After", b"One answer", b"Several")?;
+    put_heads(alloc, &mut defences, b"After", b"Main defences", b"Others")?;
     put_heads(alloc, &mut ends, b"After", b"Value", b"Continuation")?;
     put_table(alloc, html, missing_title(), &defences, &parts.defences)?;
     put_table(alloc, html, ends_title(), &ends, &parts.ends)

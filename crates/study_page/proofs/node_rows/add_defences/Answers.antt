@@ -28,8 +28,8 @@ returns-clause-text g c h =
     let s = marked_study c.args.bench.now in
     let here = c.args.node.now.here in
     let there : c.in-Some.there.items ≡ moves_of (below_at s.tree.below here.steps.now) = rw c.in-Some.is at c.in_ok-children_in.ensures in
-    defences-evaluated s here c.requires.here c.args.node.now.known.now c.as_slice.result.now c.as_slice-in-Ok.result.now c.args.html.now c.put_defences_at.new.html
-    (sym (c.is_defended.ensures s c.requires.here) ∙ c.if-not-is_defended.false) (c.as_slice.ensures.value ∙ there)
-    (subst (λ (l : List Defence). AreDefences here.node.aim.now here.node.depth here.node.position.now c.as_slice.result.now l)
-    (sym c.as_slice-in-Ok.ensures.value) (c.in-Ok.ensures.game h))
+    defences-evaluated s here c.requires.here c.args.node.now.known.now c.as_slice-moves.result.now c.as_slice.result.now c.args.html.now c.put_defences_at.new.html
+    (sym (c.is_defended.ensures s c.requires.here) ∙ c.if-not-is_defended.false) (c.as_slice-moves.ensures.value ∙ there)
+    (subst (λ (l : List Defence). AreDefences here.node.aim.now here.node.depth here.node.position.now c.as_slice-moves.result.now l)
+    (sym c.as_slice.ensures.value) (c.in-Ok.ensures.game h))
     c.in_ok-put_defences_at-in-Ok.ensures

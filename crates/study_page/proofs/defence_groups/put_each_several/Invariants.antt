@@ -1,7 +1,0 @@
-use Rattle.std.proofs.Common.{◌≡◌, ◌++◌, take}
-use Rattle.std.specs.List.{flat_map}
-use Rattle.study_page.specs.Rows.{each_several}
-use Rattle.study_page.proofs.defence_groups.put_each_several.Given as goal
-
-abbrev pub invariant-loop-y : goal.invariant-loop-y
-invariant-loop-y g l = l.html ≡ l.fn.html ++ flat_map (each_several l.fn.p) (take l.y-index l.list)
