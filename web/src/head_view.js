@@ -84,6 +84,11 @@ function resultsOf(s) {
   return {'result-tag-differs': stated, 'result-differs': behind ? behind.rest : stated};
 }
 /**
+ * The result that its author claims, if a game of a file states one.
+ * @param {Study} s
+ */
+export const claimedResult = s => resultsOf(s)['result-tag-differs'].replace(/^\*$/, '');
+/**
  * What speaks against the stipulation, as long as the user sets none.
  * @param {Study} s
  */

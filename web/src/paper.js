@@ -6,7 +6,7 @@ import {besideDiagram, diagramOf} from './drawing.js';
 import {isKnown} from './edits.js';
 import {nameOf} from './entries.js';
 import {control, other, sideOf} from './fen.js';
-import {numberText, sameView, tailView} from './head_view.js';
+import {claimedResult, numberText, sameView, tailView} from './head_view.js';
 import {againstText, sourceText} from './imported.js';
 import {paperList} from './list_view.js';
 import {dualsOf, reviewView} from './review_view.js';
@@ -33,7 +33,7 @@ function headOf(s) {
   const year = (s.tags.Date || '').replace(/(\.\?\?)+$/, ''), {Round} = s.tags;
   const by = [
     numberText(), nameOf(s, 'White'), nameOf(s, 'Black'), nameOf(s, 'Site'), isKnown(year) && year,
-    isKnown(Round) && 'entry ' + Round
+    isKnown(Round) && 'entry ' + Round, claimedResult(s) && `claimed ${claimedResult(s)}`
   ].filter(Boolean);
   const against = s.origin.against.map(againstText);
   return [

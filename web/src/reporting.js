@@ -1,12 +1,15 @@
 // @ts-check
 // The printed pages of all studies as a file. Nothing waits for them: the tables of the script's studies come into one
 // worker, beside a long script into that of moves, and the page says which it waits for and that they are written.
+import {shownText} from './comments.js';
 import {download} from './dom.js';
 import {Stopped} from './engine.js';
+import {short} from './notes.js';
 import {refusalIn} from './parse_answers.js';
+import {cutAt, ownRemark} from './remarks.js';
 import {fensOf, reportedLines, toText} from './script.js';
 import {PAGES, app, clearMessage, doc, say, services} from './state.js';
-import {counted, reason} from './words.js';
+import {counted, numberedLast, reason} from './words.js';
 
 /**
  * What is shown at the foot of the page while the report is on its way; nothing once it is done.
@@ -31,6 +34,31 @@ async function workerFor(fens) {
   return services.tables.factsFor(fens);
 }
 /**
+ * A remark above a study that the report prints: a comment of the author, a dual that was accepted, the claimed result.
+ * @param {string} line
+ * @param {string} fen
+ */
+export function printedRemark(line, fen) {
+  const {word, rest} = ownRemark(line), [moves, said] = cutAt(rest, ': ');
+  const at = !moves || moves === '-' ? '' : `${numberedLast(fen, moves.split(' '))}: `,
+        text = /^note\+?$/.test(word) && !/^\$\d+$/.test(said) ? shownText([said]) : '';
+  const words = text      ? at + text
+    : word === 'accepted' ? `${at}the dual is accepted`
+    : word === 'tag' && /^Result [^*]/.test(rest) ? `the claimed result is ${rest.slice('Result '.length)}`
+                                                  : '';
+  return words ? short(`#! comment: ${words}`) : line;
+}
+/**
+ * The lines of the document, each remark that is printed in its place.
+ * @param {import('./types.js').Doc} d
+ */
+function printedLines(d) {
+  const lines = [...d.lines];
+  for (const {head, from, fen} of d.studies)
+    for (let at = head; at < from; at++) lines[at] = printedRemark(lines[at], fen);
+  return reportedLines({...d, lines});
+}
+/**
  * @param {import('./types.js').Doc} d
  * @param {string} name      of the file
  * @returns {Promise<boolean>} whether it was saved
@@ -38,7 +66,7 @@ async function workerFor(fens) {
 async function write(d, name) {
   const worker = await workerFor(fensOf(d.lines)), pages = d.studies.filter(({aim}) => aim).length;
   tell(`The report is being written: ${counted(pages, 'study', 'studies')}`);
-  const {bytes, ended} = await worker.ask('report', toText(reportedLines(d)), PAGES);
+  const {bytes, ended} = await worker.ask('report', toText(printedLines(d)), PAGES);
   if (ended === 'done') {
     download(name, bytes);
     return true;

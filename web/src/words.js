@@ -88,6 +88,16 @@ export function numberedLine(fen, sans) {
     .join(' ');
 }
 
+/**
+ * The last move of a line with its number.
+ * @param {string} fen
+ * @param {string[]} sans
+ */
+export function numberedLast(fen, sans) {
+  const plies = sans.length - (sideOf(fen) === 'White' ? 1 : 0), number = Number(fen.split(' ')[5]) + (plies >> 1);
+  return `${number}${plies % 2 ? '...' : '.'} ${sans[sans.length - 1]}`;
+}
+
 /** What the printed page says of a part of a game beside its solution. */
 const REFUTED = 'This line is a try, and it is refuted.',
       SECOND = 'This line is a try, and it works: it is a second solution.';

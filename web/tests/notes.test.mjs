@@ -1,4 +1,5 @@
 // What a PGN says beside its moves is kept, and written again.
+import {printedRemark} from '../src/reporting.js';
 import './stand_in.mjs';
 import test from 'node:test';
 import assert from 'node:assert/strict';
@@ -218,4 +219,16 @@ test('games are cut as the program cuts them', () => {
   assert.deepEqual(gamesIn('; to whom\n\n [ Event  "a"]\r\n1. e4 *\r\n [FEN "x"]\n[_a "b"]\n[Event"c"]\n')
                      .map(text => text.split('\n').length - 1),
     [2, 2, 2]);
+});
+test('what the report prints of an author and of a judge', () => {
+  const fen = '8/8/8/6k1/8/8/1P5K/8 w - - 0 1', printed = line => printedRemark(line, fen);
+  assert.equal(printed('#! note Kg3 Kf5: a d\u00e9fense [%cal Gg5f5]'), '#! comment: 1... Kf5: a d\u00e9fense');
+  assert.equal(printed('#! note+ Kg3 Kf5 Kf3: and more'), '#! comment: 2. Kf3: and more');
+  assert.equal(printed('#! note -: White to win'), '#! comment: White to win');
+  assert.equal(printed('#! accepted Kg3 Kf5 Kf3: dual'), '#! comment: 2. Kf3: the dual is accepted');
+  assert.equal(printed('#! tag Result 1-0'), '#! comment: the claimed result is 1-0');
+  for (const line of ['#! note Kg3: $1', '#! tag Result *', '#! tag ECO A00', '#! mark Kg3: $1', '# mine', 'pgn'])
+    assert.equal(printed(line), line);
+  assert.equal(
+    printedRemark('#! note Kd5: the point', '8/8/8/4k3/8/3K4/3P4/8 b - - 0 7'), '#! comment: 7... Kd5: the point');
 });

@@ -22,5 +22,5 @@ main-few known p None list = omega arith
 main-few known p (Some v) list =
     let is : Defence → _ = is_main_defence known p v in
     let both : length (filter is list) + length (filter (λ y. not (is y)) list) ≡ length list
-        = length-filter_both is (λ y. not (is y)) (λ y. refl) list in
+    = length-filter_both is (λ y. not (is y)) (λ y. refl) list in
     omega arith

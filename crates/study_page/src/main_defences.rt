@@ -16,10 +16,7 @@ use study_moves::Move;
 use study_values::Value;
 
 /// The path of the node's first child.
-fn first_child<'a, A: Allocator>(
-    alloc: &'a A,
-    steps: &[u16],
-) -> Result<Vec<u16, &'a A>, AllocError>
+fn first_child<'a, A: Allocator>(alloc: &'a A, steps: &[u16]) -> Result<Vec<u16, &'a A>, AllocError>
     ensures { IfOk result (λ path. path.items ≡ steps.now ++ 0 ∷ []) }
 {
     let mut path = Vec::new(alloc);

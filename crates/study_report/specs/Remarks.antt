@@ -66,7 +66,12 @@ with_try other is = other
 abbrev pub remark_outcome : List ℕ → LineOutcome
 remark_outcome line = with_try (outcome_told (remark_in line)) (is_try line)
 
--- A remark that is shown: each except the source of a stipulation and the numbers of games and studies; and the one above a part of a study with more men.
+-- the words of an author, or of a judge
+abbrev pub is_comment : List ℕ → Bool
+is_comment line = begins line (codes "#! comment: ")
+
+-- A remark that is shown: each except the source of a stipulation and the numbers of games and studies; the one above a part of a study with more men; and
+-- a comment.
 abbrev pub is_told : Option Told → Bool
 is_told None = false
 is_told (Some (stipulated game by)) = false
@@ -74,4 +79,4 @@ is_told (Some (total games studies)) = false
 is_told (Some told) = true
 
 abbrev pub is_remark : List ℕ → Bool
-is_remark line = is_tail line || is_told (remark_in line)
+is_remark line = is_tail line || (is_comment line || is_told (remark_in line))

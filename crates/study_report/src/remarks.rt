@@ -1,6 +1,6 @@
 //! Comments of an imported script that a report shows.
 ghost use Rattle.std.specs.Prelude.{◌≡◌, ◌≤◌, length, drop, if◌then◌else◌};
-ghost use Rattle.study_report.specs.Remarks.{begins, colon_in, subject, statement, is_left_out, is_not_read, has_words, is_tail, is_try, is_remark};
+ghost use Rattle.study_report.specs.Remarks.{begins, colon_in, subject, statement, is_left_out, is_not_read, has_words, is_tail, is_try, is_comment, is_remark};
 ghost use Rattle.study_report.specs.Remarks.{remark_outcome};
 
 use crate::line_outcome::LineOutcome;
@@ -115,11 +115,18 @@ pub fn remark_outcome(line: &[u8]) -> LineOutcome
     }
 }
 
+/// Whether the line is a remark with the words of an author, or of a judge.
+fn is_comment(line: &[u8]) -> bool
+    ensures { result ≡ is_comment line.now }
+{
+    begins(line, b"#! comment: ")
+}
+
 /// Whether the line is a remark that a report shows. The source of a stipulation and the numbers of games are not shown.
 pub fn is_shown(line: &[u8]) -> bool
     ensures { result ≡ is_remark line.now }
 {
-    if is_tail(line) {
+    if is_tail(line) || is_comment(line) {
         return true;
     }
     match read_remark(line) {

@@ -16,6 +16,8 @@ const SCRIPT: &str = "#! game 1, line 1: stipulated by its tag Result
 #! Event was: Etude
 #! Black was: <b> & \"Ж\"
 #! the stipulation differs from its tag Result
+#! comment: 1... Kf5: la défense <b>
+#!comment: 1... Kf6: none
  #! Site was: Prague
 #! Whites was: R
 # Black was: lost long before, says my friend
@@ -39,7 +41,8 @@ const REMARKS: &str =
     "<p class=\"note\">not taken over: comments 2</p><p class=\"note\">behind the result: line 9, column 4</p>\
 <p class=\"note\">Black was: &lt;b&gt; &amp; &quot;Ж&quot;</p>\
 <p class=\"note\">the stipulation differs from its tag Result</p>\
-<p class=\"warn\">Line 12 was refused: <code>delete 7</code> <b>NoStudy</b>: no stipulation yet</p>\
+<p class=\"note\">comment: 1... Kf5: la défense &lt;b&gt;</p>\
+<p class=\"warn\">Line 14 was refused: <code>delete 7</code> <b>NoStudy</b>: no stipulation yet</p>\
 <p class=\"warn\">No page for entry 1: game 2, line 31: left out: 7 men</p>\
 <p class=\"warn\">No page for entry 2: game 3, line 52, column 17: NoSuchMove at Kb6: no legal move of this position</p>\
 <p class=\"warn\">No page for entry 3: game 4, line 60: StipulationUnread at its comment: a stipulation that is not understood</p>\
