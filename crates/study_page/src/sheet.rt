@@ -14,7 +14,7 @@ ghost use Rattle.study_page.specs.Sheet.{number_words, author_line, first_words,
 
 use std::alloc::{AllocError, Allocator};
 use std::io::Write;
-use study_entry::EntryInfo;
+use study_entry::{EntryInfo, Name};
 use study_facts::{WriteFault, move_to};
 use study_head::{add_label, draw_board, moves_first, named_tag};
 use study_html::{Drawing, Element, Html, put_words};
@@ -38,8 +38,8 @@ fn add_numbered<'b, A: Allocator, B: Allocator>(
     add_stipulation(text, bench.stipulation())
 }
 
-/// The author on a line, if one is known.
-fn say_author<A: Allocator>(html: &mut Html<'_, A>, author: &[u8]) -> Result<(), AllocError>
+/// The author on a line, if there is one.
+fn say_author_line<A: Allocator>(html: &mut Html<'_, A>, author: &[u8]) -> Result<(), AllocError>
     ensures { OnOk result (html.new ≡ html.old ++ author_line author.now) }
 {
     if author.is_empty() {
@@ -47,6 +47,20 @@ fn say_author<A: Allocator>(html: &mut Html<'_, A>, author: &[u8]) -> Result<(),
     }
     html.draw(&Drawing::Break)?;
     html.spell(author)
+}
+
+/// The author of the study on a line, in his own letters as far as these are known, if he is known.
+fn say_author<'a, 'b, A: Allocator, B: Allocator>(
+    alloc: &'a A,
+    html: &mut Html<'_, A>,
+    bench: &Bench<'b, B>,
+    own: &Name,
+) -> Result<(), AllocError>
+    ensures { OnOk result (html.new ≡ html.old
+        ++ author_line (named_words own.now (tag_of (marked_study bench.now).tags tag.White))) }
+{
+    let author = named_tag(alloc, bench, TagName::White, own)?;
+    say_author_line(html, author.as_slice())
 }
 
 /// The hero's first move, with its number, where he moves first.
@@ -132,11 +146,10 @@ fn put_place_caption<'a, 'b, A: Allocator, B: Allocator>(
     let mut within = Html::new(alloc);
     let mut numbered = Text::new(alloc);
     let mut key = Text::new(alloc);
-    let author = named_tag(alloc, bench, TagName::White, &info.origin.names.white)?;
     add_numbered(&mut numbered, bench, info.number)?;
     put_words(alloc, &mut within, Element::Strong, numbered.as_slice())?;
     within.say(moves_first(bench.start().position.to_move()))?;
-    say_author(&mut within, author.as_slice())?;
+    say_author(alloc, &mut within, bench, &info.origin.names.white)?;
     within.draw(&Drawing::Break)?;
     add_key(&mut key, bench)?;
     within.say(key.as_slice())?;
