@@ -766,7 +766,7 @@ FOOT = ("Values come from complete distance-to-mate tables for two to four men, 
 
 
 def page(study, number):
-    return inside("article", head(study) + inside("div", figure(study) + verdict(study), 'class="top"')
+    return inside("article", inside("p", f"No. {number}", 'class="note"') + head(study) + inside("div", figure(study) + verdict(study), 'class="top"')
                   + inside("section", inside("h2", "Solution") + inside("div", following(study, (), True), 'class="tree"'))
                   + cards(study) + tries(study) + zugzwang_rows(study) + defences(study) + ends(study) + inside("footer", FOOT), f'id="e{number}"')
 

@@ -65,7 +65,7 @@ export function numbered(fen, path, san) {
  * @param {string} path
  * @param {Node} root
  */
-function variation(fen, path, root) {
+export function variation(fen, path, root) {
   const places = path.split('.'), last = places.map(place => place !== '0').lastIndexOf(true),
         at = places.slice(0, last + 1).join('.'), node = last < 0 ? null : nodeAt(/** @type {any} */ (root), at);
   return node && at !== path ? `after ${numbered(fen, at, node.san)}` : '';

@@ -123,8 +123,14 @@ const outNote = (out, studies) => (!out.length ? ''
  * @param {string[]} before
  * @param {string[]} after
  */
-export const noteAfter = (note, before, after) => [0, 1].reduce(
-  (text, studies) => text.replace(outNote(leftOut(before), studies), () => outNote(leftOut(after), 1)), note);
+export function noteAfter(note, before, after) {
+  const added = studiesIn(after) - studiesIn(before),
+        rest = note.replace(/, (\d+) stud(y|ies)\./, (_, n) => `, ${counted(Number(n) + added, 'study', 'studies')}.`);
+  return [0, 1].reduce(
+    (text, studies) => text.replace(outNote(leftOut(before), studies), () => outNote(leftOut(after), 1)), rest);
+}
+/** @param {string[]} lines */
+const studiesIn = lines => lines.filter(line => line.startsWith('position ')).length;
 
 /** @param {string} line */
 const isTotal = line => remarksOfKind([line], 'total').length > 0;

@@ -9,6 +9,7 @@ import {close} from './documents_view.js';
 import {close as closeEarlier} from './earlier_view.js';
 import {close as closeFinding} from './finding_view.js';
 import {hitsHere, stepHit} from './hits.js';
+import {studyBeside} from './list_view.js';
 import {endOf, remove} from './node_view.js';
 import {draftFen, stepDraft} from './setup.js';
 import {hideSurvey} from './survey.js';
@@ -17,6 +18,14 @@ import {hideSurvey} from './survey.js';
 function neighbour(d) {
   const n = node(), row = n && n.parent ? n.parent.children : [], m = n ? row[row.indexOf(n) + d] : null;
   if (m) go(m.path);
+}
+/**
+ * The next study of the list as it is shown, or the one before.
+ * @param {1 | -1} by
+ */
+export function goBeside(by) {
+  const at = studyBeside(by);
+  if (at !== undefined) goStudy(at);
 }
 /** Whether what is shown is one study, of those that were found. */
 const isHit = () => hitsHere() !== null && doc().studies.length < 2;
@@ -30,8 +39,8 @@ const KEYS = {
   End: n => go(endOf(n).path),
   Delete: n => remove(n.path),
   m: () => $('san').focus(),
-  PageUp: () => (isHit() ? stepHit(-1) : goStudy(doc().at - 1)),
-  PageDown: () => (isHit() ? stepHit(1) : goStudy(doc().at + 1)),
+  PageUp: () => (isHit() ? stepHit(-1) : goBeside(-1)),
+  PageDown: () => (isHit() ? stepHit(1) : goBeside(1)),
 };
 /** Of a set-up that is open the men that were put down, else the document. */
 export const back = () => (app.setup ? stepDraft(true) : undo());

@@ -139,12 +139,12 @@ async function find(text) {
 }
 /**
  * Finds what is not known yet, and has the list drawn now and then. Unless the user wants it, it ends where the
- * document changes, and leaves long lists alone.
+ * document changes, waits while facts of the shown study are being found, and leaves long lists alone.
  * @param {Doc} d
  * @param {boolean} wanted
  */
 export async function reviewAll(d, wanted) {
-  const open = [...new Set(textsOf(d).filter(text => text && !found.has(text)))], stamp = app.stamp;
+  const open = [...new Set(textsOf(d).filter(text => text && !found.has(text)))];
   if (!open.length || (!wanted && open.length > MOST_UNWANTED)) return;
   open.sort((x, y) => (menIn(x) < menIn(y) ? -1 : 1));
   let drawn = performance.now();
@@ -152,7 +152,8 @@ export async function reviewAll(d, wanted) {
     if (wanted) services.reading(at, open.length, 'Finding the faults of study');
     else {
       await pause(40);
-      if (doc().lines !== d.lines || services.facts.waiting()) return void (stamp === app.stamp && later(d));
+      if (doc().lines !== d.lines) return;
+      if (services.facts.waiting()) return later(doc());
     }
     if (!found.has(text)) await find(text).catch(() => learn(text, NOTHING));
     if (wanted || performance.now() - drawn < DRAWN_AFTER) continue;

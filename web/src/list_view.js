@@ -103,10 +103,29 @@ function numberButton(entry) {
     {class: 'link', 'aria-current': here, 'aria-label': !entry.number && `Show ${entry.title}`, 'data-at': entry.at};
   return entry.at < 0 ? text : button(text, 'show it', () => goStudy(entry.at), props);
 }
+let wanted = /** @type {{by: any[], entries: Entry[]}} */ ({by: [], entries: []});
+/** The entries that are wanted, in their order: the same list as long as nothing has changed. */
+function shownEntries() {
+  const all = knownEntries(doc()), by = [all, ui.filter, ui.find, ui.order];
+  if (by.some((thing, i) => thing !== wanted.by[i])) {
+    const kind = all.filter(entry => !ui.filter || isOfKind(entry, ui.filter));
+    wanted = {by, entries: sortEntries(findEntries(kind, ui.find), ui.order.by, ui.order.back)};
+  }
+  return wanted.entries;
+}
+/**
+ * The study so many rows down the list as it is shown, if there is one; where the one that is looked at is not shown,
+ * the first or the last of the list.
+ * @param {1 | -1} by
+ * @returns {number | undefined}
+ */
+export function studyBeside(by) {
+  const order = shownEntries().map(({at}) => at).filter(at => at >= 0), here = order.indexOf(doc().at);
+  return here >= 0 ? order[here + by] : order[by > 0 ? 0 : order.length - 1];
+}
 /** The rows that are wanted, in their order. */
 function rowsView() {
-  const all = knownEntries(doc()), kind = all.filter(entry => !ui.filter || isOfKind(entry, ui.filter)),
-        shown = sortEntries(findEntries(kind, ui.find), ui.order.by, ui.order.back);
+  const all = knownEntries(doc()), shown = shownEntries();
   const set = (/** @type {import('./table.js').Order} */ order) => {
     ui.order = order;
     services.show();
@@ -154,10 +173,19 @@ function kindsView() {
     'aria-pressed': `${ui.filter === kind}`
   }));
 }
+/**
+ * A click anywhere in a row opens its study.
+ * @param {Event} e
+ */
+function openRow({target}) {
+  const at = /** @type {Element} */ (target), number = at.closest('button, summary') ? null : at.closest('tr');
+  const button = number && /** @type {HTMLElement | null} */ (number.querySelector('button[data-at]'));
+  if (button) button.click();
+}
 /** The entries in a table, below the numbers of each kind. */
 const frameView = () => [h('h2', {id: 'studiesTitle'}, wordOf('list')),
   h('p', {class: 'row', id: 'kinds', role: 'group', 'aria-label': 'Show one kind'}), toolsView(),
-  h('div', {id: 'rows'})];
+  h('div', {id: 'rows', onclick: openRow})];
 let drawnBy = '';
 function drawRows() {
   const by = JSON.stringify([ui, doc().id]);

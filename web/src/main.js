@@ -13,7 +13,7 @@ import {listenToDoors, openHash} from './doors.js';
 import {close as closeEarlier} from './earlier_view.js';
 import {close as closeFinding, openFinding, startFinding} from './finding_view.js';
 import {makeCore} from './engine.js';
-import {back, closeMenu, forth, listenToKeys} from './keys.js';
+import {back, closeMenu, forth, listenToKeys, goBeside} from './keys.js';
 import {saveReport} from './reporting.js';
 import {savedGames} from './saved_games.js';
 import {unreadIn} from './stamps.js';
@@ -166,8 +166,8 @@ on('undo', back);
 on('redo', forth);
 on('stop', () => services.tables.stop());
 on('theme', () => theme(!document.documentElement.classList.contains('dark')));
-on('before', () => goStudy(doc().at - 1));
-on('after', () => goStudy(doc().at + 1));
+on('before', () => goBeside(-1));
+on('after', () => goBeside(1));
 let byPointer = false;
 for (const kind of ['pointerdown', 'keydown'])
   $('studies').addEventListener(kind, () => {

@@ -173,7 +173,10 @@ const isOneGame = lines => lines.filter(line => line.startsWith('position ')).le
  */
 export const readAgain = text => track((async () => {
   const s = study(), lines = s ? await readMended(text, s.origin, 'cut') : [];
-  if (s && lines.length) await replaceStudy(s, lines);
+  if (!s || !lines.length) return;
+  if (lines.join('\n') !== doc().lines.slice(s.head, s.end).join('\n').trim()) return void await replaceStudy(s, lines);
+  say('cut', 'It was read again, and ends at the same move.', true);
+  services.show();
 })());
 
 /**

@@ -100,7 +100,8 @@ function placeField() {
     max: studies.length,
     value: at + 1,
     onchange: (/** @type {any} */ e) => move(Math.round(e.target.valueAsNumber) - 1 - at)
-  }));
+  }),
+    ` of ${studies.length}`);
 }
 /**
  * @param {string} text

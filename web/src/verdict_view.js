@@ -6,6 +6,7 @@ import {accept} from './accepted.js';
 import {change, go, judgeAgain} from './actions.js';
 import {app, doc} from './state.js';
 import {insert} from './board_input.js';
+import {variation} from './fault_kinds.js';
 import {stipulate} from './edits.js';
 import {acceptedOf, stampOf, verdictsBefore} from './stamps.js';
 import {nodeAt, allNodes, judgedBy} from './parse_answers.js';
@@ -156,9 +157,10 @@ function faultView(s, root, f) {
   const n = nodeAt(root, f.path), all = app.review ? app.review.also.filter(a => a.path === f.path) : [];
   if (!n) return f.san;
   if (f.kind === 'mistake') return mistakeView(s, n);
+  const after = variation(s.fen, f.path, root);
   return [
-    nodeLink(n), ': also ', alsoView(s, n, all.slice(0, 6)), all.length > 6 && `and ${all.length - 6} more `,
-    cut(n, 'End before it'), acceptView(s, root, f)
+    nodeLink(n), after && h('small', {}, ` (${after})`), ': also ', alsoView(s, n, all.slice(0, 6)),
+    all.length > 6 && `and ${all.length - 6} more `, cut(n, 'End before it'), acceptView(s, root, f)
   ];
 }
 /**

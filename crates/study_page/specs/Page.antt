@@ -1,5 +1,5 @@
 -- The page of a study.
-use Rattle.std.specs.Prelude.{◌≡◌, ◌==◌, ℕ, not, ◌||◌, List, [], ◌++◌, length, if◌then◌else◌, codes}
+use Rattle.std.specs.Prelude.{◌≡◌, ◌==◌, ℕ, not, ◌||◌, List, [], ◌++◌, length, if◌then◌else◌, codes, decimal}
 use Rattle.study_marks.specs.declared.mark.Mark.{Mark}
 use Rattle.study_marks.specs.Study.{Study, plain_study}
 use Rattle.study_marks.specs.Annotated.{IsAnnotated}
@@ -75,10 +75,13 @@ missing_title = codes "Defences not given"
 unfoldable pub ends_title : List ℕ
 ends_title = codes "Best play after the last move given"
 
+unfoldable pub missing_table : List ℕ → List ℕ
+missing_table defences = table_part missing_title (heads (codes "After") (codes "Main defences") (codes "Others")) defences
+
 -- of the positions that are left
 unfoldable pub last_tables : List ℕ → List ℕ → List ℕ
 last_tables defences ends =
-    table_part missing_title (heads (codes "After") (codes "Main defences") (codes "Others")) defences
+    missing_table defences
     ++ table_part ends_title (heads (codes "After") (codes "Value") (codes "Continuation")) ends
 
 unfoldable pub tables : List ℕ → List ℕ → List ℕ → List ℕ → List ℕ
@@ -96,14 +99,22 @@ content s names j faults duals tries zugzwangs defences ends =
     head names s.tags ++ (top s j faults ++ (solution_part (solution_words s) ++ (cards_part j.stamp duals
     ++ (tables tries zugzwangs defences ends ++ element_text element.Foot (escaped_text foot_words)))))
 
+-- `No. 6`
+unfoldable pub number_part : ℕ → List ℕ
+number_part number = element_text element.Note (escaped_text (codes "No. " ++ decimal number))
+
+unfoldable pub entry_content : Study Mark → EntryInfo → Judgement → List ℕ → List ℕ → List ℕ → List ℕ → List ℕ → List ℕ → List ℕ
+entry_content s entry j faults duals tries zugzwangs defences ends =
+    number_part entry.number ++ content s entry.origin.names j faults duals tries zugzwangs defences ends
+
 abbrev pub page_text : Study Mark → EntryInfo → SolutionFacts → List ℕ → List ℕ → List ℕ → List ℕ → List ℕ → List ℕ → List ℕ
 page_text s entry facts faults duals tries zugzwangs defences ends =
     element_text (element.Entry entry.number)
-    (content s entry.origin.names (entry_judgement s facts entry.origin.standing) faults duals tries zugzwangs defences ends)
+    (entry_content s entry (entry_judgement s facts entry.origin.standing) faults duals tries zugzwangs defences ends)
 
 -- ---- what it says
 
--- The page of an annotated study, as this entry: head, diagram and verdict, the tree of the solution, and then part by
+-- The page of an annotated study, as this entry: its number, head, diagram and verdict, the tree of the solution, and then part by
 -- part what each has of the nodes.
 abbrev pub IsPage : Study Mark → EntryInfo → List ℕ → Type 0
 IsPage s entry text =

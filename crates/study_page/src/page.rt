@@ -15,10 +15,10 @@ ghost use Rattle.study_html.specs.Markup.{IsWellNested};
 ghost use Rattle.study_facts.specs.Made.{HasAsked};
 ghost use Rattle.study_page.specs.Page.{AreRows, heads, table_part, full_table, cards_part, full_cards};
 ghost use Rattle.study_page.specs.Lists.{summary_row};
-ghost use Rattle.study_page.specs.Page.{tries_title, zugzwangs_title, missing_title, ends_title, last_tables};
+ghost use Rattle.study_page.specs.Page.{tries_title, zugzwangs_title, missing_title, missing_table, ends_title, last_tables};
 ghost use Rattle.study_page.specs.Rows.{FaultItems, Cards, TryRows, ZugzwangRows, DefenceRows, EndRows};
 ghost use Rattle.study_page.specs.Tree.{solution_words};
-ghost use Rattle.study_page.specs.Page.{solution_part, duals_title, duals_note, foot_words, tables, top, content, IsPage, IsPageOf, IsEntry, IsRow};
+ghost use Rattle.study_page.specs.Page.{solution_part, duals_title, duals_note, foot_words, tables, top, content, number_part, entry_content, IsPage, IsPageOf, IsEntry, IsRow};
 
 use crate::draft::Sections;
 use crate::page_findings::PageFindings;
@@ -35,7 +35,7 @@ use study_head::{
 };
 use study_html::{Element, Html, put_words};
 use study_marks::Bench;
-use study_text::write_text;
+use study_text::{Text, write_text};
 use study_values::Values;
 
 /// All parts that evaluate positions.
@@ -238,6 +238,20 @@ fn ends_title() -> &'static [u8]
     b"Best play after the last move given"
 }
 
+/// The table of the defences that are not given.
+#[tactic(auto, unfolding(crate::specs::Page::missing_table))]
+fn put_missing<'a, A: Allocator>(
+    alloc: &'a A,
+    html: &mut Html<'_, A>,
+    rows: &Html<'_, A>,
+) -> Result<(), AllocError>
+    ensures { OnOk result (html.new ≡ html.old ++ missing_table rows.now) }
+{
+    let mut heads = Html::new(alloc);
+    put_heads(alloc, &mut heads, b"After", b"Main defences", b"Others")?;
+    put_table(alloc, html, missing_title(), &heads, rows)
+}
+
 /// The tables of what the tree lacks and of how it goes on.
 #[tactic(auto, unfolding(crate::specs::Page::last_tables))]
 fn put_last_tables<'a, A: Allocator>(
@@ -247,11 +261,9 @@ fn put_last_tables<'a, A: Allocator>(
 ) -> Result<(), AllocError>
     ensures { OnOk result (html.new ≡ html.old ++ last_tables parts.now.defences parts.now.ends) }
 {
-    let mut defences = Html::new(alloc);
     let mut ends = Html::new(alloc);
-    put_heads(alloc, &mut defences, b"After", b"Main defences", b"Others")?;
+    put_missing(alloc, html, &parts.defences)?;
     put_heads(alloc, &mut ends, b"After", b"Value", b"Continuation")?;
-    put_table(alloc, html, missing_title(), &defences, &parts.defences)?;
     put_table(alloc, html, ends_title(), &ends, &parts.ends)
 }
 
@@ -320,6 +332,40 @@ fn put_content<'a, 'b, A: Allocator, B: Allocator>(
     put_cards(alloc, html, &judged.stamp, &parts.duals)?;
     put_tables(alloc, html, parts)?;
     put_words(alloc, html, Element::Foot, foot_words())
+}
+
+/// The number of an entry.
+#[tactic(auto, unfolding(crate::specs::Page::number_part))]
+fn put_number<'a, A: Allocator>(
+    alloc: &'a A,
+    html: &mut Html<'_, A>,
+    number: u32,
+) -> Result<(), AllocError>
+    ensures { OnOk result (html.new ≡ html.old ++ number_part number) }
+{
+    let mut text = Text::new(alloc);
+    text.add(b"No. ")?;
+    text.add_number(number)?;
+    put_words(alloc, html, Element::Note, text.as_slice())
+}
+
+/// All that the page of an entry has.
+#[tactic(auto, unfolding(crate::specs::Page::entry_content))]
+fn put_entry<'a, 'b, A: Allocator, B: Allocator>(
+    alloc: &'a A,
+    html: &mut Html<'_, A>,
+    bench: &Bench<'b, B>,
+    info: &EntryInfo,
+    judged: &Judgement,
+    parts: &Sections<'_, A>,
+) -> Result<(), AllocError>
+    requires { IsLegalStamp judged.now.stamp }
+    ensures { OnOk result (html.new ≡ html.old
+        ++ entry_content (marked_study bench.now) info.now judged.now parts.now.faults
+        parts.now.duals parts.now.tries parts.now.zugzwangs parts.now.defences parts.now.ends) }
+{
+    put_number(alloc, html, info.number)?;
+    put_content(alloc, html, bench, &info.origin.names, judged, parts)
 }
 
 /// The rows of the list of entries before a page, and their allocator.
@@ -402,14 +448,7 @@ fn entry_of<'a, 's, 'b, A: Allocator, S: Allocator, B: Allocator, V: Values>(
     let mut content = Html::new(alloc);
     let found = found_in(alloc, bench, values)?;
     let judged = entry_judgement(bench, &found.facts, info.origin.standing);
-    put_content(
-        alloc,
-        &mut content,
-        bench,
-        &info.origin.names,
-        &judged,
-        &found.parts,
-    )?;
+    put_entry(alloc, &mut content, bench, &info, &judged, &found.parts)?;
     page.put(Element::Entry(info.number), &content)?;
     // (the content is well nested, as the clause of its bytes says)
     let _content = content.as_slice();

@@ -168,6 +168,36 @@ def test_the_row_of_the_next_study_is_seen(user):
     assert user.js("return document.querySelector('#list .scroll').scrollTop") == 0
 
 
+def test_facts_go_on_while_others_are_looked_at(user):
+    """A look at another study comes first, and then the facts of the rest are found."""
+    user.open_tables(TABLES, SMALL)
+    lines = [numbered(KINGS[:n], 1) for n in range(1, 7)]
+    opened(user, games(*((f"Entry {n}", FEN, moves) for n, moves in enumerate(lines))) + FAULTY)
+    for n in (7, 8, 6, 9, 1, 7, 8):
+        user.choose("studies", f"{n}")
+    user.until(FOUND, 60)
+    assert not any("…" in row[1] for row in user.js(STAMPS)), user.js(STAMPS)
+
+
+def test_page_down_goes_down_the_list(user):
+    """Page Down takes the next row as the list is sorted and filtered; a click anywhere in a row opens it."""
+    user.open_tables(TABLES, SMALL)
+    opened(user, FAULTY)
+    user.until(FOUND, 60)
+    user.press_on("[data-sort=verdict]")
+    order = user.js("return [...document.querySelectorAll('#rows [data-at]')].map(b => Number(b.dataset.at))")
+    assert order != sorted(order), order
+    shown = "return Number(document.querySelector('#rows [aria-current]').dataset.at)"
+    user.press_on("#rows tbody tr td:last-child")
+    user.settle()
+    assert user.js(shown) == order[0], user.js(shown)
+    for at in order[1:]:
+        user.keys(Keys.PAGE_DOWN)
+        user.settle()
+        assert user.js(shown) == at, (user.js(shown), order)
+    assert user.js("return document.getElementById('after').disabled")
+
+
 def mended(user, old, new):
     """The text of the game that is being mended, with other words, is read."""
     text = user.js("return document.getElementById('gameText').value")

@@ -4,7 +4,7 @@ use Rattle.study_head.specs.declared.verdict.Judgement.{Judgement}
 use Rattle.study_html.specs.declared.element.Element.TheVariants as element
 use Rattle.study_html.specs.Elements.{element_text}
 use Rattle.study_html.specs.Markup.{IsWellNested}
-use Rattle.study_page.specs.Page.{content}
+use Rattle.study_page.specs.Page.{entry_content}
 use Rattle.study_page.proofs.WholePage.{from-nothing}
 use Rattle.study_page.proofs.page.entry_of.Goals as goal
 
@@ -28,8 +28,8 @@ returns-clause-text g c h =
       p.4,
       p.5,
       from-nothing _ _ _ c.new-page.ensures c.in_ok-put.ensures
-          ∙ ap (element_text (element.Entry c.args.info.number)) (from-nothing _ _ _ c.new-content.ensures c.in_ok-put_content.ensures
-          ∙ ap (λ (j : Judgement). content s c.args.info.origin.names j parts.faults parts.duals parts.tries parts.zugzwangs parts.defences parts.ends)
+          ∙ ap (element_text (element.Entry c.args.info.number)) (from-nothing _ _ _ c.new-content.ensures c.in_ok-put_entry.ensures
+          ∙ ap (λ (j : Judgement). entry_content s c.args.info j parts.faults parts.duals parts.tries parts.zugzwangs parts.defences parts.ends)
           c.entry_judgement-judged.ensures.judged),
     )
 
