@@ -109,7 +109,7 @@ fn remarks_are_printed(rt: HostRuntime) -> Result<(), Fail> {
     let (_, pages) = text.split_once("</defs></svg>\n").unwrap_or(("", ""));
     assert!(rt; pages == REMARKS);
     let wanted = Summary {
-        lines: 23,
+        lines: 25,
         refused: 1,
     };
     assert_eq!(rt; answer, Ok(wanted));
