@@ -1,6 +1,6 @@
-//! Tests of texts, of devices in memory and of the rules: positions and their faults, legal moves and unmoves, FEN and SAN, classes, numbers of
-//! positions. The tests of study_X are in X.rt and the files that begin with its name. The crate has only tests, since a crate with tests is proved
-//! twice; what they expect comes from outside of this program. Only tests call these functions, and none has a contract.
+//! Tests of texts, of devices in memory and of the rules: positions and their faults, legal moves and unmoves, FEN and SAN, positions with more than four
+//! men, classes, numbers of positions. The tests of study_X are in X.rt and the files that begin with its name. The crate has only tests, since a crate
+//! with tests is proved twice; what they expect comes from outside of this program. Only tests call these functions, and none has a contract.
 #![tactic(auto)]
 
 #[cfg(test)]
@@ -29,3 +29,7 @@ mod notation_moves;
 mod rows;
 #[cfg(test)]
 mod text;
+#[cfg(test)]
+mod wide;
+#[cfg(test)]
+mod wide_text;

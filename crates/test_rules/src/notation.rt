@@ -44,7 +44,7 @@ k7/8/1K6/8/8/8/8/7R w - e6 x 1,EnPassantImpossible
 k7/8/1K6/8/8/8/8/7R w - - x x,Clock";
 
 /// The fault's name in a row.
-fn name(fault: FenFault) -> &'static str {
+pub(crate) fn fen_fault(fault: FenFault) -> &'static str {
     match fault {
         FenFault::FieldCount => "FieldCount",
         FenFault::Placement => "Placement",
@@ -65,7 +65,7 @@ fn name(fault: FenFault) -> &'static str {
 fn has_fault(fen: &str, fault: &str) -> bool {
     match read_fen(fen) {
         Ok(_) => false,
-        Err(found) => name(found) == fault,
+        Err(found) => fen_fault(found) == fault,
     }
 }
 
@@ -180,7 +180,7 @@ ed3,NoSuchMove
 d3,NoSuchMove";
 
 /// The fault's name in a row.
-fn san_fault(fault: SanFault) -> &'static str {
+pub(crate) fn san_fault(fault: SanFault) -> &'static str {
     match fault {
         SanFault::NotSan => "NotSan",
         SanFault::CastlingLeftOut => "CastlingLeftOut",
@@ -194,13 +194,15 @@ fn promotion(m: &Move) -> &'static str {
     match m.promoted {
         None => "",
         Some(Kind::Queen) => "Queen",
+        Some(Kind::Rook) => "Rook",
+        Some(Kind::Bishop) => "Bishop",
         Some(Kind::Knight) => "Knight",
         Some(_) => "another",
     }
 }
 
 /// Whether the words are the move's origin, target and promotion.
-fn has_coordinates(m: &Move, words: &str) -> bool {
+pub(crate) fn has_coordinates(m: &Move, words: &str) -> bool {
     let mut words = words.split_ascii_whitespace();
     square(words.next().unwrap_or("")) == Some(m.origin)
         && square(words.next().unwrap_or("")) == Some(m.target)
