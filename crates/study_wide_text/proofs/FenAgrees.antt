@@ -17,7 +17,7 @@ use Rattle.study_moves.specs.declared.moves.Move.{Move}
 use Rattle.study_notation.specs.declared.start.Start.{Start}
 use Rattle.study_notation.specs.declared.fault.FenFault.{FenFault}
 use Rattle.study_notation.specs.declared.fault.FenFault.TheVariants.{TooManyMen, Castling}
-use Rattle.study_notation.specs.Fen.{Fields, fields_of, placement, placement_fault, side_of, is_dash, passed_of, position_of, count_of, start_of}
+use Rattle.study_notation.specs.Fen.{fields_of, placement, placement_fault, side_of, is_dash, passed_of, position_of, count_of, start_of}
 use Rattle.study_notation.specs.Fen.{◌>>=◌, refuse, refuse_any, field_needed}
 use Rattle.study_notation.specs.FenSpelling.{fen_text}
 use Rattle.study_notation.specs.StartAfter.{start_after, resets_clock, one_more, number_after}
@@ -31,7 +31,8 @@ use Rattle.study_wide_text.specs.StartAfter.{wide_start_after, widen_start}
 use Rattle.study_wide_text.specs.RightsField.{letter_at, rights_at, rights_of, castling_text}
 use Rattle.study_wide_text.specs.Fen.{wide_placement_fault, wide_position_of, wide_start_of, wide_fen_text}
 use Rattle.study_wide_text.specs.Laws.{FenAgrees}
-use Rattle.study_wide_text.proofs.StepsRead.{bind_ok, needed_ok, refuse_ok, refuse_any_ok, where_true}
+use Rattle.study_wide_text.proofs.StepsRead.{after_needed, after_refuse, after_refuse_any, where_true}
+use Rattle.study_wide_text.proofs.WideFen.{parsed}
 
 -- ---- the steps
 
@@ -233,53 +234,26 @@ start_made p clock number = record { position = p; clock = clock; number = numbe
 abbrev made : List Man → Side → Option ℕ → Position
 made men s q = record { men = men; to_move = s; passed = q }
 
-ok_is : (x y : WideStart) → wide_ok x ≡ wide_ok y → x ≡ y
-ok_is x y e = cc
-
-not_false : (b : Bool) → not b ≡ false → b ≡ true
-not_false true e = refl
-not_false false e = absurd (false≢true (sym e))
-
-built : (text : List ℕ) (f : Fields) (men : List Man) (side : Side) (q : Option ℕ) (clock n : ℕ) → fields_of (words text) ≡ Some f
-    → placement f.placement ≡ Some men → placement_fault men ≡ None → side_of f.side ≡ Some side → in_check men (other_side side) ≡ false
-    → is_dash f.castling ≡ true → passed_of f.passed ≡ Some q → passed_possible men side q ≡ true → count_of f.clock ≡ Some clock
-    → count_of f.number ≡ Some n → start_of text ≡ start_ok (start_made (made men side q) clock (cond (n == 0) 1 n))
-unfolding start_of position_of
-built text f men side q clock n a b d e h i j k l m = rw (a, b, d, e, h, i, j, k, l, m) refl
-
 from_wide : (text : List ℕ) (s : Start) → IsValid s.position → wide_start_of text ≡ Ok (widen_start s) → start_of text ≡ Ok s
-unfolding wide_start_of wide_position_of
+unfolding start_of position_of wide_position_of
 from_wide text s valid e =
-    let fields = bind_ok (field_needed (fields_of (words text)) _) _ (widen_start s) e in
-    let f = fields.0 in
-    let placed = bind_ok (field_needed (placement f.placement) _) _ (widen_start s) fields.2 in
-    let men = placed.0 in
-    let whole = bind_ok (refuse_any (wide_placement_fault men)) _ (widen_start s) placed.2 in
-    let sided = bind_ok (field_needed (side_of f.side) _) _ (widen_start s) whole.2 in
-    let side = sided.0 in
-    let safe = bind_ok (refuse (in_check men (other_side side)) _) _ (widen_start s) sided.2 in
-    let righted = bind_ok (field_needed (rights_of f.castling) _) _ (widen_start s) safe.2 in
-    let rights = righted.0 in
-    let fit = bind_ok (refuse (not (rights_fit men rights)) _) _ (widen_start s) righted.2 in
-    let jumped = bind_ok (field_needed (passed_of f.passed) _) _ (widen_start s) fit.2 in
-    let q = jumped.0 in
-    let placed_at = bind_ok (field_needed (wide_position_of men side q rights) _) _ (widen_start s) jumped.2 in
-    let clock = bind_ok (field_needed (count_of f.clock) _) _ (widen_start s) placed_at.2 in
-    let number = bind_ok (field_needed (count_of f.number) _) _ (widen_start s) clock.2 in
-    let n = number.0 in
-    let is = where_true (passed_possible men side q) (record { board = made men side q; rights = rights }) placed_at.0
-    (needed_ok _ _ placed_at.0 placed_at.1) in
-    let same = ok_is (record { position = placed_at.0; clock = clock.0; number = cond (n == 0) 1 n }) (widen_start s) number.2 in
-    let board : made men side q ≡ s.position = ap (λ (g : Wide). g.board) is.1 ∙ ap (λ (z : WideStart). z.position.board) same in
-    let none : rights ≡ no_rights = ap (λ (g : Wide). g.rights) is.1 ∙ ap (λ (z : WideStart). z.position.rights) same in
-    let few : nat_lt 4 (length men) ≡ false = (IsFaultless-from_first men side q (subst (λ (p : Position). IsValid p) (sym board) valid).faultless).few in
-    let dash = dash_only f.castling (needed_ok _ _ rights righted.1 ∙ ap (λ (r : Rights). Some r) none) in
-    let fault : placement_fault men ≡ None = sym (same_fault men few) ∙ refuse_any_ok _ _ whole.1 in
-    built text f men side q clock.0 n (needed_ok _ _ f fields.1) (needed_ok _ _ men placed.1) fault (needed_ok _ _ side sided.1)
-    (refuse_ok _ _ _ safe.1) dash (needed_ok _ _ q jumped.1) is.0 (needed_ok _ _ clock.0 clock.1) (needed_ok _ _ n number.1)
-    ∙ (ap (λ (p : Position). start_ok (start_made p clock.0 (cond (n == 0) 1 n))) board
-    ∙ (ap (λ (z : WideStart). start_ok (start_made s.position z.clock (cond (n == 0) 1 n))) same
-    ∙ ap (λ (z : WideStart). start_ok (start_made s.position s.clock z.number)) same))
+    let p = parsed text (widen_start s) e in
+    let is = where_true (passed_possible p.men p.side p.passed) (record { board = made p.men p.side p.passed; rights = p.rights }) (widen s.position) p.position in
+    let board : made p.men p.side p.passed ≡ s.position = ap (λ (g : Wide). g.board) is.1 in
+    let none : p.rights ≡ no_rights = ap (λ (g : Wide). g.rights) is.1 in
+    let few : nat_lt 4 (length p.men) ≡ false =
+    (IsFaultless-from_first p.men p.side p.passed (subst (λ (q : Position). IsValid q) (sym board) valid).faultless).few in
+    let dash = dash_only p.fields.castling (p.righted ∙ ap (λ (r : Rights). Some r) none) in
+    after_needed _ _ _ _ _ p.in_fields (
+    after_needed _ _ _ _ _ p.placed (
+    after_refuse_any _ _ _ (sym (same_fault p.men few) ∙ p.whole) (
+    after_needed _ _ _ _ _ p.sided (
+    after_refuse _ _ _ _ p.safe (
+    after_refuse _ _ _ _ (ap not dash) (
+    after_needed _ _ _ _ _ p.jumped (
+    after_needed (position_of p.men p.side p.passed) _ _ s.position _ (rw is.0 (ap (λ (q : Position). Some q) board)) (
+    after_needed _ _ _ _ _ p.clocked (
+    after_needed _ _ _ _ _ p.numbered (ap (λ (n : ℕ). start_ok (start_made s.position s.clock n)) p.counted))))))))))
 
 written_same : (s : Start) → wide_fen_text (widen_start s) ≡ fen_text s
 unfolding wide_fen_text fen_text castling_text

@@ -21,9 +21,11 @@ use Rattle.study_notation.specs.Fen.{is_digit, count_of}
 use Rattle.study_notation.proofs.PlacementParts.{rank_len}
 use Rattle.study_notation.proofs.DigitCounts.{digit_is}
 
-pub bind_ok : {A B : Type 0} (r : Result A FenFault) (f : A → Result B FenFault) (y : B) → (r >>= f) ≡ Ok y → (x : A) × (r ≡ Ok x) × (f x ≡ Ok y)
-bind_ok (Ok x) f y e = (x, refl, e)
-bind_ok (Err k) f y e = absurd (let bad : ⊥ = cc in bad)
+-- what a step and those behind it give
+pub bind_then : {A B C : Type 0} (r : Result A FenFault) (f : A → Result B FenFault) (y : B) → (r >>= f) ≡ Ok y
+    → ((x : A) → r ≡ Ok x → f x ≡ Ok y → C) → C
+bind_then (Ok x) f y e then = then x refl e
+bind_then (Err k) f y e then = absurd (let bad : ⊥ = cc in bad)
 
 pub needed_ok : {A : Type 0} (o : Option A) (k : FenFault) (x : A) → field_needed o k ≡ Ok x → o ≡ Some x
 needed_ok None k x e = absurd (let bad : ⊥ = cc in bad)
@@ -36,6 +38,19 @@ refuse_ok false k x e = refl
 pub refuse_any_ok : (o : Option FenFault) (x : Unit {0}) → refuse_any o ≡ Ok x → o ≡ None
 refuse_any_ok None x e = refl
 refuse_any_ok (Some k) x e = absurd (let bad : ⊥ = cc in bad)
+
+-- the result, from that of a step and that of those behind it
+pub after_needed : {A B : Type 0} (o : Option A) (k : FenFault) (f : A → Result B FenFault) (x : A) (y : Result B FenFault) → o ≡ Some x → f x ≡ y
+    → (field_needed o k >>= f) ≡ y
+after_needed o k f x y e h = rw e h
+
+pub after_refuse : {B : Type 0} (b : Bool) (k : FenFault) (f : Unit {0} → Result B FenFault) (y : Result B FenFault) → b ≡ false → f tt ≡ y
+    → (refuse b k >>= f) ≡ y
+after_refuse b k f y e h = rw e h
+
+pub after_refuse_any : {B : Type 0} (o : Option FenFault) (f : Unit {0} → Result B FenFault) (y : Result B FenFault) → o ≡ None → f tt ≡ y
+    → (refuse_any o >>= f) ≡ y
+after_refuse_any o f y e h = rw e h
 
 -- ---- the men are on the board
 

@@ -21,7 +21,7 @@ use Rattle.std.proofs.lemmas.List.Sorted.{IsPermutation-sym}
 use Rattle.study_moves.proofs.MenOfList.{has_square_twice-ascending}
 use Rattle.study_notation.specs.declared.fault.FenFault.{FenFault}
 use Rattle.study_notation.specs.declared.fault.FenFault.TheVariants.{TooManyMen}
-use Rattle.study_notation.specs.Fen.{fields_of, placement, side_of, passed_of, count_of, refuse, refuse_any, field_needed}
+use Rattle.study_notation.specs.Fen.{Fields, fields_of, placement, side_of, passed_of, count_of, refuse, refuse_any, field_needed}
 use Rattle.study_notation.specs.FenSpelling.{placement_text, side_text, passed_text}
 use Rattle.study_notation.proofs.PlacementFaults.{IsAscending-placement, reported, ascending_same}
 use Rattle.study_wide.specs.declared.rights.Rights.{Rights}
@@ -34,7 +34,8 @@ use Rattle.study_wide_text.specs.RightsField.{rights_of, castling_text}
 use Rattle.study_wide_text.specs.Fen.{wide_placement_fault, wide_position_of, wide_start_of, wide_fen_text}
 use Rattle.study_wide_text.proofs.FieldsAgain.{words_again, side_word, passed_word, count_word, placement_word, placement_again, Ascending-valid}
 use Rattle.study_wide_text.proofs.FieldsAgain.{side_again, passed_again, passed_in, count_again}
-use Rattle.study_wide_text.proofs.StepsRead.{bind_ok, needed_ok, refuse_ok, refuse_any_ok, where_true, on_board, count_low, one_or_more}
+use Rattle.study_wide_text.proofs.StepsRead.{bind_then, needed_ok, refuse_ok, refuse_any_ok, after_needed, after_refuse, after_refuse_any}
+use Rattle.study_wide_text.proofs.StepsRead.{where_true, on_board, count_low, one_or_more}
 use Rattle.study_wide_text.proofs.RightsAgain.{rights_again, castling_word}
 
 pub placed_fault : (men : List Man) → IsAscending men
@@ -159,36 +160,74 @@ made_ok s = Ok s
 ok_is : (x y : WideStart) → made_ok x ≡ made_ok y → x ≡ y
 ok_is x y e = cc
 
-pub read_is : (text : List ℕ) (s : WideStart) → wide_start_of text ≡ Ok s → IsRead s
+-- the parts of a text that is read as a start
+pub record IsParsed (text : List ℕ) (s : WideStart) : Type 0 where
+  pub fields : Fields
+  pub men : List Man
+  pub side : Side
+  pub rights : Rights
+  pub passed : Option ℕ
+  pub number : ℕ
+  pub in_fields : fields_of (words text) ≡ Some fields
+  pub placed : placement fields.placement ≡ Some men
+  pub whole : wide_placement_fault men ≡ None
+  pub sided : side_of fields.side ≡ Some side
+  pub safe : in_check men (other_side side) ≡ false
+  pub righted : rights_of fields.castling ≡ Some rights
+  pub fit : rights_fit men rights ≡ true
+  pub jumped : passed_of fields.passed ≡ Some passed
+  pub position : wide_position_of men side passed rights ≡ Some s.position
+  pub clocked : count_of fields.clock ≡ Some s.clock
+  pub numbered : count_of fields.number ≡ Some number
+  pub counted : cond (number == 0) 1 number ≡ s.number
+
+pub parsed : (text : List ℕ) (s : WideStart) → wide_start_of text ≡ Ok s → IsParsed text s
 unfolding wide_start_of
+parsed text s e =
+    bind_then (field_needed (fields_of (words text)) _) _ s e (λ f in_fields e.
+    bind_then (field_needed (placement f.placement) _) _ s e (λ men placed e.
+    bind_then (refuse_any (wide_placement_fault men)) _ s e (λ _ whole e.
+    bind_then (field_needed (side_of f.side) _) _ s e (λ side sided e.
+    bind_then (refuse (in_check men (other_side side)) _) _ s e (λ _ safe e.
+    bind_then (field_needed (rights_of f.castling) _) _ s e (λ rights righted e.
+    bind_then (refuse (not (rights_fit men rights)) _) _ s e (λ _ fit e.
+    bind_then (field_needed (passed_of f.passed) _) _ s e (λ passed jumped e.
+    bind_then (field_needed (wide_position_of men side passed rights) _) _ s e (λ position made e.
+    bind_then (field_needed (count_of f.clock) _) _ s e (λ clock clocked e.
+    bind_then (field_needed (count_of f.number) _) _ s e (λ n numbered e.
+    let same = ok_is (record { position = position; clock = clock; number = cond (n == 0) 1 n }) s e in
+    record {
+      fields = f;
+      men = men;
+      side = side;
+      rights = rights;
+      passed = passed;
+      number = n;
+      in_fields = needed_ok _ _ f in_fields;
+      placed = needed_ok _ _ men placed;
+      whole = refuse_any_ok _ _ whole;
+      sided = needed_ok _ _ side sided;
+      safe = refuse_ok _ _ _ safe;
+      righted = needed_ok _ _ rights righted;
+      fit = not_false _ (refuse_ok _ _ _ fit);
+      jumped = needed_ok _ _ passed jumped;
+      position = needed_ok _ _ position made ∙ ap (λ (z : WideStart). Some z.position) same;
+      clocked = needed_ok _ _ clock clocked ∙ ap (λ (z : WideStart). Some z.clock) same;
+      numbered = needed_ok _ _ n numbered;
+      counted = ap (λ (z : WideStart). z.number) same;
+    })))))))))))
+
+pub read_is : (text : List ℕ) (s : WideStart) → wide_start_of text ≡ Ok s → IsRead s
 read_is text s e =
-    let fields = bind_ok (field_needed (fields_of (words text)) _) _ s e in
-    let f = fields.0 in
-    let placed = bind_ok (field_needed (placement f.placement) _) _ s fields.2 in
-    let men = placed.0 in
-    let is_placement = needed_ok _ _ men placed.1 in
-    let whole = bind_ok (refuse_any (wide_placement_fault men)) _ s placed.2 in
-    let sided = bind_ok (field_needed (side_of f.side) _) _ s whole.2 in
-    let side = sided.0 in
-    let safe = bind_ok (refuse (in_check men (other_side side)) _) _ s sided.2 in
-    let righted = bind_ok (field_needed (rights_of f.castling) _) _ s safe.2 in
-    let rights = righted.0 in
-    let fit = bind_ok (refuse (not (rights_fit men rights)) _) _ s righted.2 in
-    let jumped = bind_ok (field_needed (passed_of f.passed) _) _ s fit.2 in
-    let made_it = bind_ok (field_needed (wide_position_of men side jumped.0 rights) _) _ s jumped.2 in
-    let clock = bind_ok (field_needed (count_of f.clock) _) _ s made_it.2 in
-    let number = bind_ok (field_needed (count_of f.number) _) _ s clock.2 in
-    let n = number.0 in
-    let start : WideStart = record { position = made_it.0; clock = clock.0; number = cond (n == 0) 1 n } in
-    let counted = one_or_more n (count_low f.number n (needed_ok _ _ n number.1)) in
-    subst (λ (z : WideStart). IsRead z) (ok_is start s number.2) (record {
-      valid = sound_position men side jumped.0 rights made_it.0 (IsAscending-placement f.placement men is_placement)
-          (on_board f.placement men is_placement) (refuse_any_ok _ _ whole.1) (refuse_ok _ _ _ safe.1)
-          (not_false _ (refuse_ok _ _ _ fit.1)) (needed_ok _ _ made_it.0 made_it.1);
-      clock = count_low f.clock clock.0 (needed_ok _ _ clock.0 clock.1);
-      positive = counted.0;
-      number = counted.1;
-    })
+    let p = parsed text s e in
+    let counted = one_or_more p.number (count_low p.fields.number p.number p.numbered) in
+    record {
+      valid = sound_position p.men p.side p.passed p.rights s.position (IsAscending-placement p.fields.placement p.men p.placed)
+          (on_board p.fields.placement p.men p.placed) p.whole p.safe p.fit p.position;
+      clock = count_low p.fields.clock s.clock p.clocked;
+      positive = subst (λ (n : ℕ). 1 ≤ n) p.counted counted.0;
+      number = subst (λ (n : ℕ). n ≤ 9999) p.counted counted.1;
+    }
 
 -- ---- what is written
 
@@ -224,20 +263,17 @@ start_again s valid clock low high =
     (side_text side ∷ castling_text rights ∷ passed_text passed ∷ decimal s.clock ∷ decimal s.number ∷ [])
     (a.0, a.1, (b.0, b.1, (r.0, r.1, (p.0, p.1, (h.0, h.1, (n.0, n.1, tt)))))) in
     let some : eqb s.number 0 ≡ false = ne_eqb s.number 0 (λ e. omega arith) in
-    rw (
-      all,
-      placement_again men (Ascending-valid men sound.ordered sound.on_board),
-      placed_none men side passed s.position.board refl sound valid.few,
-      side_again side,
-      sound.safe,
-      rights_again rights,
-      valid.fit,
-      passed_again passed (passed_in men side passed sound.possible),
-      sound.possible,
-      count_again s.clock clock,
-      count_again s.number high,
-      some,
-    ) refl
+    after_needed _ _ _ _ _ (ap fields_of all) (
+    after_needed _ _ _ _ _ (placement_again men (Ascending-valid men sound.ordered sound.on_board)) (
+    after_refuse_any _ _ _ (placed_none men side passed s.position.board refl sound valid.few) (
+    after_needed _ _ _ _ _ (side_again side) (
+    after_refuse _ _ _ _ sound.safe (
+    after_needed _ _ _ _ _ (rights_again rights) (
+    after_refuse _ _ _ _ (ap not valid.fit) (
+    after_needed _ _ _ _ _ (passed_again passed (passed_in men side passed sound.possible)) (
+    after_needed (wide_position_of men side passed rights) _ _ s.position _ (rw sound.possible refl) (
+    after_needed _ _ _ _ _ (count_again s.clock clock) (
+    after_needed _ _ _ _ _ (count_again s.number high) (rw some refl)))))))))))
 
 pub settled : (text : List ℕ) (s : WideStart) → wide_start_of text ≡ Ok s → wide_start_of (wide_fen_text s) ≡ Ok s
 settled text s e = let r = read_is text s e in start_again s r.valid r.clock r.positive r.number

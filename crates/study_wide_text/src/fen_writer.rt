@@ -11,7 +11,7 @@ use study_notation::{push_byte, push_number, push_passed, side_letter, write_pla
 ///
 /// Six fields separated by one space, the letters KQkq of the rights in this order or `-`, one digit for each run of empty squares, the passed square whenever
 /// the position has one, and numbers without leading zeros: at most 93 bytes.
-#[tactic(auto, unfolding(crate::specs::Fen::wide_fen_text), using(crate::proofs::PlacementLength::placement_is_short))]
+#[tactic(auto, unfolding(crate::specs::Fen::wide_fen_text))]
 pub fn write_wide_fen(start: &WideStart) -> ArrayString<96>
     ensures { result.bytes ≡ wide_fen_text start.now }
 {
