@@ -37,9 +37,8 @@ pub written_end : (before : List ℕ) (g : Wide) (path : List ℕ) (k : ℕ) (f 
 written_end before g path k f xs ys end h = sym (append-nil ys) ∙ ap (λ (s : Moves). ys ++ insert_lines before g path k s) (sym end) ∙ h
 
 -- the lines of a tail
-pub tail_written : (start : WideStart) (stipulation : Stipulation) (tags : List (Option (List ℕ))) (below : Moves) (front xs ys zs : List ℕ)
-    → is_small start.position ≡ true → ys ≡ xs ++ head_lines [] start stipulation tags → front ≡ []
-    → zs ≡ ys ++ insert_lines [] start.position front 0 below
+pub tail_written : (start : WideStart) (stipulation : Stipulation) (tags : List (Option (List ℕ))) (below : Moves) (xs ys zs : List ℕ)
+    → is_small start.position ≡ true → ys ≡ xs ++ head_lines [] start stipulation tags → zs ≡ ys ++ insert_lines [] start.position [] 0 below
     → zs ≡ xs ++ study_lines [] (widen_study (record {
       start = narrow_start start;
       stipulation = stipulation;
@@ -47,9 +46,8 @@ pub tail_written : (start : WideStart) (stipulation : Stipulation) (tags : List 
       tree = record { label = tt; below = below };
     }))
 unfolding study_lines
-tail_written start stipulation tags below front xs ys zs small head root lines =
+tail_written start stipulation tags below xs ys zs small head lines =
     lines
-    ∙ ap (λ (q : List ℕ). ys ++ insert_lines [] start.position q 0 below) root
     ∙ ap (λ (s : List ℕ). s ++ insert_lines [] start.position [] 0 below) head
     ∙ append_assoc xs (head_lines [] start stipulation tags) (insert_lines [] start.position [] 0 below)
     ∙ ap (λ (w : WideStart). xs ++ (head_lines [] w stipulation tags ++ insert_lines [] w.position [] 0 below)) (small_start start small)

@@ -9,7 +9,7 @@ use Rattle.study_tree.specs.Tree.{Plain, with_child, size_of, child_refusal}
 use Rattle.study_marks.specs.Study.{place_at}
 use Rattle.study_marks.proofs.StudyEdits.{AreDistinct-add_last}
 use Rattle.study_reading.specs.declared.moves.MoveFault.{MoveFault}
-use Rattle.study_reading.specs.declared.moves.MoveFault.TheVariants.{NoSuchNode, San, TooDeep, TreeFull, OutOfMemory}
+use Rattle.study_reading.specs.declared.moves.MoveFault.TheVariants.{NoSuchNode, TooDeep, TreeFull, OutOfMemory}
 use Rattle.study_reading.specs.declared.moves.Step.{Step}
 use Rattle.study_tails.specs.declared.moves.Meant.{Meant}
 use Rattle.study_tails.specs.Study.{WideStudy, Node, node_at, IsWideStudy}
@@ -86,9 +86,6 @@ pub meant_at : (s : WideStudy) (at san : List ℕ) (n : Node) (r : Result Meant 
     → IsMeantAt r s at san
 meant_at s at san n r e h = subst (λ (o : Option Node). IsMeantIn r s at san o) (sym e) h
 
-pub meant_nowhere : (s : WideStudy) (at san : List ℕ) → node_at s at ≡ None → IsMeantAt (Err NoSuchNode) s at san
-meant_nowhere s at san e = subst (λ (o : Option Node). IsMeantIn (Err NoSuchNode) s at san o) (sym e) refl
-
 pub goes_there : (s : WideStudy) (at san : List ℕ) (m : Meant) (k : ℕ) → IsMeantAt (Ok m) s at san → m.place ≡ Some k
     → wide_after_move_text s at san ≡ Ok (record { study = s; step = record { place = k; added = None } })
 unfolding wide_after_move_text wide_moved_by
@@ -105,30 +102,3 @@ goes_on s at san m h = go (node_at s at) h
     go : (o : Option Node) → IsMeantIn (Ok m) s at san o → wide_after_text_at s at san o ≡ wide_moved_by s at m.played
     go None e = let no : ⊥ = cc in absurd no
     go (Some n) h = rw h.0 refl
-
-pub meant_legal : (s : WideStudy) (at san : List ℕ) (m : Meant) → IsMeantAt (Ok m) s at san → IsLegalAt m.played (node_at s at)
-meant_legal s at san m h = go (node_at s at) h
-  where
-    go : (o : Option Node) → IsMeantIn (Ok m) s at san o → IsLegalAt m.played o
-    go None e = let no : ⊥ = cc in absurd no
-    go (Some n) h = h.2
-
-pub meant_fresh : (s : WideStudy) (at san : List ℕ) (m : Meant) → IsMeantAt (Ok m) s at san → m.place ≡ place_at s.tree.below at m.played
-meant_fresh s at san m h = go (node_at s at) h
-  where
-    go : (o : Option Node) → IsMeantIn (Ok m) s at san o → m.place ≡ place_at s.tree.below at m.played
-    go None e = let no : ⊥ = cc in absurd no
-    go (Some n) h = h.1
-
-pub not_meant : (s : WideStudy) (at san : List ℕ) (fault : MoveFault) → IsMeantAt (Err fault) s at san
-    → WideComes (Err fault) s s (wide_after_move_text s at san)
-unfolding wide_after_move_text
-not_meant s at san fault h = go (node_at s at) fault h
-  where
-    go : (o : Option Node) (f : MoveFault) → IsMeantIn (Err f) s at san o → WideComes (Err f) s s (wide_after_text_at s at san o)
-    go None f e = let one : NoSuchNode ≡ f = cc in subst (λ (x : MoveFault). WideComes (Err x) s s (Err NoSuchNode)) one (refl, refl)
-    go (Some n) (San f) h = (rw h refl, refl)
-    go (Some n) NoSuchNode h = absurd h
-    go (Some n) TooDeep h = absurd h
-    go (Some n) TreeFull h = absurd h
-    go (Some n) OutOfMemory h = absurd h

@@ -1,14 +1,13 @@
 -- The tails among siblings, one sibling after the other.
 use Rattle.std.proofs.Common.{◌≡◌, ℕ, ◌+◌, ◌≤◌, suc, length, arith, length-append, Bool, true, false, List, [], ◌∷◌, ◌++◌, map}
-use Rattle.std.proofs.Common.{Some, None, refl, sym, ap, ◌∙◌, append_assoc, append-nil}
-use Rattle.std.specs.Prelude.{is_some, if◌then◌else◌}
-use Rattle.std.proofs.lemmas.Bool.{false≢true}
+use Rattle.std.proofs.Common.{Some, refl, sym, ap, ◌∙◌, append_assoc, append-nil}
+use Rattle.std.specs.Prelude.{if◌then◌else◌}
 use Rattle.std.proofs.lemmas.List.{map-append, length-map}
 use Rattle.study_tree.specs.Forest.{none, more, nodes_in}
 use Rattle.study_tree.specs.Edits.{node_in}
 use Rattle.study_marks.specs.FaultSums.{siblings_from}
 use Rattle.study_wide.specs.Wide.{Wide}
-use Rattle.study_wide.specs.Rules.{wide_after, is_small, narrow}
+use Rattle.study_wide.specs.Rules.{wide_after, is_small}
 use Rattle.study_tails.specs.Study.{Moves}
 use Rattle.study_tails.specs.Tails.{tails_among, tails_from}
 use Rattle.study_tails.proofs.Nodes.{Branch, from_child}
@@ -34,32 +33,21 @@ listed_child g path k next f t front after xs ys one e there position h =
     ∙ ap (λ (zs : List (List ℕ)). xs ++ zs) (sym (map-append (λ p. path ++ p) (map (λ p. k ∷ p) these) others))
     ∙ ap (λ (s : Moves). xs ++ below path (tails_among g k s)) (sym (from_child f k t e))
 
-not_small : (g : Wide) (f : Moves) → is_some (narrow g) ≡ false → tails_from g f ≡ tails_among g 0 f
-not_small g f e = go (is_small g) e
-  where
-    go : (b : Bool) → is_some (if b then Some g.board else None) ≡ false → (if b then [] ∷ [] else tails_among g 0 f) ≡ tails_among g 0 f
-    go true e = absurd (false≢true (sym e))
-    go false e = refl
-
-pub is_listed : (g : Wide) (path : List ℕ) (k : ℕ) (f : Moves) (xs ys : List (List ℕ)) → is_some (narrow g) ≡ false → siblings_from k f ≡ none
+pub is_listed : (g : Wide) (path : List ℕ) (k : ℕ) (f : Moves) (xs ys : List (List ℕ)) → is_small g ≡ false → siblings_from k f ≡ none
     → ys ++ below path (tails_among g k (siblings_from k f)) ≡ xs ++ below path (tails_among g 0 f) → ys ≡ xs ++ below path (tails_from g f)
 is_listed g path k f xs ys wide end h =
     sym (append-nil ys)
     ∙ ap (λ (s : Moves). ys ++ below path (tails_among g k s)) (sym end)
     ∙ h
-    ∙ ap (λ (ps : List (List ℕ)). xs ++ below path ps) (sym (not_small g f wide))
+    ∙ sym (ap (λ (b : Bool). xs ++ below path (if b then [] ∷ [] else tails_among g 0 f)) wide)
 
 below_root : (ps : List (List ℕ)) → below [] ps ≡ ps
 below_root [] = refl
 below_root (p ∷ ps) = rw (below_root ps) refl
 
-pub root_listed : (g : Wide) (f : Moves) (front : List ℕ) (xs ys : List (List ℕ)) → front ≡ [] → xs ≡ []
-    → ys ≡ xs ++ below front (tails_from g f) → ys ≡ tails_from g f
-root_listed g f front xs ys root none_yet h =
-    h
-    ∙ ap (λ (zs : List (List ℕ)). zs ++ below front (tails_from g f)) none_yet
-    ∙ ap (λ (p : List ℕ). below p (tails_from g f)) root
-    ∙ below_root (tails_from g f)
+pub root_listed : (g : Wide) (f : Moves) (xs ys : List (List ℕ)) → xs ≡ [] → ys ≡ xs ++ below [] (tails_from g f) → ys ≡ tails_from g f
+root_listed g f xs ys none_yet h =
+    h ∙ ap (λ (zs : List (List ℕ)). zs ++ below [] (tails_from g f)) none_yet ∙ below_root (tails_from g f)
 
 -- no more tails than nodes
 few_among : (g : Wide) (k : ℕ) (f : Moves) → length (tails_among g k f) ≤ nodes_in f

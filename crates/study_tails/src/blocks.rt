@@ -1,5 +1,5 @@
 //! The text of a study with its tails.
-ghost use Rattle.std.specs.Prelude.{◌≡◌, ◌++◌, ◌<◌, ◌≤◌, ◌^◌, [], IfOk, IfSome, OnOk, length, true};
+ghost use Rattle.std.specs.Prelude.{◌≡◌, ◌++◌, ◌<◌, ◌^◌, [], IfOk, IfSome, OnOk, length, true};
 ghost use Rattle.study_wide.specs.Rules.{is_wide_legal};
 ghost use Rattle.study_tails.specs.Study.{IsWidePlayable, node_at};
 ghost use Rattle.study_tails.specs.Tails.{is_beside, tails, tail};
@@ -55,15 +55,7 @@ impl<'t, 'a, A: Allocator> Tail<'t, 'a, A> {
         ensures { OnOk result (out.new ≡ out.old ++ study_lines [] (widen_study self.now)) }
     {
         add_head(out, b"", &self.start, &self.stipulation, self.tags)?;
-        let root = Path::root(alloc);
-        add_inserts(
-            alloc,
-            out,
-            b"",
-            root.steps(),
-            &self.start.position,
-            &self.tree,
-        )
+        add_inserts(alloc, out, b"", &[], &self.start.position, &self.tree)
     }
 }
 
@@ -79,16 +71,8 @@ impl<'a, A: Allocator> WideStudy<'a, A> {
         ensures { OnOk result (out.new ≡ out.old ++ study_lines before.now self.now) }
     {
         add_head(out, before, &self.start, &self.stipulation, &self.tags)?;
-        let root = Path::root(alloc);
         let tree = self.tree.root();
-        add_inserts(
-            alloc,
-            out,
-            before,
-            root.steps(),
-            &self.start.position,
-            &tree,
-        )
+        add_inserts(alloc, out, before, &[], &self.start.position, &tree)
     }
 
     /// The last move of a path, and the start before it.
@@ -121,14 +105,15 @@ impl<'a, A: Allocator> WideStudy<'a, A> {
         }
     }
 
-    /// The number of the first of these tails with this position.
-    fn twin(&self, position: &Option<Position>, earlier: &[Path<'a, A>]) -> Option<u32>
+    /// The number of the first of these tails with the position of the node.
+    fn twin(&self, steps: &[u16], earlier: &[Path<'a, A>]) -> Option<u32>
         requires { length earlier.now < 2 ^ 31 }
-        ensures { result ≡ twin_among self.now position.now 1 earlier.now }
+        ensures { result ≡ twin_among self.now (small_of (node_at self.now steps.now)) 1 earlier.now }
     {
+        let position = self.small_position(steps);
         let mut k = 0;
         while k < earlier.len() {
-            if is_same(&self.small_position(earlier[k].steps()), position) {
+            if is_same(&self.small_position(earlier[k].steps()), &position) {
                 return Some(k as u32 + 1);
             }
             k += 1;
@@ -213,14 +198,14 @@ fn add_node<'a, A: Allocator>(
     add_last_move(out, &study.last_move(steps))
 }
 
-fn add_twin<A: Allocator>(out: &mut Text<'_, A>, twin: &Option<u32>) -> Result<(), AllocError>
-    ensures { OnOk result (out.new ≡ out.old ++ twin_words twin.now) }
+fn add_twin<A: Allocator>(out: &mut Text<'_, A>, twin: Option<u32>) -> Result<(), AllocError>
+    ensures { OnOk result (out.new ≡ out.old ++ twin_words twin) }
 {
     match twin {
         None => Ok(()),
         Some(number) => {
             out.add(b", the position of tail ")?;
-            out.add_number(*number)
+            out.add_number(number)
         }
     }
 }
@@ -288,7 +273,7 @@ fn add_block<'a, A: Allocator>(
     add_place(out, heading)?;
     add_node(out, study, steps)?;
     add_beside(out, study.is_beside(steps))?;
-    add_twin(out, &study.twin(&study.small_position(steps), earlier))?;
+    add_twin(out, study.twin(steps, earlier))?;
     add_body(alloc, out, study, steps)
 }
 
@@ -327,9 +312,9 @@ pub fn add_wide_text<'a, A: Allocator>(
 ) -> Result<(), AllocError>
     ensures { OnOk result (out.new ≡ out.old ++ wide_text study.now game) }
 {
-    let paths = study.tails(alloc)?;
     study.add_lines(alloc, out, b"#> ")?;
     out.add(b"\n")?;
+    let paths = study.tails(alloc)?;
     add_blocks(alloc, out, study, game, &paths)
 }
 
@@ -361,6 +346,17 @@ fn gets_to_four<A: Allocator>(position: &WidePosition, node: &Subtree<'_, '_, ()
     false
 }
 
+/// The number of tails.
+fn count_tails<'a, A: Allocator>(
+    alloc: &'a A,
+    study: &WideStudy<'a, A>,
+) -> Result<usize, AllocError>
+    ensures { IfOk result (λ n. n ≡ length (tails study.now)) }
+{
+    let paths = study.tails(alloc)?;
+    Ok(paths.len())
+}
+
 /// Why the game has no text, if it has none.
 #[tactic(auto, unfolding(crate::specs::Blocks::game_reason))]
 pub fn game_reason<'a, A: Allocator>(
@@ -369,15 +365,15 @@ pub fn game_reason<'a, A: Allocator>(
 ) -> Result<Option<GameLeftOut>, AllocError>
     ensures { IfOk result (λ why. why ≡ game_reason study.now) }
 {
-    let paths = study.tails(alloc)?;
-    if paths.is_empty() {
+    let count = count_tails(alloc, study)?;
+    if count == 0 {
         let start = &study.start.position;
         if has_four(start) || gets_to_four(start, &study.tree.root()) {
             Ok(Some(GameLeftOut::RightsToTheEnd))
         } else {
             Ok(Some(GameLeftOut::NeverFourMen))
         }
-    } else if paths.len() > MAX_TAILS {
+    } else if count > MAX_TAILS {
         Ok(Some(GameLeftOut::TooManyTails))
     } else {
         Ok(None)

@@ -165,7 +165,7 @@ impl<'a, A: Allocator> FollowedStudy<'a, A> {
         }
     }
 
-    /// Goes from the node to the child with the move that the text means; if there is none, to a new child, the last: as `WideStudy::play`.
+    /// Goes from the node to the child with the move that the text means; if there is none, to a new child, the last.
     #[tactic(auto, unfolding(crate::specs::Moves::wide_after_move_text))]
     pub fn play(&mut self, steps: &[u16], san: &str) -> Result<Step, MoveFault>
         ensures legal { IfOk result (λ step.

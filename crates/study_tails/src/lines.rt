@@ -73,9 +73,15 @@ fn add_stipulation<A: Allocator>(
 ) -> Result<(), AllocError>
     ensures { OnOk result (out.new ≡ out.old ++ stipulation_line before.now stipulation.now) }
 {
-    out.add(before)?;
     let side = side_words(stipulation.hero);
-    add_pieces(out, &[Piece::Bytes(b"stipulate "), Piece::Bytes(side)])?;
+    add_pieces(
+        out,
+        &[
+            Piece::Bytes(before),
+            Piece::Bytes(b"stipulate "),
+            Piece::Bytes(side),
+        ],
+    )?;
     add_goal(out, stipulation.goal)
 }
 

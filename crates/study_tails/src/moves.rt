@@ -1,16 +1,14 @@
 //! The effect of a move in a game's text.
-ghost use Rattle.std.specs.Prelude.{◌≡◌, ◌≤◌, IfOk, IfSome, OnErr, OnOk, None, Some};
-ghost use Rattle.study_tree.specs.Edits.{width};
+ghost use Rattle.std.specs.Prelude.{◌≡◌, IfOk, OnErr, OnOk, None, Some};
 ghost use Rattle.study_marks.specs.Study.{place_from, place_at};
 ghost use Rattle.study_tails.specs.Study.{node_at};
-ghost use Rattle.study_tails.specs.Moves.{WideComes, IsLegalAt, IsMeantAt, move_fault_of, with_wide_insertion, wide_moved_by, wide_after_move_text};
+ghost use Rattle.study_tails.specs.Moves.{WideComes, IsLegalAt, move_fault_of, with_wide_insertion, wide_moved_by};
 
 use crate::study::WideStudy;
 use std::alloc::Allocator;
 use study_moves::Move;
 use study_reading::{MoveFault, Step};
 use study_tree::{Subtree, TreeFault};
-use study_wide_text::read_wide_san;
 
 /// The fault of a move for the fault of a tree that gets one more child.
 fn move_fault(fault: TreeFault) -> MoveFault
@@ -51,22 +49,6 @@ pub struct Meant {
 }
 
 impl<'a, A: Allocator> WideStudy<'a, A> {
-    /// The move that the text means at the node.
-    fn meant(&self, steps: &[u16], san: &str) -> Result<Meant, MoveFault>
-        ensures { IsMeantAt result self.now steps.now san.now }
-    {
-        let Some(node) = self.node(steps) else {
-            return Err(MoveFault::NoSuchNode);
-        };
-        match read_wide_san(&node.start.position, san) {
-            Ok(played) => Ok(Meant {
-                played,
-                place: find_child(&node.tree, &played),
-            }),
-            Err(fault) => Err(MoveFault::San(fault)),
-        }
-    }
-
     /// Adds a legal move that no child of the node has, as its last child.
     pub(crate) fn add_child(&mut self, steps: &[u16], m: &Move) -> Result<Step, MoveFault>
         requires legal { IsLegalAt m.now (node_at self.old steps.now) }
@@ -84,21 +66,6 @@ impl<'a, A: Allocator> WideStudy<'a, A> {
                 added: Some(*m),
             }),
             Err(fault) => Err(move_fault(fault)),
-        }
-    }
-
-    /// Goes from the node to the child with the move that the text means; if there is none, to a new child, the last.
-    #[tactic(auto, unfolding(crate::specs::Moves::wide_after_move_text))]
-    pub fn play(&mut self, steps: &[u16], san: &str) -> Result<Step, MoveFault>
-        ensures legal { IfOk result (λ step.
-            IfSome step.added (λ m. IsLegalAt m (node_at self.old steps.now))) }
-        ensures comes { WideComes result self.old self.new
-            (wide_after_move_text self.old steps.now san.now) }
-    {
-        let meant = self.meant(steps, san)?;
-        match meant.place {
-            Some(place) => Ok(Step { place, added: None }),
-            None => self.add_child(steps, &meant.played),
         }
     }
 }

@@ -11,7 +11,7 @@ use std::marker::Model;
 use study_board::Side;
 use study_marks::{Goal, MateMoves, Stipulation};
 use study_tree::{Path, Subtree};
-use study_wide::{WidePosition, narrow, played};
+use study_wide::{WidePosition, played};
 use study_wide_text::WideStart;
 
 /// Why there is no study at a path; reasons are checked in this order.
@@ -81,6 +81,14 @@ pub fn child_path<'a, A: Allocator>(
     Ok(path)
 }
 
+/// Whether at most four men and no right to castle are left.
+#[tactic(auto, unfolding(study_wide::specs::Rules::is_small))]
+fn is_small(p: &WidePosition) -> bool
+    ensures { result ≡ is_small p.now }
+{
+    p.men().len() <= 4 && !p.rights().any()
+}
+
 /// Adds the paths of the tails below a node, which has this path and position, itself included.
 fn add_tails<'a, A: Allocator>(
     alloc: &'a A,
@@ -93,7 +101,7 @@ fn add_tails<'a, A: Allocator>(
     ensures { OnOk result (found.new.items ≡ found.old.items
         ++ map (λ p. steps.now ++ p) (tails_from position.now node.now.below)) }
 {
-    if narrow(position).is_some() {
+    if is_small(position) {
         found.push(path_of(alloc, steps)?)?;
         return Ok(());
     }
@@ -173,14 +181,8 @@ impl<'a, A: Allocator> WideStudy<'a, A> {
     {
         let _size = self.tree.size();
         let mut found = Vec::new(alloc);
-        let root = Path::root(alloc);
-        add_tails(
-            alloc,
-            &mut found,
-            root.steps(),
-            &self.start.position,
-            &self.tree.root(),
-        )?;
+        let tree = self.tree.root();
+        add_tails(alloc, &mut found, &[], &self.start.position, &tree)?;
         Ok(found)
     }
 
@@ -202,7 +204,7 @@ impl<'a, A: Allocator> WideStudy<'a, A> {
         let Some(WideNode { start, tree }) = self.node(steps) else {
             return Err(LeftOut::NoTail);
         };
-        if narrow(&start.position).is_none() {
+        if !is_small(&start.position) {
             return Err(LeftOut::NoTail);
         }
         let hero = self.stipulation.hero;

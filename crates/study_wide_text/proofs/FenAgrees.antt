@@ -138,12 +138,6 @@ dash_only (x ∷ xs) e = elim (cases_Bool (is_dash (x ∷ xs))) [
   | inr f ↦ absurd (letters_none x xs _ _ _ refl refl refl (rw f at e))
 ]
 
-position_wide : (men : List Man) (s : Side) (q : Option ℕ) (p : Position) → position_of men s q ≡ Some p → wide_position_of men s q no_rights ≡ Some (widen p)
-unfolding position_of wide_position_of
-position_wide men s q p e =
-    let is = where_true (passed_possible men s q) (record { men = men; to_move = s; passed = q }) p e in
-    rw is.0 (ap (λ (z : Position). Some (widen z)) is.1)
-
 -- ---- what is read
 
 -- a start of four men, or a fault that is neither the number of men nor a right to castle, comes out the same

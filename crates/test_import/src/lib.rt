@@ -1,4 +1,4 @@
-//! Tests of study_import, of study_remark and of the program studyimport as a library.
+//! Tests of study_import, of study_tails, of study_remark and of the program studyimport as a library.
 #![tactic(auto)]
 
 #[cfg(test)]
@@ -43,5 +43,9 @@ mod traps;
 mod typeset;
 #[cfg(test)]
 mod wide;
+#[cfg(test)]
+mod wide_calls;
+#[cfg(test)]
+mod wide_games;
 #[cfg(test)]
 mod words_and_letters;

@@ -1,7 +1,7 @@
 //! Games whose start has more than four men, or a right to castle. The expected scripts are those of an independent program, but for the places of faults and
 //! the names behind them, which were written by hand.
 use crate::games::check;
-use crate::published;
+use crate::{published, wide_games};
 use linked_list_allocator::LocalHeap;
 use std::alloc::{AllocError, Allocator};
 use std::test::Fail;
@@ -343,6 +343,54 @@ pgn
 #! games 5, studies 4
 ";
 
+/// Signs of check and mate that are wrong, and a castling over an attacked square.
+const SIGNS: &[u8] = b"[Event \"signs\"]
+[FEN \"4k3/8/8/8/8/8/8/4K2R w K - 0 1\"]
+[Result \"1/2-1/2\"]
+
+1. O-O+ Ke7 2. Rf7# Kxf7 1/2-1/2
+
+[Event \"an attacked square\"]
+[FEN \"4k2r/8/8/8/8/8/8/4K1R1 w k - 0 1\"]
+[Result \"1-0\"]
+
+1. Rf1 O-O 1-0
+";
+
+const SIGNS_SCRIPT: &[u8] = b"#! game 1, line 1: stipulated by its tag Result
+#! not taken over: wrong signs 2
+#> position 4k3/8/8/8/8/8/8/4K2R w K - 0 1
+#> stipulate white draw
+#> tag Event signs
+#> tag Site ?
+#> tag Date ????.??.??
+#> tag Round ?
+#> tag White ?
+#> tag Black ?
+#> insert root O-O
+#> insert 0 Ke7
+#> insert 0.0 Rf7+
+#> insert 0.0.0 Kxf7
+
+#! tail 1 of 1 of game 1, node 0, after 1. O-O
+position 4k3/8/8/8/8/8/8/5RK1 b - - 1 1
+stipulate white draw
+tag Event signs
+tag Site ?
+tag Date ????.??.??
+tag Round ?
+tag White ?
+tag Black ?
+insert root Ke7
+insert 0 Rf7+
+insert 0.0 Kxf7
+pgn
+
+#! game 2, line 11, column 8 (\"an attacked square\"): NoSuchMove at O-O
+
+#! games 2, studies 1
+";
+
 /// A played game without a FEN, and one with a fault behind its first tail.
 const PLAYED: &[u8] = b"[Event \"short\"]
 [Result \"0-1\"]
@@ -442,10 +490,26 @@ fn published_studies_come_to_their_tails(rt: HostRuntime) -> Result<(), Fail> {
 }
 
 #[test]
+fn followed_games_come_to_their_tails(rt: HostRuntime) -> Result<(), Fail> {
+    let alloc = rt.alloc();
+    let games = [
+        (wide_games::FEW, wide_games::FEW_SCRIPT),
+        (wide_games::MIDDLE, wide_games::MIDDLE_SCRIPT),
+        (wide_games::PAWNS, wide_games::PAWNS_SCRIPT),
+        (wide_games::PIECES, wide_games::PIECES_SCRIPT),
+    ];
+    for (games, script) in games {
+        assert!(rt; check(&alloc, games, None, script)?);
+    }
+    Ok(())
+}
+
+#[test]
 fn games_with_more_men_come_to_their_tails(rt: HostRuntime) -> Result<(), Fail> {
     let alloc = rt.alloc();
     assert!(rt; check(&alloc, CLAIMS, None, CLAIMS_SCRIPT)?);
     assert!(rt; check(&alloc, CASTLING, None, CASTLING_SCRIPT)?);
+    assert!(rt; check(&alloc, SIGNS, None, SIGNS_SCRIPT)?);
     Ok(())
 }
 
@@ -473,27 +537,43 @@ fn games_of_any_start_are_read_or_named(rt: HostRuntime) -> Result<(), Fail> {
     Ok(())
 }
 
-/// A game with four endings in each round of its moves, up to the deepest ply.
-fn crowded<A: Allocator>(alloc: &A) -> Result<Text<'_, A>, AllocError> {
+/// A game with these moves in each of 64 rounds, and the last words.
+fn rounds<'a, A: Allocator>(
+    alloc: &'a A,
+    moves: &[u8],
+    last: &[u8],
+) -> Result<Text<'a, A>, AllocError> {
     let mut games = Text::new(alloc);
     games.add(
         b"[Event \"many\"]\n[FEN \"k7/8/1K6/8/8/8/1p6/1RR5 w - - 0 1\"]\n[Result \"1-0\"]\n\n",
     )?;
     for _ in 0..64usize {
-        games.add(b"Rd1 (Rxb2) (Rc2 Kb8 Rcxb2 (Rbxb2)) Kb8 Rdc1 (Rxb2) Ka8\n")?;
+        games.add(moves)?;
     }
-    games.add(b"1-0\n")?;
+    games.add(last)?;
     Ok(games)
 }
 
+/// Four endings in each round, up to the deepest ply.
 #[test]
 fn more_than_255_endings_are_too_many(rt: HostRuntime) -> Result<(), Fail> {
     let alloc = rt.alloc();
-    let games = crowded(&alloc)?;
-    let script = import(&alloc, games.as_slice(), None)?;
+    let moves = b"Rd1 (Rxb2) (Rc2 Kb8 Rcxb2 (Rbxb2)) Kb8 Rdc1 (Rxb2) Ka8\n";
+    let games = rounds(&alloc, moves, b"1-0\n")?;
     let expected =
         b"#! game 1, line 1 (\"many\"): left out: more than 255 endings\n\n#! games 1, studies 0\n";
-    assert!(rt; script.as_slice() == expected.as_slice());
+    assert!(rt; check(&alloc, games.as_slice(), None, expected)?);
+    Ok(())
+}
+
+/// Kings that go to and fro: the 257th ply is too deep.
+#[test]
+fn a_line_is_too_deep(rt: HostRuntime) -> Result<(), Fail> {
+    let alloc = rt.alloc();
+    let games = rounds(&alloc, b"Rd1 Kb8 Rdc1 Ka8\n", b"Rd1 1-0\n")?;
+    let expected =
+        b"#! game 1, line 69, column 1 (\"many\"): TooDeep at Rd1\n\n#! games 1, studies 0\n";
+    assert!(rt; check(&alloc, games.as_slice(), None, expected)?);
     Ok(())
 }
 

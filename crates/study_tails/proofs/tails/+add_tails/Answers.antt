@@ -1,5 +1,4 @@
-use Rattle.std.proofs.Common.{◌≡◌, ◌+◌, ◌≤◌, suc, sym, ap, subst, ◌∙◌, arith}
-use Rattle.std.specs.Prelude.{is_some}
+use Rattle.std.proofs.Common.{◌≡◌, ◌+◌, ◌≤◌, suc, sym, subst, ◌∙◌, arith}
 use Rattle.study_tree.specs.Edits.{width}
 use Rattle.study_marks.proofs.PathWalks.{fewer}
 use Rattle.study_marks.proofs.ChildFound.{skipped-end}
@@ -12,7 +11,7 @@ use Rattle.study_tails.proofs.tails.+add_tails.Goals as goal
 pub returns-in-None : goal.returns-in-None
 returns-in-None g t c =
     is_listed c.args.position.now c.args.steps.now c.loop-place.place c.args.node.now.below c.args.found.now.items c.loop-place.found.items
-    (sym (c.is_some.ensures ∙ ap is_some c.narrow.ensures) ∙ c.if-is_some.false) (from_end c.args.node.now.below c.loop-place.place c.in-None.ensures)
+    (sym c.is_small.ensures ∙ c.if-is_small.false) (from_end c.args.node.now.below c.loop-place.place c.in-None.ensures)
     c.loop-place.invariant.listed
 
 pub played-after-requires : goal.played-after-requires
@@ -44,4 +43,4 @@ returns g t c =
     let f = c.args.node.now.below in
     let end : width f ≤ c.loop-place.place = omega (arith, c.loop-place-test.false, c.width.ensures) in
     is_listed c.args.position.now c.args.steps.now c.loop-place.place f c.args.found.now.items c.loop-place.found.items
-    (sym (c.is_some.ensures ∙ ap is_some c.narrow.ensures) ∙ c.if-is_some.false) (skipped-end c.loop-place.place f end) c.loop-place.invariant.listed
+    (sym c.is_small.ensures ∙ c.if-is_small.false) (skipped-end c.loop-place.place f end) c.loop-place.invariant.listed

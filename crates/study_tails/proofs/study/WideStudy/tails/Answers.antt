@@ -7,9 +7,9 @@ use Rattle.study_tails.proofs.study.WideStudy.tails.Goals as goal
 
 pub returns-clause-value : goal.returns-clause-value
 returns-clause-value g c =
-    root_listed c.self.inside.start.position c.root-2.result.below c.steps.result.now c.new-found.result.items c.add_tails.new.found.items
-    (c.steps.ensures ∙ c.root-root.ensures) c.new-found.ensures.items c.in_ok-add_tails.ensures
-    ∙ ap (λ (t : Plain (Unit {0})). tails_from c.self.inside.start.position t.below) c.root-2.ensures
+    root_listed c.self.inside.start.position c.root-tree.result.below c.new-found.result.items c.add_tails.new.found.items
+    c.new-found.ensures.items c.in_ok-add_tails.ensures
+    ∙ ap (λ (t : Plain (Unit {0})). tails_from c.self.inside.start.position t.below) c.root-tree.ensures
     ∙ ap tails c.self.view_is
 
 pub returns-clause-few : goal.returns-clause-few

@@ -1,242 +1,22 @@
-//! Games with their tails, each as an independent program writes it; its FEN and SAN were held against pgn-extract.
-
-/// Mate in two: one tail has a mate in one left, in two the mate is due.
-pub(crate) const MATES_DUE: &str = "\
-#> position k7/8/1K6/8/8/8/1p6/1RR5 w - - 0 1
-#> stipulate white mate 2
-#> tag Event five men, mate in two
-#> tag Site ?
-#> tag Date ????.??.??
-#> tag Round ?
-#> tag White ?
-#> tag Black ?
-#> insert root Rxb2
-#> insert 0 Kb8
-#> insert 0.0 Rbc2
-#> insert root Rc8#
-#> insert root Rc2
-#> insert 2 Kb8
-#> insert 2.0 Rcxb2
-#> insert 2.0 Rbxb2
-#> insert 2.0.1 Ka8
-#> insert 2.0.1.0 Rc8#
-
-#! tail 1 of 3 of game 2, node 0, after 1. Rxb2
-position k7/8/1K6/8/8/8/1R6/2R5 b - - 0 1
-stipulate white mate 1
-tag Event five men, mate in two
-tag Site ?
-tag Date ????.??.??
-tag Round ?
-tag White ?
-tag Black ?
-insert root Kb8
-insert 0 Rbc2
-pgn
-
-#! tail 2 of 3 of game 2, node 2.0.0, after 2. Rcxb2, beside the solution: left out: the mate is due
-
-#! tail 3 of 3 of game 2, node 2.0.1, after 2. Rbxb2, beside the solution: left out: the mate is due
-
-";
-
-/// The only mate is due.
-pub(crate) const MATE_DUE: &str = "\
-#> position k7/8/1K6/8/8/8/1p6/1RR5 w - - 0 1
-#> stipulate white mate 1
-#> tag Event the mate is due
-#> tag Site ?
-#> tag Date ????.??.??
-#> tag Round ?
-#> tag White ?
-#> tag Black ?
-#> insert root Rxb2
-
-#! tail 1 of 1 of game 3, node 0, after 1. Rxb2: left out: the mate is due
-
-";
-
-/// The number of the move passes 9,999.
-pub(crate) const NUMBERS: &str = "\
-#> position k7/8/1K6/8/8/8/1p6/1RR5 b - - 0 9999
-#> stipulate white win
-#> tag Event numbers above 9999
-#> tag Site ?
-#> tag Date ????.??.??
-#> tag Round ?
-#> tag White ?
-#> tag Black ?
-#> insert root Kb8
-#> insert 0 Rxb2
-
-#! tail 1 of 1 of game 4, node 0.0, after 10000. Rxb2: left out: numbers above 9999
-
-";
-
-/// The same position twice, and a try.
-pub(crate) const TWIN: &str = "\
-#> position k7/8/1K6/8/8/8/1p6/1RR5 w - - 0 1
-#> stipulate white win
-#> tag Event the same position twice, and a try
-#> tag Site ?
-#> tag Date ????.??.??
-#> tag Round ?
-#> tag White ?
-#> tag Black ?
-#> insert root Rd1
-#> insert 0 Kb8
-#> insert 0.0 Rdc1
-#> insert 0.0.0 Ka8
-#> insert 0.0.0.0 Rxb2
-#> insert 0.0 Rd8#
-#> insert root Rc3
-#> insert 1 Kb8
-#> insert 1.0 Rcc1
-#> insert 1.0.0 Ka8
-#> insert 1.0.0.0 Rxb2
-
-#! tail 1 of 2 of game 5, node 0.0.0.0.0, after 3. Rxb2
-position k7/8/1K6/8/8/8/1R6/2R5 b - - 0 3
-stipulate white win
-tag Event the same position twice, and a try
-tag Site ?
-tag Date ????.??.??
-tag Round ?
-tag White ?
-tag Black ?
-pgn
-
-#! tail 2 of 2 of game 5, node 1.0.0.0.0, after 3. Rxb2, beside the solution, the position of tail 1
-position k7/8/1K6/8/8/8/1R6/2R5 b - - 0 3
-stipulate white win
-tag Event the same position twice, and a try
-tag Site ?
-tag Date ????.??.??
-tag Round ?
-tag White ?
-tag Black ?
-pgn
-
-";
-
-/// The hero is Black.
-pub(crate) const BLACK_DRAWS: &str = "\
-#> position k7/8/1K6/8/8/8/1p6/1RR5 b - - 0 1
-#> stipulate black draw
-#> tag Event Black draws
-#> tag Site ?
-#> tag Date ????.??.??
-#> tag Round ?
-#> tag White ?
-#> tag Black ?
-#> insert root Kb8
-#> insert 0 Rxb2
-#> insert 0 Rc2
-
-#! tail 1 of 1 of game 6, node 0.0, after 2. Rxb2
-position 1k6/8/1K6/8/8/8/1R6/2R5 b - - 0 2
-stipulate black draw
-tag Event Black draws
-tag Site ?
-tag Date ????.??.??
-tag Round ?
-tag White ?
-tag Black ?
-pgn
-
-";
-
-/// Three men; the right to castle is lost by the rook's move.
-pub(crate) const ROOK_MOVES: &str = "\
-#> position 4k3/8/8/8/8/8/8/4K2R w K - 0 1
-#> stipulate white win
-#> tag Event a right is lost by the rook's move
-#> tag Site ?
-#> tag Date ????.??.??
-#> tag Round ?
-#> tag White ?
-#> tag Black ?
-#> insert root Rh2
-#> insert 0 Kd7
-#> insert 0.0 Kd2
-#> insert 0.0 Rh7+
-#> insert 0.0.1 Ke8
-
-#! tail 1 of 1 of game 1, node 0, after 1. Rh2
-position 4k3/8/8/8/8/8/7R/4K3 b - - 1 1
-stipulate white win
-tag Event a right is lost by the rook's move
-tag Site ?
-tag Date ????.??.??
-tag Round ?
-tag White ?
-tag Black ?
-insert root Kd7
-insert 0 Kd2
-insert 0 Rh7+
-insert 0.1 Ke8
-pgn
-
-";
-
-/// Four men; both rights are lost by a capture, or by castling.
-pub(crate) const ROOK_TAKES: &str = "\
-#> position 4k2r/8/8/8/8/8/8/4K2R w Kk - 0 1
-#> stipulate white win
-#> tag Event two rights are lost by a capture
-#> tag Site ?
-#> tag Date ????.??.??
-#> tag Round ?
-#> tag White ?
-#> tag Black ?
-#> insert root Rxh8+
-#> insert root O-O
-#> insert 1 Rf8
-#> insert 1.0 Rxf8+
-#> insert 1.0.0 Kxf8
-#> insert 1 Rh1+
-#> insert 1.1 Kxh1
-
-#! tail 1 of 3 of game 2, node 0, after 1. Rxh8+
-position 4k2R/8/8/8/8/8/8/4K3 b - - 0 1
-stipulate white win
-tag Event two rights are lost by a capture
-tag Site ?
-tag Date ????.??.??
-tag Round ?
-tag White ?
-tag Black ?
-pgn
-
-#! tail 2 of 3 of game 2, node 1.0, after 1... Rf8, beside the solution
-position 4kr2/8/8/8/8/8/8/5RK1 w - - 2 2
-stipulate white win
-tag Event two rights are lost by a capture
-tag Site ?
-tag Date ????.??.??
-tag Round ?
-tag White ?
-tag Black ?
-insert root Rxf8+
-insert 0 Kxf8
-pgn
-
-#! tail 3 of 3 of game 2, node 1.1, after 1... Rh1+, beside the solution
-position 4k3/8/8/8/8/8/8/5RKr w - - 2 2
-stipulate white win
-tag Event two rights are lost by a capture
-tag Site ?
-tag Date ????.??.??
-tag Round ?
-tag White ?
-tag Black ?
-insert root Kxh1
-pgn
-
-";
+//! Games with more than four men. Moves and scripts are those of an independent program; its FEN and SAN were held against pgn-extract.
 
 /// Five men; a position is reached twice.
-pub(crate) const FEW: &str = "\
+pub(crate) const FEW: &[u8] = b"[Event \"random few 37\"]
+[Site \"?\"]
+[Date \"2026.11.29\"]
+[Round \"37\"]
+[White \"wide_gen\"]
+[Black \"?\"]
+[FEN \"8/8/8/5K2/2k2P2/2B5/p7/8 w - - 30 1\"]
+[Result \"*\"]
+
+{Black to draw}
+1. Kf6 a1=Q (1... Kxc3 2. Kf5 Kd2 3. Kg5 a1=Q (3... Kc1 4. Kh4 a1=N 5. Kg3) 4.
+Kh5 Qa3 5. Kg4) (1... a1=B 2. Bxa1 Kc5 3. Ke6 Kb6 4. Kf5) 2. Bxa1 *
+";
+
+pub(crate) const FEW_SCRIPT: &[u8] = b"#! game 1, line 1: stipulated by its comment
+#! not taken over: comments 1
 #> position 8/8/8/5K2/2k2P2/2B5/p7/8 w - - 30 1
 #> stipulate black draw
 #> tag Event random few 37
@@ -315,10 +95,28 @@ insert 0.0 Kb6
 insert 0.0.0 Kf5
 pgn
 
+#! games 1, studies 3
 ";
 
 /// A middle game with castling.
-pub(crate) const MIDDLE: &str = "\
+pub(crate) const MIDDLE: &[u8] = b"[Event \"random middle 31\"]
+[Site \"?\"]
+[Date \"2026.11.29\"]
+[Round \"31\"]
+[White \"wide_gen\"]
+[Black \"?\"]
+[FEN \"r3k2r/3N4/3b4/2Q2B2/8/8/1p6/R3K2R w KQkq - 24 17\"]
+[Result \"1-0\"]
+
+17. O-O bxa1=R (17... Rc8 18. Ra2 Rc7 19. Qxd6 Rxd7 20. Rxb2 Rxd6 $1 21. Rfb1
+Rd1+ 22. Rxd1 Rh4 23. Rd4 Rxd4 24. Rb7 Rd2 25. Rb2 Rxb2) 18. Qb5 O-O-O 19. Qb6
+Bh2+ 20. Kh1 Rxd7 21. Bxd7+ Kxd7 22. Qb8 Rxb8 23. Kxh2 Raa8 (23... Rxf1 24. Kg3
+{a comment} Rff8 25. Kh3 Rb1 26. Kg3 (26. Kh4 Ra1) 26... Rbb8) 24. Ra1 Rxa1 25.
+Kg3 Rb7 26. Kh3 Kc6 27. Kg2 Rba7 1-0
+";
+
+pub(crate) const MIDDLE_SCRIPT: &[u8] = b"#! game 1, line 1: stipulated by its tag Result
+#! not taken over: comments 1, NAGs 1
 #> position r3k2r/3N4/3b4/2Q2B2/8/8/1p6/R3K2R w KQkq - 24 17
 #> stipulate white win
 #> tag Event random middle 31
@@ -423,10 +221,30 @@ tag White wide_gen
 tag Black ?
 pgn
 
+#! games 1, studies 3
 ";
 
 /// Six tails; promotions.
-pub(crate) const PAWNS: &str = "\
+pub(crate) const PAWNS: &[u8] = b"[Event \"random pawns 24\"]
+[Site \"?\"]
+[Date \"2026.11.29\"]
+[Round \"24\"]
+[White \"wide_gen\"]
+[Black \"?\"]
+[FEN \"8/1kPp1pK1/8/8/8/8/4P3/8 b - - 11 57\"]
+[Result \"*\"]
+
+{Black to draw}
+57... Kc8 (57... f5 58. c8=N Kxc8 59. Kh8 d6 60. e3 Kb8) 58. Kxf7 (58. Kf8 f6
+59. Kg7 Kxc7 60. Kxf6 d5 61. e4 dxe4 62. Kf7) (58. e4 Kxc7 59. Kxf7 (59. e5 d5
+60. exd6+ Kxd6 61. Kxf7) 59... d6 60. Kg8 (60. e5 d5 61. Kf6) 60... Kd7 61.
+Kh7) (58. Kf6 Kxc7 59. Kxf7 Kb7 60. Kf8 d6 61. e4 Kb6 62. e5 dxe5 63. Ke7 e4
+64. Ke8) 58... Kxc7 (58... d5 59. Ke7 Kxc7 60. e4 dxe4 61. Kf7 e3 62. Kf8 Kb6
+63. Ke8) 59. Kg6 (59. Kf6) *
+";
+
+pub(crate) const PAWNS_SCRIPT: &[u8] = b"#! game 1, line 1: stipulated by its comment
+#! not taken over: comments 1
 #> position 8/1kPp1pK1/8/8/8/8/4P3/8 b - - 11 57
 #> stipulate black draw
 #> tag Event random pawns 24
@@ -593,10 +411,29 @@ insert 0.0.0.0.0.0.0.0 e4
 insert 0.0.0.0.0.0.0.0.0 Ke8
 pgn
 
+#! games 1, studies 6
 ";
 
 /// Moves with file or rank.
-pub(crate) const PIECES: &str = "\
+pub(crate) const PIECES: &[u8] = b"[Event \"random pieces 9\"]
+[Site \"?\"]
+[Date \"2026.11.29\"]
+[Round \"9\"]
+[White \"wide_gen\"]
+[Black \"?\"]
+[FEN \"8/B5K1/5r2/8/6B1/Br6/2r5/k6N b - - 13 12\"]
+[Result \"*\"]
+
+{Black to draw}
+12... Rg2 13. Kxf6 Rgg3 14. Bb4 Rxb4 15. Bb6 Rbxg4 16. Ba7 (16. Bd4+ Rxd4 17.
+Nxg3 Re4 18. Nxe4 Kb1 19. Kg5) (16. Nxg3 Rxg3 17. Ba7 Rg2 18. Ke5 Rg5+ 19. Kd4
+Ra5 20. Ke3 Rxa7 21. Ke2 (21. Kf2 Kb1 22. Ke3) 21... Rb7 22. Kf3) 16... Re3
+17. Bb8 Kb2 18. Nf2 Rb3 19. Nh3 Rxh3 20. Bh2 Rh5 21. Ke7 Rxh2 22. Ke6 Rgh4 23.
+Kf5 *
+";
+
+pub(crate) const PIECES_SCRIPT: &[u8] = b"#! game 1, line 1: stipulated by its comment
+#! not taken over: comments 1
 #> position 8/B5K1/5r2/8/6B1/Br6/2r5/k6N b - - 13 12
 #> stipulate black draw
 #> tag Event random pieces 9
@@ -705,4 +542,5 @@ insert 0.0.0.0.0.0.0.0.1 Kb1
 insert 0.0.0.0.0.0.0.0.1.0 Ke3
 pgn
 
+#! games 1, studies 3
 ";
