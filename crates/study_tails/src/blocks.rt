@@ -1,11 +1,12 @@
 //! The text of a study with its tails.
-ghost use Rattle.std.specs.Prelude.{◌≡◌, ◌++◌, ◌<◌, ◌^◌, [], IfOk, IfSome, OnOk, length, true};
+ghost use Rattle.std.specs.Prelude.{◌≡◌, ◌++◌, ◌<◌, ◌^◌, [], IfOk, IfSome, OnOk, codes, length, true};
+ghost use Rattle.study_text.specs.Paths.{path_text};
 ghost use Rattle.study_wide.specs.Rules.{is_wide_legal};
 ghost use Rattle.study_tails.specs.Study.{IsWidePlayable, node_at};
 ghost use Rattle.study_tails.specs.Tails.{is_beside, tails, tail};
 ghost use Rattle.study_tails.specs.Lines.{study_lines};
 ghost use Rattle.study_tails.specs.Blocks.{last_from, dots, last_words, small_of, is_same, twin_among, beside_words, twin_words, reason_words, place_words};
-ghost use Rattle.study_tails.specs.Blocks.{node_words, widen_study, body_text, block_text, blocks_text, wide_text};
+ghost use Rattle.study_tails.specs.Blocks.{widen_study, body_text, block_text, blocks_text, wide_text};
 ghost use Rattle.study_tails.specs.Blocks.{has_four, gets_to_four, game_reason, game_words};
 
 use crate::lines::{add_head, add_inserts};
@@ -140,15 +141,16 @@ fn dots(side: Side) -> &'static [u8]
     }
 }
 
-/// Adds the move with its number.
-fn add_last_move<A: Allocator>(
+/// Adds the last move of the path, with its number.
+fn add_last_move<'a, A: Allocator>(
     out: &mut Text<'_, A>,
-    last: &Option<LastMove>,
+    study: &WideStudy<'a, A>,
+    steps: &[u16],
 ) -> Result<(), AllocError>
-    requires { IfSome last.now (λ m. is_wide_legal m.start.position m.played ≡ true) }
-    ensures { OnOk result (out.new ≡ out.old ++ last_words last.now) }
+    ensures { OnOk result (out.new ≡ out.old
+        ++ last_words (last_from study.now.start study.now.tree.below steps.now)) }
 {
-    match last {
+    match study.last_move(steps) {
         None => out.add(b"no move"),
         Some(m) => {
             let san = write_wide_san(&m.start.position, m.played);
@@ -164,8 +166,14 @@ fn add_last_move<A: Allocator>(
     }
 }
 
-fn add_place<A: Allocator>(out: &mut Text<'_, A>, heading: &Heading) -> Result<(), AllocError>
-    ensures { OnOk result (out.new ≡ out.old ++ place_words heading.now) }
+/// Adds which tail it is, and the words before its last move.
+fn add_place<A: Allocator>(
+    out: &mut Text<'_, A>,
+    heading: &Heading,
+    steps: &[u16],
+) -> Result<(), AllocError>
+    ensures { OnOk result (out.new ≡ out.old ++ (place_words heading.now
+        ++ (codes ", node " ++ (path_text steps.now ++ codes ", after ")))) }
 {
     add_pieces(
         out,
@@ -176,47 +184,42 @@ fn add_place<A: Allocator>(out: &mut Text<'_, A>, heading: &Heading) -> Result<(
             Piece::Number(heading.count),
             Piece::Bytes(b" of game "),
             Piece::Number(heading.game),
-        ],
-    )
-}
-
-fn add_node<'a, A: Allocator>(
-    out: &mut Text<'_, A>,
-    study: &WideStudy<'a, A>,
-    steps: &[u16],
-) -> Result<(), AllocError>
-    ensures { OnOk result (out.new ≡ out.old ++ node_words study.now steps.now) }
-{
-    add_pieces(
-        out,
-        &[
             Piece::Bytes(b", node "),
             Piece::Path(steps),
             Piece::Bytes(b", after "),
         ],
-    )?;
-    add_last_move(out, &study.last_move(steps))
+    )
 }
 
-fn add_twin<A: Allocator>(out: &mut Text<'_, A>, twin: Option<u32>) -> Result<(), AllocError>
-    ensures { OnOk result (out.new ≡ out.old ++ twin_words twin) }
+fn beside_words(beside: bool) -> &'static [u8]
+    ensures { result.now ≡ beside_words beside }
 {
-    match twin {
-        None => Ok(()),
-        Some(number) => {
-            out.add(b", the position of tail ")?;
-            out.add_number(number)
-        }
+    if beside {
+        b", beside the solution"
+    } else {
+        b""
     }
 }
 
-fn add_beside<A: Allocator>(out: &mut Text<'_, A>, beside: bool) -> Result<(), AllocError>
-    ensures { OnOk result (out.new ≡ out.old ++ beside_words beside) }
+/// Adds whether the tail is beside the solution, and the first tail with its position.
+fn add_marks<A: Allocator>(
+    out: &mut Text<'_, A>,
+    beside: bool,
+    twin: Option<u32>,
+) -> Result<(), AllocError>
+    ensures { OnOk result (out.new ≡ out.old ++ (beside_words beside ++ twin_words twin)) }
 {
-    if beside {
-        out.add(b", beside the solution")
-    } else {
-        Ok(())
+    let words = beside_words(beside);
+    match twin {
+        None => out.add(words),
+        Some(number) => add_pieces(
+            out,
+            &[
+                Piece::Bytes(words),
+                Piece::Bytes(b", the position of tail "),
+                Piece::Number(number),
+            ],
+        ),
     }
 }
 
@@ -270,10 +273,9 @@ fn add_block<'a, A: Allocator>(
     ensures { OnOk result (out.new ≡ out.old
         ++ block_text study.now heading.now earlier.now steps.now) }
 {
-    add_place(out, heading)?;
-    add_node(out, study, steps)?;
-    add_beside(out, study.is_beside(steps))?;
-    add_twin(out, study.twin(steps, earlier))?;
+    add_place(out, heading, steps)?;
+    add_last_move(out, study, steps)?;
+    add_marks(out, study.is_beside(steps), study.twin(steps, earlier))?;
     add_body(alloc, out, study, steps)
 }
 
@@ -346,17 +348,6 @@ fn gets_to_four<A: Allocator>(position: &WidePosition, node: &Subtree<'_, '_, ()
     false
 }
 
-/// The number of tails.
-fn count_tails<'a, A: Allocator>(
-    alloc: &'a A,
-    study: &WideStudy<'a, A>,
-) -> Result<usize, AllocError>
-    ensures { IfOk result (λ n. n ≡ length (tails study.now)) }
-{
-    let paths = study.tails(alloc)?;
-    Ok(paths.len())
-}
-
 /// Why the game has no text, if it has none.
 #[tactic(auto, unfolding(crate::specs::Blocks::game_reason))]
 pub fn game_reason<'a, A: Allocator>(
@@ -365,15 +356,15 @@ pub fn game_reason<'a, A: Allocator>(
 ) -> Result<Option<GameLeftOut>, AllocError>
     ensures { IfOk result (λ why. why ≡ game_reason study.now) }
 {
-    let count = count_tails(alloc, study)?;
-    if count == 0 {
+    let paths = study.tails(alloc)?;
+    if paths.is_empty() {
         let start = &study.start.position;
         if has_four(start) || gets_to_four(start, &study.tree.root()) {
             Ok(Some(GameLeftOut::RightsToTheEnd))
         } else {
             Ok(Some(GameLeftOut::NeverFourMen))
         }
-    } else if count > MAX_TAILS {
+    } else if paths.len() > MAX_TAILS {
         Ok(Some(GameLeftOut::TooManyTails))
     } else {
         Ok(None)
