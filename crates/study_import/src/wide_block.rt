@@ -135,18 +135,18 @@ fn add_wide_aimed<'a, A: Allocator>(
     setting: &Setting<'_>,
     start: &WideStart,
     language: Option<Language>,
-    mut game: WideGame<'_, 'a, A>,
+    game: &mut WideGame<'_, 'a, A>,
 ) -> Result<u32, AllocError>
     ensures { Adds result out.old out.new
         (wide_sourced (entry_seen setting.now.entry)
         (wide_reported language (record {
-          study = game.entry.study;
-          notes = game.entry.notes;
-          behind = game.entry.behind.now;
+          study = game.old.study;
+          notes = game.old.notes;
+          behind = game.old.behind.now;
         }))
-        game.entry.study
+        game.old.study
         (sources_of setting.now.choice.given
-        (tags_of setting.now.entry.text.now) start.now.position.board.to_move game.entry.notes)) }
+        (tags_of setting.now.entry.text.now) start.now.position.board.to_move game.old.notes)) }
 {
     let entry = &setting.entry;
     let given = setting.choice.given;
@@ -154,7 +154,7 @@ fn add_wide_aimed<'a, A: Allocator>(
     let sources = sources_of(alloc, given, entry.text, to_move, &game.notes)?;
     match aim_by_sources(&sources) {
         Some(aim) => {
-            let reported = wide_reported(&game, language);
+            let reported = wide_reported(game, language);
             complete(alloc, &mut game.study, entry.text, aim.stipulation)?;
             add_followed(alloc, out, entry, &aim, &reported, &game.study)
         }
@@ -192,16 +192,16 @@ fn add_wide_aimed_up_to<'a, A: Allocator>(
     setting: &Setting<'_>,
     start: &WideStart,
     fault: &MovesFault,
-    mut game: WideGame<'_, 'a, A>,
+    game: &mut WideGame<'_, 'a, A>,
 ) -> Result<u32, AllocError>
     ensures { Adds result out.old out.new
         (wide_aimed_up_to (entry_seen setting.now.entry) fault.now (record {
-          study = game.entry.study;
-          notes = game.entry.notes;
-          behind = game.entry.behind.now;
+          study = game.old.study;
+          notes = game.old.notes;
+          behind = game.old.behind.now;
         })
         (aim_of_game setting.now.choice.given
-        (tags_of setting.now.entry.text.now) start.now.position.board.to_move game.entry.notes)) }
+        (tags_of setting.now.entry.text.now) start.now.position.board.to_move game.old.notes)) }
 {
     let entry = &setting.entry;
     let given = setting.choice.given;
@@ -209,7 +209,7 @@ fn add_wide_aimed_up_to<'a, A: Allocator>(
     let sources = sources_of(alloc, given, entry.text, to_move, &game.notes)?;
     match aim_by_sources(&sources) {
         Some(aim) => {
-            let read = wide_reported(&game, None);
+            let read = wide_reported(game, None);
             let reported = Reported {
                 behind: b"",
                 ..read
@@ -236,7 +236,7 @@ fn add_wide_up_to<'a, A: Allocator>(
 {
     let text = text_up_to(alloc, setting.entry.text, fault.left)?;
     match read_wide(alloc, text.as_slice(), start)? {
-        Ok(game) => add_wide_aimed_up_to(alloc, out, setting, start, fault, game),
+        Ok(mut game) => add_wide_aimed_up_to(alloc, out, setting, start, fault, &mut game),
         Err(_) => add_stop(alloc, out, &setting.entry, fault),
     }
 }
@@ -274,7 +274,7 @@ fn add_wide_foreign<'a, A: Allocator>(
 {
     let english = in_english(alloc, setting.entry.text, language)?;
     match read_wide(alloc, english.as_slice(), start)? {
-        Ok(game) => add_wide_aimed(alloc, out, setting, start, Some(language), game),
+        Ok(mut game) => add_wide_aimed(alloc, out, setting, start, Some(language), &mut game),
         Err(fault) => add_wide_faulty(alloc, out, setting, start, &fault),
     }
 }
@@ -310,7 +310,7 @@ pub fn add_wide_read<'a, A: Allocator>(
         (wide_language_of setting.now.entry.text.now start.now)) }
 {
     match read_wide(alloc, setting.entry.text, start)? {
-        Ok(game) => add_wide_aimed(alloc, out, setting, start, None, game),
+        Ok(mut game) => add_wide_aimed(alloc, out, setting, start, None, &mut game),
         Err(fault) => add_wide_unread(alloc, out, setting, start, &fault),
     }
 }
