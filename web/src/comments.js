@@ -3,6 +3,7 @@
 // outside of all that is proved, and stand in the saved PGN.
 import {noteLines, plain} from './notes.js';
 import {allNodes} from './parse_answers.js';
+import {byHand} from './imported.js';
 import {ownRemark} from './remarks.js';
 import {notesAt} from './saved_games.js';
 /** @typedef {import('./types.js').Study} Study @typedef {import('./types.js').TreeNode} TreeNode */
@@ -96,12 +97,16 @@ const isNote = line => /^note\+?$/.test(ownRemark(line).word);
  * @returns {import('./types.js').Change}
  */
 export function withWords(lines, study, root, n, {comment, glyphs}) {
-  const head = lines.slice(study.head, study.from), places = placesIn(root), key = keyOf(n);
+  const places = placesIn(root), key = keyOf(n),
+        own = [...glyphs, comment].flatMap(text => noteLines(key || '-', text)),
+        before = lines.slice(study.head, study.from).filter(isNote).filter(line => notesAt([line], places).has(key));
+  // A comment that states the stipulation does so no more, once other words stand in its place.
+  const isStated = n.parent || before.join('\n') === own.join('\n'),
+        head = lines.slice(study.head, study.from).map(line => (isStated ? line : byHand(line, 'comment')));
   const isHere = head.map(line => isNote(line) && notesAt([line], places).has(key)), first = isHere.indexOf(true),
         at = first < 0 ? head.length : first;
   const kept = (/** @type {number} */ from, /** @type {number} */ to) =>
     head.slice(from, to).filter((_, i) => !isHere[from + i]);
-  const own = [...glyphs, comment].flatMap(text => noteLines(key || '-', text));
   return {
     lines: [...lines.slice(0, study.head), ...kept(0, at), ...own, ...kept(at, head.length), ...lines.slice(study.from)]
   };

@@ -6,16 +6,21 @@ import {evaluate} from './running.js';
 import {viewOf} from './answer_cache.js';
 import {differences} from './comparing.js';
 import {headAt, linesOf} from './documents.js';
+import {numbersOf, studyName} from './entries.js';
 import {diagramOf} from './drawing.js';
 import {reviewFor} from './list_facts.js';
 import {stampOf} from './stamps.js';
 import {control} from './fen.js';
 import {table} from './table.js';
 import {editsTo, fensOf, toText} from './script.js';
-import {services} from './state.js';
+import {doc, services} from './state.js';
 import {aimText} from './words.js';
 /** @typedef {import('./types.js').View} View */
-/** @typedef {{name: string, fen: string, aim: string, stamp: string, view: View | null}} Version */
+/**
+ * A study of a document: `number` says which it is, `all` has the starts and names of all that stand there.
+ * @typedef {{name: string, number: string, fen: string, aim: string, stamp: string, view: View | null,
+ *   all: [string, string][]}} Version
+ */
 
 /** @type {{sides: Version[]} | null} */
 let pair = null;
@@ -24,22 +29,29 @@ export const endComparing = () => {
   pair = null;
 };
 /**
- * The study that was looked at last in a kept document, over the tables that are there.
+ * The study of a kept document with this start, else the one that was looked at last, over the tables that are there.
  * @param {string} id
  * @param {string} name
+ * @param {string} [start]
  * @returns {Promise<Version>}
  */
-async function versionOf(id, name) {
+async function versionOf(id, name, start) {
   const head = headAt(id), lines = linesOf(id), lacking = await services.tables.lacking(fensOf(lines)),
         script = lacking.length ? {studies: []} : await evaluate(lines),
-        s = script.studies[Math.min(head ? head.at : 0, script.studies.length - 1)];
+        s = script.studies.find(({fen}) => fen === start) ||
+    script.studies[Math.min(head ? head.at : 0, script.studies.length - 1)];
   if (!s || !('refused' in script)) {
     const fen = head ? head.fen : '', stamp = lacking.length ? `not judged: ${lacking.join(' ')} lack` : 'no study';
-    return {name, fen, aim: '', stamp, view: null};
+    return {name, number: '', fen, aim: '', stamp, view: null, all: []};
   }
+  const numbers = numbersOf({...script, lines}),
+        called = (/** @type {typeof s} */ study, /** @type {number} */ i) =>
+          `No. ${numbers[i] || i + 1}, ${studyName(study)}`;
   const view = await viewOf(toText(editsTo(lines, s)), 'root');
   return {
     name,
+    number: script.studies.length > 1 ? called(s, script.studies.indexOf(s)) : '',
+    all: script.studies.map((study, i) => [study.fen, called(study, i)]),
     fen: s.fen,
     aim: s.aim ? aimText(s.aim) : '',
     stamp: stampOf(script, s, await reviewFor(lines, s)).text,
@@ -50,14 +62,27 @@ async function versionOf(id, name) {
  * @param {[string, string][]} chosen      two documents, each with its name
  */
 export const compare = chosen => work(async () => {
-  const sides = [];
-  for (const [id, name] of chosen) sides.push(await versionOf(id, name));
+  const open = chosen.findIndex(([id]) => id === doc().id), first = Math.max(open, 0), second = 1 - first,
+        sides = /** @type {Version[]} */ ([]);
+  sides[first] = await versionOf(...chosen[first]);
+  sides[second] = await versionOf(...chosen[second], sides[first].fen);
   pair = {sides};
   services.show();
 });
 /** @param {Version} version */
-const sideView = ({name, fen, aim, stamp}) => h('div', {class: 'side'}, h('h3', {}, name), fen && diagramOf(fen, true),
-  h('p', {}, fen && [control(fen), h('br', {})], aim && [aim, ': '], h('b', {}, stamp)));
+const sideView = ({name, number, fen, aim, stamp}) =>
+  h('div', {class: 'side'}, h('h3', {}, name), number && h('p', {}, number), fen && diagramOf(fen, true),
+    h('p', {}, fen && [control(fen), h('br', {})], aim && [aim, ': '], h('b', {}, stamp)));
+/**
+ * The studies that one document alone has.
+ * @param {Version} here
+ * @param {Version} there
+ */
+function onlyHere(here, there) {
+  const starts = new Set(there.all.map(([fen]) => fen)), own = here.all.filter(([fen]) => !starts.has(fen));
+  return own.length > 0 && there.all.length > 0 &&
+    h('p', {class: 'note'}, `Only in ${here.name}: ${own.map(([, name]) => name).join('; ')}.`);
+}
 /** The two that are compared. */
 export function comparingView() {
   if (!pair) return null;
@@ -67,6 +92,7 @@ export function comparingView() {
     h('div', {class: 'sides', id: 'sides'}, sides.map(sideView)),
     rows.length > 0 ? table(['Move', ...sides.map(({name}) => name)], rows,
                         ({name, line, said}) => [h('span', {title: line}, name), ...said])
-                    : h('p', {class: 'note'}, one && two ? 'No move differs in mark.' : '')
+                    : h('p', {class: 'note'}, one && two ? 'No move differs in mark.' : ''),
+    onlyHere(sides[0], sides[1]), onlyHere(sides[1], sides[0])
   ];
 }

@@ -9,7 +9,7 @@ import {againstText, sourceText} from './imported.js';
 import {knownEntries} from './list_facts.js';
 import {refuseLong} from './limits.js';
 import {plainText} from './opening.js';
-import {ownRemark} from './remarks.js';
+import {cutAt, ownRemark} from './remarks.js';
 import {guess} from './setup.js';
 import {typedOr} from './node_view.js';
 import {TAGS} from './script.js';
@@ -56,7 +56,7 @@ export function headView(s) {
       }
     },
       h('summary', {}, 'Title, author, source'),
-      h('div', {class: 'tags'}, TAGS.map(name => tagView(name, nameOf(s, name)))))
+      h('div', {class: 'tags'}, TAGS.map(name => tagView(name, nameOf(s, name))), otherTags(s).map(otherTagView)))
   ];
 }
 /** The number of the study among several entries. */
@@ -165,6 +165,35 @@ const tagView = (name, text) => [h('label', { for: 'tag' + name
   placeholder: name === 'Date' ? '2026.11.24' : '',
   onchange: (/** @type {any} */ e) => changeTag(name, e.target.value.trim())
 })];
+/**
+ * The tags of a game that a script has no room for, each with the remark that keeps it.
+ * @param {Study} s
+ */
+const otherTags = s => doc().lines.slice(s.head, s.from).flatMap((line, i) => {
+  const {word, rest} = ownRemark(line), [name, text] = cutAt(rest, ' ');
+  return word === 'tag' && /^\w+$/.test(name) && name !== 'Result' ? [{name, text, at: i}] : [];
+});
+/** @param {{name: string, text: string, at: number}} tag */
+const otherTagView = ({name, text, at}) => [h('label', { for: `other${name}`
+}, name), h('input', {
+  id: `other${name}`,
+  value: typedOr(`other${name}`, text),
+  autocomplete: 'off',
+  onchange: (/** @type {any} */ e) => changeOther(name, at, e.target.value.trim())
+})];
+/**
+ * Such a tag has another text, or is gone.
+ * @param {string} name
+ * @param {number} at      its remark among those of the study
+ * @param {string} text
+ */
+const changeOther = (name, at, text) => change(now => {
+  const s = now.studies[now.at], line = s ? s.head + at : 0;
+  if (!s || refuseLong({id: `tag${name}`, value: text}, text)) return null;
+  return {
+    lines: [...now.lines.slice(0, line), ...(text ? [`#! tag ${name} ${text}`] : []), ...now.lines.slice(line + 1)]
+  };
+}, 'head');
 /**
  * A text is kept in its own letters beside the plain ones that the script has; a note says how these are.
  * @param {string} name

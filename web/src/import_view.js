@@ -5,7 +5,7 @@ import {track} from './actions.js';
 import {CODE_PAGES, textIn} from './code_pages.js';
 import {remedyOf} from './cut_game.js';
 import {leftOutBy} from './left_out.js';
-import {asked, openHeld} from './mending.js';
+import {asked, gamesWithoutAim, openHeld, readAs} from './mending.js';
 import {lastOpened, openPgn} from './opening.js';
 import {doc} from './state.js';
 import {aimText, counted, readAim} from './words.js';
@@ -19,14 +19,18 @@ const AIMS = ['white win', 'white draw', 'black win', 'black draw'];
  */
 const aimButtons = (title, open) =>
   AIMS.map(words => smallButton(aimText(readAim(words)), title, () => open(words), {'data-import': words}));
-/** @param {Source} again */
-function aimsView({bytes, name, waiting, how}) {
-  const [doNot, them] = waiting === 1 ? ['does not', 'it'] : ['do not', 'them'];
-  return waiting > 0 &&
+/**
+ * The games that state no stipulation are read with one: those that the document lacks alone, where it has their texts.
+ * @param {Source} again
+ */
+function aimsView({bytes, name, id, waiting, how}) {
+  const {count, kept} = id ? gamesWithoutAim() : {count: waiting, kept: false},
+                [doNot, them] = count === 1 ? ['does not', 'it'] : ['do not', 'them'];
+  return count > 0 &&
     h('p', {class: 'row', id: 'aims', role: 'group', 'aria-label': 'The stipulation of games that say none'},
-      `${counted(waiting, 'game')} of this PGN ${doNot} say what is to be done. Read ${them} as: `,
+      `${counted(count, 'game')} of this PGN ${doNot} say what is to be done. Read ${them} as: `,
       aimButtons('read the PGN again, with this stipulation where none is said',
-        aim => track(openPgn(bytes, 'board', name, {...how, aim}))));
+        aim => (kept ? readAs(aim) : track(openPgn(bytes, 'board', name, {...how, aim})))));
 }
 /**
  * The code pages in which the names of a file can be read, each with the first name as it reads there.

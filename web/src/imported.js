@@ -99,8 +99,8 @@ const doubtNote = games =>
       : games.length ? ` Sources of the stipulation differ in game ${games.join(', ')}.`
                      : '');
 /**
- * How many games and studies there were. A game that was left out is named with the reason; of several beside studies
- * only their number, since the list has a row for each.
+ * How many games and studies there were. Games that were left out are named with their reasons where there is no list,
+ * which has a row for each.
  * @param {string[]} lines
  */
 export function importNote(lines) {
@@ -116,7 +116,8 @@ export function importNote(lines) {
  */
 const outNote = (out, studies) => (!out.length ? ''
     : studies > 0 && out.length > 1            ? ` Left out: ${out.length} games, each with its reason in the list.`
-                                               : ` Left out: ${firstLeftOut(out)}.`);
+               : studies > 0 ? ` Left out: game ${out[0].game}, with its reason in the list.`
+                             : ` Left out: ${firstLeftOut(out)}.`);
 /**
  * What is said of an import once one of its games that were left out stands among the studies.
  * @param {string} note
@@ -186,12 +187,18 @@ export function originIn(remarks) {
  * stipulation and result, and the marks in it, are of what stood there before.
  * @param {string[]} remarks
  */
-export const restated = remarks => remarks.filter(line => !isOfBefore(line)).map(line => {
+export const restated = remarks => remarks.filter(line => !isOfBefore(line)).map(line => byHand(line));
+/**
+ * The remark that says where a stipulation is from, once it is the user's; other remarks as they are.
+ * @param {string} line
+ * @param {string} [source]      the one source that is given up
+ */
+export function byHand(line, source) {
   const [stipulated] = remarksOfKind([line], 'stipulated');
-  if (!stipulated) return line;
+  if (!stipulated || (source && stipulated.said !== source)) return line;
   const {game, line: row, author} = stipulated;
   return `#! game ${game}, line ${row}${author && ` (${author})`}: ${BY_HAND}`;
-});
+}
 /**
  * Whether a remark says what the file states as stipulation, as result, or as marks.
  * @param {string} line

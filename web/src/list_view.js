@@ -18,6 +18,7 @@ import {counted} from './words.js';
 
 const COLUMNS = ['number', 'title', 'author', 'aim', 'verdict'];
 const ui = {
+  folded: false,
   filter: '',
   find: '',
   order: {by: '', back: false}
@@ -183,9 +184,24 @@ function openRow({target}) {
   if (button) button.click();
 }
 /** The entries in a table, below the numbers of each kind. */
-const frameView = () => [h('h2', {id: 'studiesTitle'}, wordOf('list')),
-  h('p', {class: 'row', id: 'kinds', role: 'group', 'aria-label': 'Show one kind'}), toolsView(),
-  h('div', {id: 'rows', onclick: openRow})];
+const frameView = () => [h('h2', {},
+                           h('button', {
+                             id: 'foldList',
+                             class: 'fold',
+                             title: 'show the list, or its heading alone',
+                             'aria-expanded': `${!ui.folded}`,
+                             onclick: foldList
+                           },
+                             h('span', {id: 'studiesTitle'}, wordOf('list')))),
+  h('div', {id: 'unfolded', hidden: ui.folded},
+    h('p', {class: 'row', id: 'kinds', role: 'group', 'aria-label': 'Show one kind'}), toolsView(),
+    h('div', {id: 'rows', onclick: openRow}))];
+/** So that the solution stands higher. */
+function foldList() {
+  ui.folded = !ui.folded;
+  $('unfolded').hidden = ui.folded;
+  $('foldList').setAttribute('aria-expanded', `${!ui.folded}`);
+}
 let drawnBy = '';
 function drawRows() {
   const by = JSON.stringify([ui, doc().id]);

@@ -2,9 +2,10 @@
 // Games with a bad move, opened up to there, and others that were left out: mended, and read again.
 import {change, track, work} from './actions.js';
 import {asGame, cutBlock, cutOf, hasPosition, leftOutText, remedyOf, textIn} from './cut_game.js';
+import {$} from './dom.js';
 import {documentOf, noteAfter} from './imported.js';
 import {freshId} from './keep.js';
-import {NO_POSITION, canBeCut, isCutLine, leftOut, whyLeftOut, withoutCut} from './left_out.js';
+import {NO_POSITION, canBeCut, isCutLine, leftOut, leftOutBy, whyLeftOut, withoutCut} from './left_out.js';
 import {refuseLong} from './limits.js';
 import {checkedName, importPgn, withRemarks} from './opening.js';
 import {app, doc, say, services, study} from './state.js';
@@ -180,6 +181,41 @@ export const readAgain = text => track((async () => {
 })());
 
 /**
+ * The lines of the games that were left out since they state no stipulation, from the last on.
+ * @param {string[]} lines
+ */
+const withoutAim = lines => lines
+                              .flatMap((text, line) => {
+                                const game = text.startsWith('#! game ') ? leftOutBy(text) : null;
+                                return game && game.why === 'NoStipulation' ? [line] : [];
+                              })
+                              .reverse();
+/** How many of them the document has, and whether it has the texts of all. */
+export function gamesWithoutAim() {
+  const {lines} = doc(), games = withoutAim(lines);
+  return {count: games.length, kept: games.every(line => leftOutText(lines, line).cut)};
+}
+/**
+ * The games that state no stipulation are read with this one; all else stays as it is.
+ * @param {string} aim
+ */
+export const readAs = aim => track((async () => {
+  const before = doc();
+  let {lines} = before;
+  await work(async () => {
+    for (const line of withoutAim(lines)) {
+      const {game, cut, end} = leftOutText(lines, line);
+      if (!game || !cut) continue;
+      const from = game.line - cut.text.split('\n').length + 1,
+            got = await read(`${(cut.text + cut.rest).trimEnd()}\n`, {game: game.game, line: from}, aim);
+      if (isOneGame(got.lines)) lines = [...lines.slice(0, line), ...got.lines, ...lines.slice(end)];
+    }
+  });
+  const note = noteAfter(before.note, before.lines, lines);
+  await change(now => (now === before && lines !== now.lines ? {lines, note, path: 'root', lenient: true} : null));
+})());
+
+/**
  * The game that was left out whose text is being mended: beside which document, and what it says.
  * @type {{beside: string[], place: Place, game: LeftOut, why: string, from: number,
  *   cut: import('./cut_game.js').CutText} | null}
@@ -203,6 +239,8 @@ function mendAt(lines, line, more = {}) {
   const from = game.line - cut.text.split('\n').length + 1;
   mending = {beside: doc().lines, place: {lines, line, end, more}, game, why: whyGone(game, cut), from, cut};
   services.show();
+  const field = $('gameText');
+  if (field) field.focus();
 }
 /**
  * The mended text of a game that was left out is read.

@@ -65,12 +65,13 @@ function zugzwangView(root) {
  */
 function defencesView(s, review, root, paper) {
   const rows = byNode(review.missing, root), aim = s.aim;
-  const hero = aim ? aim.hero : '', mates = `The small number says in how many moves ${hero} mates after the defence; `;
+  const hero = aim ? aim.hero : '', mates = `The small number says in how many moves ${hero} mates after the defence. `;
   const draws = 'After a defence with = it stays a draw; after one with a small number ' +
     `${hero} even mates, in so many moves. `;
   const note = [
     aim && (aim.goal === 'draw' ? draws : mates),
-    !paper && '† is a main defence: it lasts at least as long as the first that is given, and has one answer. ',
+    !paper &&
+      'A main defence has the sign †: it lasts at least as long as the first that is given, and has one answer. ',
     h('span', {class: 'act'}, 'A click adds it, with its answer if there is only one.')
   ];
   if (paper)

@@ -220,7 +220,9 @@ function verdictOf(script, study, review) {
 function gamesOfStudy(script, study, marks, review) {
   const remarks = script.lines.slice(study.head, study.from), unread = unreadIn(script, study).replace(/[{}]/g, ''),
         stated = study.origin && isOfFile(study.origin);
-  const said = marks ? [] : [!stated && study.aim ? aimText(study.aim) : '', unread].filter(Boolean),
+  const words = study.aim ? aimText(study.aim) : '',
+        isSaid = stated || remarks.some(line => line.startsWith(`#! note -: ${words}`)),
+        said = marks ? [] : [isSaid ? '' : words, unread].filter(Boolean),
         verdict = marks ? verdictOf(script, study, review).replace(/[{}]/g, '') : '', last = study.games.length - 1;
   return study.games.map(
     (game, i) => withNotes(inOwnLetters(study, i === last ? judged(game, verdict) : game), remarks, marks, said));
