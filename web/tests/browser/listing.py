@@ -260,4 +260,41 @@ def test_one_game_that_was_left_out_is_mended(user):
     assert user.text("stamp").startswith("sound") and user.text("head").startswith("One"), user.text("head")
 
 
+def test_words_in_place_of_a_stipulation(user):
+    """Where a comment states the stipulation and is written anew, the saved game states it before the new words."""
+    user.open_tables(TABLES, SMALL)
+    opened(user, games(("One", FEN, "{White to mate in 30} 1. Kg3")))
+    assert user.text("source") == "(from its comment)"
+    user.fill("note", "First prize.")
+    user.settle()
+    assert not user.has("source")
+    saved = user.download("savePlain")[1]
+    assert "{White to mate in 30. First prize.} 1. Kg3" in saved, saved
+    user.click("new")
+    opened(user, saved)
+    assert "stipulate white mate 30" in user.js("return document.getElementById('script').value")
+
+
+def test_games_without_a_stipulation_are_read_alone(user):
+    """The offer is for the games that the document still lacks, and leaves the work on the others alone."""
+    user.open_tables(TABLES, SMALL)
+    texts = [games((name, FEN, "1. Kg3 Kf5")) for name in ("One", "Two", "Three")]
+    for n in (1, 2):
+        texts[n] = texts[n].replace('[Result "1-0"]\n', "").replace("1-0", "*")
+    opened(user, "".join(texts))
+    assert user.text("aims").startswith("2 games"), user.text("aims")
+    user.fill("tagWhite", "Another")
+    user.press_on('[data-upto="2"]')
+    mended(user, "1. Kg3", "{White to win} 1. Kg3")
+    user.until("!document.getElementById('gameMended')", 60)
+    user.settle()
+    assert user.text("aims").startswith("1 game "), user.text("aims")
+    user.press_on('[data-import="white draw"]')
+    user.until("!document.getElementById('aims')", 60)
+    user.settle()
+    lines = user.js("return document.getElementById('script').value")
+    assert lines.count("stipulate white win") == 2 and lines.count("stipulate white draw") == 1, lines
+    assert "tag White Another" in lines and "3 games, 3 studies" in user.text("import"), user.text("import")
+
+
 run(globals(), sys.argv[2:])
