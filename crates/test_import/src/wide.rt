@@ -571,8 +571,7 @@ fn more_than_255_endings_are_too_many(rt: HostRuntime) -> Result<(), Fail> {
 fn a_line_is_too_deep(rt: HostRuntime) -> Result<(), Fail> {
     let alloc = rt.alloc();
     let games = rounds(&alloc, b"Rd1 Kb8 Rdc1 Ka8\n", b"Rd1 1-0\n")?;
-    let expected =
-        b"#! game 1, line 69, column 1 (\"many\"): TooDeep\n\n#! games 1, studies 0\n";
+    let expected = b"#! game 1, line 69, column 1 (\"many\"): TooDeep\n\n#! games 1, studies 0\n";
     assert!(rt; check(&alloc, games.as_slice(), None, expected)?);
     Ok(())
 }

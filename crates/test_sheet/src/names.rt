@@ -41,7 +41,8 @@ const FRONT: &str =
 const EDITED: &str = "<article id=\"e2\"><p class=\"note\">No. 2</p><header><h1>Рижская газета</h1>\
 <p class=\"by\">Korolkov &#183; São Paulo &amp; &lt;b&gt; &#183; 1921 г. &#183; entry № 4</p></header>";
 
-const PLAIN: &str = "<article id=\"e3\"><p class=\"note\">No. 3</p><header><h1>Rizhskaya gazeta</h1>\
+const PLAIN: &str =
+    "<article id=\"e3\"><p class=\"note\">No. 3</p><header><h1>Rizhskaya gazeta</h1>\
 <p class=\"by\">Troickij, A. &#183; Sao Paulo &amp; &lt;b&gt; &#183; 1921 g. &#183; entry ? 4</p></header>";
 
 const ROWS: &str =

@@ -225,7 +225,12 @@ fn pages_over_tables(rt: HostRuntime) -> Result<(), Fail> {
     assert!(rt; text.starts_with(b"<!DOCTYPE html>\n") && text.ends_with(b"</body></html>\n"));
     let refused = "Line 15 was refused: <code>insert root Ra9</code> <b>NotSan</b>: ";
     assert!(rt; has(text, refused));
-    assert!(rt; has(text, "<article id=\"e1\"><p class=\"note\">No. 1</p><header><h1>King and rook</h1>"));
+    assert!(rt;
+        has(
+            text,
+            "<article id=\"e1\"><p class=\"note\">No. 1</p><header><h1>King and rook</h1>"
+        )
+    );
     assert!(rt; has(text, ">not read: line 15</span>"));
     assert!(rt; !has(text, "<article id=\"e2\">") && !has(text, "Entries and verdicts"));
     assert!(rt;
