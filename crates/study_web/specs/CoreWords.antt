@@ -19,7 +19,7 @@ use Rattle.study_head.specs.declared.verdict.Stamp.TheVariants.{Wins, Mates, Mis
 use Rattle.study_head.specs.Verdict.{stamp_words, sentence, start_words}
 use Rattle.study_head.specs.Head.{title_words}
 use Rattle.study_page.specs.Page.{tries_title, zugzwangs_title, missing_title, ends_title}
-use Rattle.study_page.specs.Rows.{later_words, by_words, loses_time, gives_up_goal, points_words, to_move_words, several_words, keeps_draw_words}
+use Rattle.study_page.specs.Rows.{later_words, by_words, loses_time, gives_up_goal, points_words, to_move_words, keeps_draw_words}
 use Rattle.study_web.specs.declared.answers.core_words.Group.{Group}
 use Rattle.study_web.specs.declared.answers.core_words.Group.TheVariants as group
 use Rattle.study_web.specs.Reported.{line_of}
@@ -130,7 +130,7 @@ page_lines = title_lines ++ (last_title_lines ++ head_lines)
 unfoldable pub said_lines : List ℕ
 said_lines =
     said_line (codes "as-quick") (later_words 1 1) ++ (said_line (codes "loses-time") loses_time
-    ++ (said_line (codes "lets-go") gives_up_goal ++ said_line (codes "stalemate") (several_words 0)))
+    ++ (said_line (codes "lets-go") gives_up_goal ++ said_line (codes "stalemate") (codes "stalemate")))
 
 unfoldable pub keep_line : List ℕ
 keep_line = said_line (codes "keep") keeps_draw_words
@@ -139,7 +139,7 @@ keep_line = said_line (codes "keep") keeps_draw_words
 unfoldable pub later_lines : List ℕ
 later_lines =
     said_line (codes "longer") (by_words 1 (codes "longer"))
-    ++ (said_line (codes "quicker") (by_words 1 (codes "quicker")) ++ said_line (codes "answers") (several_words 2))
+    ++ (said_line (codes "quicker") (by_words 1 (codes "quicker")) ++ said_line (codes "answers") (codes "2 answers"))
 
 unfoldable pub move_lines : List ℕ
 move_lines = said_lines ++ (keep_line ++ later_lines)

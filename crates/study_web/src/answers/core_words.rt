@@ -6,7 +6,7 @@ ghost use Rattle.study_board.specs.declared.men.Side.TheVariants.{White};
 ghost use Rattle.study_values.specs.declared.value.Value.TheVariants.{Draw};
 ghost use Rattle.study_pgn.specs.Values.{value_text};
 ghost use Rattle.study_head.specs.Verdict.{IsLegalStamp, stamp_words, sentence, start_words};
-ghost use Rattle.study_page.specs.Rows.{by_words, several_words};
+ghost use Rattle.study_page.specs.Rows.{by_words};
 ghost use Rattle.study_web.specs.Answers.{MayEnd, IsOutOfMemory, IsNoMemory};
 ghost use Rattle.study_web.specs.CoreWords.{word_line, refusal_names, game_names, command_names, kind_name, group_name, group_words};
 ghost use Rattle.study_web.specs.CoreWords.{name_lines, said_line, value_lines, stamp_lines, wrong_lines, try_lines};
@@ -304,7 +304,7 @@ fn add_by<A: Allocator>(text: &mut Text<'_, A>, way: &[u8]) -> Result<(), AllocE
 }
 
 fn add_answers<A: Allocator>(text: &mut Text<'_, A>) -> Result<(), AllocError>
-    ensures { OnOk result (text.new ≡ text.old ++ said_line (codes "answers") (several_words 2)) }
+    ensures { OnOk result (text.new ≡ text.old ++ said_line (codes "answers") (codes "2 answers")) }
 {
     add_pieces(
         text,
