@@ -25,7 +25,7 @@ use study_marks::{Goal, Stipulation};
 use study_pgn::add_value;
 use study_print::game_reason;
 use study_reply::{Refusal, reason_of};
-use study_text::{Piece, Text, add_pieces, next_word};
+use study_text::{Text, next_word};
 use study_values::Value;
 
 /// Names that have words.
@@ -306,14 +306,7 @@ fn add_by<A: Allocator>(text: &mut Text<'_, A>, way: &[u8]) -> Result<(), AllocE
 fn add_answers<A: Allocator>(text: &mut Text<'_, A>) -> Result<(), AllocError>
     ensures { OnOk result (text.new ≡ text.old ++ said_line (codes "answers") (codes "2 answers")) }
 {
-    add_pieces(
-        text,
-        &[
-            Piece::Bytes(b"word answers "),
-            Piece::Number(2),
-            Piece::Bytes(b" answers\n"),
-        ],
-    )
+    text.add(b"word answers 2 answers\n")
 }
 
 #[tactic(auto, unfolding(crate::specs::CoreWords::later_lines))]
