@@ -113,6 +113,14 @@ export function narrowing(theme, moves) {
   return `; narrow it down by squares${theme.endsWith('N') && moves < 12 ? ', or by more only moves' : ''}`;
 }
 /**
+ * How much of the class those are that a search has listed, in words; nothing, where they are all.
+ * @param {Search} now
+ */
+export function partText({at, of, ended}) {
+  if (ended === 'all') return '';
+  return ended === 'enough' ? ' that are listed' : ` so far, ${of ? Math.floor(100 * at / of) : 0} % looked at`;
+}
+/**
  * How a search stands, in words.
  * @param {Search} now
  * @param {string} advice      what is said where not all are listed

@@ -6,7 +6,7 @@ import {app, services} from './state.js';
 import {CLASSES} from './core_host.js';
 import {diagramOf} from './drawing.js';
 import {control, sideOf} from './fen.js';
-import {THEMES, manMissing, narrowing, searchText} from './finding.js';
+import {THEMES, manMissing, narrowing, searchText, partText} from './finding.js';
 import {hitsHere, openAll, openHit} from './hits.js';
 import {search} from './searching.js';
 import {draftFen} from './setup.js';
@@ -174,7 +174,12 @@ function soFar() {
   return `${state.shown}: ${now.found.length || !state.lacking ? searchText(now, state.advice) : `${state.lacking}.`}`;
 }
 /** What was found, for those who open it. */
-const hits = () => ({found: state.search ? state.search.found : [], theme: state.theme, words: state.shown});
+const hits = () => ({
+  found: state.search ? state.search.found : [],
+  part: state.search ? partText(state.search) : '',
+  theme: state.theme,
+  words: state.shown
+});
 /**
  * The diagram of the position under the pointer or the focus, beside the list.
  * @param {string} fen

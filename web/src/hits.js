@@ -12,8 +12,9 @@ import {toText} from './script.js';
 import {app, doc, services} from './state.js';
 /** @typedef {import('./finding.js').Found} Found */
 /**
- * What was found, by the words of the search; which one is looked at, as which document, and the one before.
- * @typedef {{found: Found[], theme: string, words: string, at: number, id: string, before: string}} Hits
+ * What was found, by the words of the search, and how much of the class that is; which one is looked at, as which
+ * document, and the one before.
+ * @typedef {{found: Found[], part: string, theme: string, words: string, at: number, id: string, before: string}} Hits
  */
 
 let hits = /** @type {Hits | null} */ (null);
@@ -32,10 +33,10 @@ async function studyOf(found, theme) {
 }
 /**
  * Looks at one of the positions that were found.
- * @param {{found: Found[], theme: string, words: string}} search
+ * @param {{found: Found[], part: string, theme: string, words: string}} search
  * @param {number} at
  */
-export const openHit = ({found, theme, words}, at) => track((async () => {
+export const openHit = ({found, part, theme, words}, at) => track((async () => {
   if (!found[at]) return;
   const lines = await studyOf(found[at], theme), here = hitsHere(), id = freshId(),
         before = here    ? here.before
@@ -43,7 +44,7 @@ export const openHit = ({found, theme, words}, at) => track((async () => {
                          : '';
   app.setup = null;
   app.looked = id;
-  hits = {found, theme, words, at, id, before};
+  hits = {found, part, theme, words, at, id, before};
   await change(() => ({lines, name: '', note: '', id, at: 0, path: 'root', lenient: true}));
 })());
 /**
@@ -73,9 +74,9 @@ export const openAll = ({found, theme, words}) => track((async () => {
 export function hitsView(openList) {
   const here = hitsHere();
   if (!here) return null;
-  const {found, words, at, before} = here;
+  const {found, part, words, at, before} = here;
   return h('p', {class: 'row', role: 'group', 'aria-label': 'Positions that were found'},
-    h('b', {}, `${words}: ${at + 1} of ${found.length}`),
+    h('b', {}, `${words}: ${at + 1} of ${found.length}${part}`),
     button('Previous', 'Page Up', () => stepHit(-1), {id: 'hitBefore', disabled: at === 0}),
     button('Next', 'Page Down', () => stepHit(1), {id: 'hitNext', disabled: at + 1 === found.length}),
     button('List', 'all that were found', openList, {id: 'hitList'}),

@@ -3,7 +3,17 @@ import test from 'node:test';
 import assert from 'node:assert/strict';
 import {placesBefore} from '../src/earlier.js';
 import {menOf} from '../src/fen.js';
-import {linesOf, manMissing, narrowing, opened, placements, readFound, rowSought, searchText} from '../src/finding.js';
+import {
+  linesOf,
+  manMissing,
+  narrowing,
+  opened,
+  partText,
+  placements,
+  readFound,
+  rowSought,
+  searchText
+} from '../src/finding.js';
 
 test('a line of a list is read', () => {
   assert.deepEqual(readFound('1B6/3K4/8/1k6/8/P7/8/8 w - - 0 1 draw loss 38'),
@@ -58,6 +68,9 @@ test('how a search stands', () => {
   const search = {at: 50, of: 100, found: Array(3), many: 3, ended: ''}, advice = narrowing('zugzwang', 4);
   assert.equal(searchText(search, advice), '3 positions found; 50 % looked at: searching ….');
   assert.equal(searchText({...search, ended: 'stopped'}, advice), '3 positions found; 50 % looked at: stopped.');
+  assert.equal(partText({...search, ended: 'stopped'}), ' so far, 50 % looked at');
+  assert.equal(partText({...search, ended: 'enough'}), ' that are listed');
+  assert.equal(partText({...search, ended: 'all'}), '');
   assert.equal(searchText({...search, ended: 'enough', many: 7}, advice),
     '7 positions found; 50 % looked at: the first 3 are listed; narrow it down by squares.');
   assert.equal(searchText({...search, at: 100, ended: 'enough', many: 7}, narrowing('win N', 4)),
