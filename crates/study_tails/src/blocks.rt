@@ -356,15 +356,18 @@ pub fn game_reason<'a, A: Allocator>(
 ) -> Result<Option<GameLeftOut>, AllocError>
     ensures { IfOk result (λ why. why ≡ game_reason study.now) }
 {
-    let paths = study.tails(alloc)?;
-    if paths.is_empty() {
+    let count = {
+        let paths = study.tails(alloc)?;
+        paths.len()
+    };
+    if count == 0 {
         let start = &study.start.position;
         if has_four(start) || gets_to_four(start, &study.tree.root()) {
             Ok(Some(GameLeftOut::RightsToTheEnd))
         } else {
             Ok(Some(GameLeftOut::NeverFourMen))
         }
-    } else if paths.len() > MAX_TAILS {
+    } else if count > MAX_TAILS {
         Ok(Some(GameLeftOut::TooManyTails))
     } else {
         Ok(None)

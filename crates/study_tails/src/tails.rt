@@ -89,6 +89,18 @@ fn is_small(p: &WidePosition) -> bool
     p.men().len() <= 4 && !p.rights().any()
 }
 
+/// Adds the path with these places.
+fn add_path<'a, A: Allocator>(
+    alloc: &'a A,
+    found: &mut Vec<Path<'a, A>, &'a A>,
+    steps: &[u16],
+) -> Result<(), AllocError>
+    ensures { OnOk result (found.new.items ≡ found.old.items ++ steps.now ∷ []) }
+{
+    found.push(path_of(alloc, steps)?)?;
+    Ok(())
+}
+
 /// Adds the paths of the tails below a node, which has this path and position, itself included.
 fn add_tails<'a, A: Allocator>(
     alloc: &'a A,
@@ -102,8 +114,7 @@ fn add_tails<'a, A: Allocator>(
         ++ map (λ p. steps.now ++ p) (tails_from position.now node.now.below)) }
 {
     if is_small(position) {
-        found.push(path_of(alloc, steps)?)?;
-        return Ok(());
+        return add_path(alloc, found, steps);
     }
     let mut place = 0;
     while place < node.width() {
