@@ -9,7 +9,7 @@ use Rattle.study_tree.specs.Tree.{Plain, with_child, size_of, child_refusal}
 use Rattle.study_marks.specs.Study.{place_at}
 use Rattle.study_marks.proofs.StudyEdits.{AreDistinct-add_last}
 use Rattle.study_reading.specs.declared.moves.MoveFault.{MoveFault}
-use Rattle.study_reading.specs.declared.moves.MoveFault.TheVariants.{NoSuchNode, TooDeep, TreeFull, OutOfMemory}
+use Rattle.study_reading.specs.declared.moves.MoveFault.TheVariants.{TooDeep, TreeFull}
 use Rattle.study_reading.specs.declared.moves.Step.{Step}
 use Rattle.study_tails.specs.declared.moves.Meant.{Meant}
 use Rattle.study_tails.specs.Study.{WideStudy, Node, node_at, IsWideStudy}
