@@ -4,7 +4,7 @@ ghost use Rattle.study_marks.specs.BenchState.{marked_study};
 ghost use Rattle.study_marks.specs.Study.{tag_of};
 ghost use Rattle.study_marks.specs.declared.tag.TagName.TheVariants as tag;
 ghost use Rattle.study_html.specs.Elements.{element_text};
-ghost use Rattle.study_html.specs.Escape.{escaped_text, lettered_text};
+ghost use Rattle.study_html.specs.Escape.{lettered_text};
 ghost use Rattle.study_head.specs.Known.{named_words};
 ghost use Rattle.study_head.specs.Head.{title_words, behind, byline_item, round_words, byline, head, moves_first, men_words, caption, figure};
 

@@ -33,7 +33,7 @@ unfoldable pub man_drawing : Man → List ℕ
 man_drawing m =
     codes "<use" ++ (colour m.side ++ (shape m.kind ++ (cell_of m.at ++ (size ++ codes "/>"))))
 
-abbrev pub drawing_text : Drawing → List ℕ
+unfoldable pub drawing_text : Drawing → List ℕ
 drawing_text Break = codes "<br>"
 drawing_text Squares = codes "<use href=\"#board\"/>"
 drawing_text Coordinates = codes "<use href=\"#coordinates\"/>"

@@ -101,6 +101,7 @@ fn add_man<A: Allocator>(text: &mut Text<'_, A>, man: &Man) -> Result<(), AllocE
 }
 
 /// Adds the drawing.
+#[tactic(auto, unfolding(crate::specs::Drawings::drawing_text))]
 pub fn add_drawing<A: Allocator>(
     text: &mut Text<'_, A>,
     drawing: &Drawing,

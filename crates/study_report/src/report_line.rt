@@ -1,5 +1,5 @@
 //! What a line adds to a report.
-ghost use Rattle.std.specs.Prelude.{◌≡◌, ◌<◌, ◌+◌, ◌⊎◌, ℕ, suc, false, List, ◌++◌, IfOk, IfErr, codes};
+ghost use Rattle.std.specs.Prelude.{◌≡◌, ◌<◌, ◌+◌, ◌⊎◌, suc, false, List, ◌++◌, IfOk, IfErr, codes};
 ghost use Rattle.std.specs.Io.KnownBytes.{Appends};
 ghost use Rattle.study_marks.specs.Edits.{PlainStudy};
 ghost use Rattle.study_reply.specs.Names.{words_of};
