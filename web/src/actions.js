@@ -167,6 +167,7 @@ async function applyChange(make, where) {
     const subject = /^ *insert/.test(newly.text) ? wordsOf(newly.text)[2] : '';
     say(where,
       subject ? `${subject}: ${reason(newly.reply)}.` : `Refused: ${brokenMove(newly.reply) || reason(newly.reply)}.`);
+    if (app.say) app.say.line = newly.text;
     return services.show();
   }
   await arrive(after(docAfter(now, wanted, script, true)));

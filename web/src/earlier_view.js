@@ -42,6 +42,11 @@ function searchLongest() {
     });
   draw();
 }
+/** A search ends after the position that it is looking at. */
+function stop() {
+  if (going) going.abort();
+  draw();
+}
 /**
  * How far the search has come, and what begins with its moves.
  * @param {import('./types.js').Study} s
@@ -53,15 +58,18 @@ function longestView(s) {
   const hero = s.aim ? s.aim.hero : 'White', best = intro ? intro.best : [], own = ownMoves(best, hero),
         seconds = intro ? Math.round((performance.now() - intro.began) / 1000) : 0,
         looked = counted(intro ? intro.looked : 0, 'position');
+  const end = going ? '' : intro && intro.ended ? ', all there are' : '; stopped there';
   const words = `${best.length ? `${counted(own, 'only move')} in front` : 'No only move in front'}${
-    going ? ' so far' : ''}; ${looked} looked at in ${seconds} s${intro && intro.ended ? ', all there are' : ''}.`;
+    going ? ' so far' : ''}; ${looked} looked at in ${seconds} s${end}.`;
   const take = () => {
     chosen = best;
     begin();
   };
   return [
     h('p', {id: 'longestState'}, words, ' ',
-      going && button('Stop', 'keep what was found', () => going && going.abort(), {id: 'longestStop'})),
+      going &&
+        button(going.signal.aborted ? 'Stopping …' : 'Stop', 'keep what was found', stop,
+          {id: 'longestStop', disabled: going.signal.aborted})),
     best.length > 0 &&
       h('p', {}, best.map(move => `${move.san}${markSign(move)} `),
         button('Begin with these', 'put them in front of the study', take, {id: 'longestBegin'}))

@@ -106,6 +106,23 @@ export function fromControl(text) {
 const NO_DRAWING = 'No position: write a FEN, eight ranks of eight squares with / between them, or the men as ' +
   'Kb6 Pc6 / Ka1 Rd5.';
 /**
+ * Why the first field of a FEN cannot be drawn, the first fault from rank 8 down; nothing if it can.
+ * @param {string} field
+ */
+function drawingFault(field) {
+  const ranks = field.split('/');
+  if (ranks.length === 1) return NO_DRAWING;
+  if (ranks.length !== 8)
+    return `No position: there are eight ranks with / between them, and this has ${ranks.length}.`;
+  for (const [i, rank] of ranks.entries()) {
+    const none = /[^1-8KQRBNPkqrbnp]/.exec(rank), squares = [...rank].reduce((n, c) => n + (Number(c) || 1), 0);
+    if (none) return `No position: rank ${8 - i} has ${none[0]}, which is no man; the letters of men are KQRBNP.`;
+    if (squares !== 8)
+      return `No position: rank ${8 - i} has ${squares} squares, and should have 8: ${rank || 'empty'}.`;
+  }
+  return '';
+}
+/**
  * Six fields of what was typed, if it can be drawn, or why it cannot. Whether it is a position is for the program to
  * say.
  * @param {string} text
@@ -114,8 +131,8 @@ const NO_DRAWING = 'No position: write a FEN, eight ranks of eight squares with 
  */
 export function typedFen(text, mover) {
   const listing = fromControl(text), fields = (listing ? `${listing} ${mover} - - 0 1` : text).trim().split(/\s+/);
-  if (!/^([1-8KQRBNPkqrbnp]+\/){7}[1-8KQRBNPkqrbnp]+$/.test(fields[0])) return {bad: NO_DRAWING};
-  if (fields[0].split('/').some(r => [...r].reduce((n, c) => n + (Number(c) || 1), 0) !== 8)) return {bad: NO_DRAWING};
+  const bad = drawingFault(fields[0]);
+  if (bad) return {bad};
   const rest = ['w', '-', '-', '0', '1'].map((d, i) => fields[i + 1] || (i === 0 ? mover : d));
   return {fen: [fields[0], ...rest].join(' ')};
 }

@@ -5,15 +5,27 @@ import {control, other, sideOf, squareName} from './fen.js';
 import {change, go} from './actions.js';
 import {app, doc, node, services, say} from './state.js';
 import {flip} from './board.js';
+import {shownText, wordsIn} from './comments.js';
 import {insert} from './board_input.js';
 import {earlierButton} from './earlier_view.js';
 import {promoteNode, removeNode} from './edits.js';
 import {refuseLong} from './limits.js';
 import {nodeAt} from './parse_answers.js';
 import {openSetup} from './setup.js';
+import {movesTo} from './tree_room.js';
 import {typedMoves as movesIn} from './typed.js';
 import {atStart} from './wording.js';
-import {counted, letsGo, markMeaning, markSign, moveName, valueSign, valueText, zugzwangText} from './words.js';
+import {
+  counted,
+  letsGo,
+  markMeaning,
+  markSign,
+  moveName,
+  numberedLast,
+  valueSign,
+  valueText,
+  zugzwangText
+} from './words.js';
 /** @typedef {import('./types.js').TreeNode} TreeNode @typedef {import('./types.js').Move} Move */
 /** @typedef {import('./types.js').Study} Study */
 
@@ -73,11 +85,24 @@ async function typedMoves(text) {
         named =
           app.view && app.view.moves.find(m => squareName(m.from) + squareName(m.to) + m.promoted === squares(first));
   if (!sans.length) return;
-  await insert(doc().path, named ? [named.san, ...sans.slice(1)] : sans);
+  const moves = named ? [named.san, ...sans.slice(1)] : sans, view = app.view, from = node();
+  await insert(doc().path, moves);
   if (app.say) {
     Object.assign(app.say, {field: 'san', typed: text});
+    if (view && from && moves.length > 1) sayWhich(movesTo(view.root, from.path, moves, app.say.line || ''), from.fen);
     services.show();
   }
+}
+/**
+ * Of several typed moves the refused one has its number and the move before it.
+ * @param {string[]} moves      up to that one
+ * @param {string} fen      before the first
+ */
+function sayWhich(moves, fen) {
+  if (!app.say || !moves.length) return;
+  const after = moves.length > 1 ? `, after ${numberedLast(fen, moves.slice(0, -1))}` : '',
+        why = app.say.text.slice(moves[moves.length - 1].length);
+  app.say.text = `${numberedLast(fen, moves)}${after}${why} None of the moves was entered.`;
 }
 /** @param {string} path */
 export function remove(path) {
@@ -113,7 +138,17 @@ export function hereView(s, n) {
       over ? `${mover} is ${over === 'mate' ? 'mated' : 'stalemated'}`
            : `${mover} to move, ${counted(view ? view.moves.length : 0, 'legal move')}`,
       ' · ', control(n.fen)));
-  return [caption, movesView(s, n), !n.parent && h('p', {class: 'act'}, earlierButton())];
+  return [caption, saidView(s, n), movesView(s, n), !n.parent && h('p', {class: 'act'}, earlierButton())];
+}
+/**
+ * The author's words at a node, on a phone, where the field that has them is far below the board.
+ * @param {Study} s
+ * @param {TreeNode} n
+ */
+function saidView(s, n) {
+  const words = app.view && wordsIn(doc().lines, s, app.view.root).get(n.path),
+        text = words && shownText(words.comments);
+  return text && h('p', {class: 'said near'}, text);
 }
 /**
  * All legal moves, by outcome, the best first; those of the tree are bold.

@@ -4,7 +4,10 @@
 import {begin} from './history.js';
 import {nodeAt} from './parse_answers.js';
 /** @typedef {import('./types.js').Doc} Doc */
-/** @typedef {{where: string, text: string, good: boolean, field?: string, typed?: string}} Say */
+/**
+ * @typedef {{where: string, text: string, good: boolean, field?: string, typed?: string, line?: string}} Say
+ *   `line`: of the script, which was refused
+ */
 
 export const PAGES = 1000;
 /** @type {Doc} */

@@ -5,6 +5,7 @@ import {isWhite, squareName} from './fen.js';
 import {MOST_IN_ROW, byRow, byTree, thereText} from './elsewhere.js';
 import {moveDraft} from './setup.js';
 import {hasTree, treesRequested, lookAtTrees, survey} from './survey.js';
+import {counted} from './words.js';
 /** @typedef {import('./setup.js').Draft} Draft @typedef {import('./elsewhere.js').Spot} Spot */
 
 const FIRST = 12;
@@ -40,8 +41,8 @@ const sign = cls =>
 function standsView(spots) {
   const only = spots.filter(t => t.sign === 'dot').map(t => t.text), more = spots.length - only.length;
   return h('p', {class: 'note', id: 'stands'}, sign('dot'),
-    ` by one first move: ${only.length ? named(only, FIRST) : 'nowhere'}; `, sign('plain'),
-    ` it is correct on ${more}${only.length ? ' more' : ''}. A press on a square puts this man there.`);
+    ` the stipulation is correct by one first move alone: ${only.length ? named(only, FIRST) : 'nowhere'}; `,
+    sign('plain'), ` by several first moves: ${counted(more, 'square')}. A press on a square puts this man there.`);
 }
 /**
  * The numbers in the dots, the largest first.

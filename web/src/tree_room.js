@@ -90,6 +90,11 @@ function pathOf(place, path) {
   return parts.reverse().join('.') || 'root';
 }
 /**
+ * @param {Place} place      of a new move
+ * @param {string} path      of the place that the walk began at
+ */
+const insertLine = ({parent, san}, path) => `insert ${pathOf(/** @type {Place} */ (parent), path)} ${san}`;
+/**
  * The lines that insert several lines of moves below a node, and the path to the end of the last one; what is there
  * already is walked.
  * @param {TreeNode} root
@@ -98,10 +103,20 @@ function pathOf(place, path) {
  */
 export function insertions(root, path, lists) {
   const {fresh, end} = walkOf(root, path, lists);
-  return {
-    more: fresh.map(({parent, san}) => `insert ${pathOf(/** @type {Place} */ (parent), path)} ${san}`),
-    path: pathOf(end, path)
-  };
+  return {more: fresh.map(place => insertLine(place, path)), path: pathOf(end, path)};
+}
+/**
+ * The moves from a node to the one of a line that `insertions` makes of these; none if it makes no such line.
+ * @param {TreeNode} root
+ * @param {string} path
+ * @param {string[]} sans
+ * @param {string} line
+ */
+export function movesTo(root, path, sans, line) {
+  const moves = /** @type {string[]} */ ([]), found = walkOf(root, path, [sans]).fresh;
+  let at = found.find(place => insertLine(place, path) === line) || null;
+  for (; at && at.parent; at = at.parent) moves.unshift(at.san);
+  return moves;
 }
 /**
  * Why a tree has no room for moves below a node, before any line is made of them; nothing if it has.

@@ -160,7 +160,7 @@ function faultView(s, root, f) {
   const after = variation(s.fen, f.path, root);
   return [
     nodeLink(n), after && h('small', {}, ` (${after})`), ': also ', alsoView(s, n, all.slice(0, 6)),
-    all.length > 6 && `and ${all.length - 6} more `, cut(n, 'End before it'), acceptView(s, root, f)
+    all.length > 6 && `and ${all.length - 6} more `, cut(n, `Delete from ${moveName(n)} on`), acceptView(s, root, f)
   ];
 }
 /**

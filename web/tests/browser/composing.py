@@ -153,11 +153,25 @@ def test_trees_are_given_up_with_the_survey(user):
     assert not user.has("lookAtTrees")
 
 
+def test_which_of_several_typed_moves_is_refused(user):
+    opened(user)
+    before = script(user)
+    user.fill("san", "1. Kg3 Kf5 2. Kf3 Ke5 3. Kh8 Kd5")
+    user.settle()
+    said = user.by("sayBoard").text
+    assert said.startswith("3. Kh8, after 2... Ke5: "), said
+    assert said.endswith(" None of the moves was entered."), said
+    assert script(user) == before
+    user.fill("san", "1. Kg3 Kf5 2. Kf3 Ke5 3. Kg3 Kd5")
+    user.settle()
+    assert script(user).splitlines()[-2:] == ["insert 0.0.0.0 Kg3", "insert 0.0.0.0.1 Kd5"], script(user)
+
+
 def test_what_a_remedy_takes_away(user):
     opened(user)
     user.until("document.querySelector('[data-cut]')", 30)
     cut = user.d.find_element(By.CSS_SELECTOR, '[data-cut="0.1.0"]')
-    assert cut.text == "✕ End before it (2 moves; 2. Kf3 comes to its place)", cut.text
+    assert cut.text == "✕ Delete from 2. Kf4 on (2 moves; 2. Kf3 comes to its place)", cut.text
     assert cut.get_attribute("title") == "delete 2 moves: 2. Kf4 Kg6; 2. Kf3 comes to its place", cut.get_attribute(
         "title"
     )
