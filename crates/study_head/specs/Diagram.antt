@@ -12,10 +12,10 @@ use Rattle.study_board.specs.Men.{is_man}
 use Rattle.study_board.specs.Position.{Position}
 use Rattle.study_pgn.specs.Values.{side_name}
 use Rattle.study_html.specs.declared.element.Element.TheVariants as element
-use Rattle.study_html.specs.declared.drawing.Drawing.TheVariants.{Squares, Coordinates}
+use Rattle.study_html.specs.declared.drawing.Drawing.TheVariants.{Squares, Coordinates, Standing}
 use Rattle.study_html.specs.Escape.{escaped_text}
 use Rattle.study_html.specs.Elements.{element_text}
-use Rattle.study_html.specs.Drawings.{man_drawing, drawing_text}
+use Rattle.study_html.specs.Drawings.{drawing_text}
 
 -- ` Kb6`
 abbrev pub man_words : Man → List ℕ
@@ -36,12 +36,16 @@ heard_words p =
     codes "White" ++ (control side.White p.men ++ (codes "; Black" ++ (control side.Black p.men
     ++ (codes "; " ++ (side_name p.to_move ++ codes " to move")))))
 
+-- a man on its square
+abbrev pub standing : Man → List ℕ
+standing m = drawing_text (Standing m)
+
 -- the position in words, the empty board, and on it each man of the position, once, on its square
 unfoldable pub board : Position → List ℕ
 board p =
     element_text element.Board (element_text element.Said (escaped_text (heard_words p))
-    ++ (drawing_text Squares ++ (drawing_text Coordinates ++ flat_map man_drawing p.men)))
+    ++ (drawing_text Squares ++ (drawing_text Coordinates ++ flat_map standing p.men)))
 
 -- the same, small and without coordinates
 unfoldable pub mini : Position → List ℕ
-mini p = element_text element.Mini (element_text element.Said (escaped_text (heard_words p)) ++ (drawing_text Squares ++ flat_map man_drawing p.men))
+mini p = element_text element.Mini (element_text element.Said (escaped_text (heard_words p)) ++ (drawing_text Squares ++ flat_map standing p.men))

@@ -2,8 +2,7 @@
 ghost use Rattle.std.specs.Prelude.{◌≡◌, ◌+◌, ◌++◌, OnOk};
 ghost use Rattle.std.specs.List.{flat_map};
 ghost use Rattle.study_board.specs.Letters.{letter};
-ghost use Rattle.study_html.specs.Drawings.{man_drawing};
-ghost use Rattle.study_head.specs.Diagram.{man_words, listed_man, control, heard_words, board, mini};
+ghost use Rattle.study_head.specs.Diagram.{man_words, listed_man, control, heard_words, standing, board, mini};
 
 use std::alloc::{AllocError, Allocator};
 use study_board::{Kind, Man, Position, Side};
@@ -96,7 +95,7 @@ fn add_spoken_position<A: Allocator>(text: &mut Text<'_, A>, p: &Position) -> Re
 
 /// Each man on its square.
 fn draw_men<A: Allocator>(html: &mut Html<'_, A>, men: &[Man]) -> Result<(), AllocError>
-    ensures { OnOk result (html.new ≡ html.old ++ flat_map man_drawing men.now) }
+    ensures { OnOk result (html.new ≡ html.old ++ flat_map standing men.now) }
 {
     for man in men {
         html.draw(&Drawing::Standing(*man))?;

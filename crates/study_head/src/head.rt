@@ -4,7 +4,9 @@ ghost use Rattle.study_marks.specs.BenchState.{marked_study};
 ghost use Rattle.study_marks.specs.Study.{tag_of};
 ghost use Rattle.study_marks.specs.declared.tag.TagName.TheVariants as tag;
 ghost use Rattle.study_html.specs.Elements.{element_text};
-ghost use Rattle.study_html.specs.Escape.{lettered_text};
+ghost use Rattle.study_html.specs.Escape.{escaped_text, lettered_text};
+ghost use Rattle.study_pgn.specs.Pgn.{stipulation_text};
+ghost use Rattle.study_head.specs.Counts.{counts_words};
 ghost use Rattle.study_head.specs.Known.{named_words};
 ghost use Rattle.study_head.specs.Head.{title_words, behind, byline_item, round_words, byline, head, moves_first, men_words, caption, figure};
 
@@ -12,10 +14,10 @@ use crate::diagram::{add_control, draw_board};
 use crate::gbr_code::add_counts;
 use crate::known_tags::{date_words, named_tag};
 use std::alloc::{AllocError, Allocator};
-use study_board::{Man, Side};
+use study_board::{Man, Position, Side};
 use study_entry::{Name, Names};
 use study_html::{Drawing, Element, Html, put_letters, put_words};
-use study_marks::{Bench, TagName};
+use study_marks::{Bench, Stipulation, TagName};
 use study_notation::write_fen;
 use study_pgn::add_stipulation;
 use study_text::Text;
@@ -134,6 +136,50 @@ fn add_men<A: Allocator>(text: &mut Text<'_, A>, men: &[Man]) -> Result<(), Allo
     add_control(text, Side::Black, men)
 }
 
+/// The stipulation, and that Black begins, if so.
+fn put_stipulation<'a, A: Allocator>(
+    alloc: &'a A,
+    html: &mut Html<'_, A>,
+    stipulation: Stipulation,
+    side: Side,
+) -> Result<(), AllocError>
+    ensures { OnOk result (html.new ≡ html.old
+        ++ (element_text Element.Strong (escaped_text (stipulation_text stipulation))
+        ++ escaped_text (moves_first side))) }
+{
+    let mut text = Text::new(alloc);
+    add_stipulation(&mut text, stipulation)?;
+    put_words(alloc, html, Element::Strong, text.as_slice())?;
+    html.say(moves_first(side))
+}
+
+/// The counts of men.
+fn put_counts<'a, A: Allocator>(
+    alloc: &'a A,
+    html: &mut Html<'_, A>,
+    p: &Position,
+) -> Result<(), AllocError>
+    ensures { OnOk result (html.new ≡ html.old
+        ++ element_text Element.Count (escaped_text (counts_words p.now.men))) }
+{
+    let mut text = Text::new(alloc);
+    add_counts(&mut text, p)?;
+    put_words(alloc, html, Element::Count, text.as_slice())
+}
+
+/// The men of both sides, each with its square.
+fn say_men<'a, A: Allocator>(
+    alloc: &'a A,
+    html: &mut Html<'_, A>,
+    men: &[Man],
+) -> Result<(), AllocError>
+    ensures { OnOk result (html.new ≡ html.old ++ escaped_text (men_words men.now)) }
+{
+    let mut text = Text::new(alloc);
+    add_men(&mut text, men)?;
+    html.say(text.as_slice())
+}
+
 /// What is below the diagram: the stipulation, the counts of men, the men and the FEN.
 #[tactic(auto, unfolding(crate::specs::Head::caption))]
 fn put_caption<'a, 'b, A: Allocator, B: Allocator>(
@@ -147,17 +193,15 @@ fn put_caption<'a, 'b, A: Allocator, B: Allocator>(
     let start = bench.start();
     let fen = write_fen(start);
     let mut within = Html::new(alloc);
-    let mut stipulation = Text::new(alloc);
-    let mut counts = Text::new(alloc);
-    let mut men = Text::new(alloc);
-    add_stipulation(&mut stipulation, bench.stipulation())?;
-    put_words(alloc, &mut within, Element::Strong, stipulation.as_slice())?;
-    within.say(moves_first(start.position.to_move()))?;
-    add_counts(&mut counts, &start.position)?;
-    put_words(alloc, &mut within, Element::Count, counts.as_slice())?;
+    put_stipulation(
+        alloc,
+        &mut within,
+        bench.stipulation(),
+        start.position.to_move(),
+    )?;
+    put_counts(alloc, &mut within, &start.position)?;
     within.draw(&Drawing::Break)?;
-    add_men(&mut men, start.position.men())?;
-    within.say(men.as_slice())?;
+    say_men(alloc, &mut within, start.position.men())?;
     within.draw(&Drawing::Break)?;
     put_words(alloc, &mut within, Element::Code, fen.as_str().as_bytes())?;
     html.put(Element::Caption, &within)

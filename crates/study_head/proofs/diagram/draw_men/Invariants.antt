@@ -1,7 +1,7 @@
 use Rattle.std.proofs.Common.{◌≡◌, ◌++◌, take}
 use Rattle.std.specs.List.{flat_map}
-use Rattle.study_html.specs.Drawings.{man_drawing}
+use Rattle.study_head.specs.Diagram.{standing}
 use Rattle.study_head.proofs.diagram.draw_men.Given as goal
 
 abbrev pub invariant-loop-man : goal.invariant-loop-man
-invariant-loop-man g l = l.html ≡ l.fn.html ++ flat_map man_drawing (take l.man-index l.men)
+invariant-loop-man g l = l.html ≡ l.fn.html ++ flat_map standing (take l.man-index l.men)
