@@ -10,6 +10,7 @@ import {cancelPrefetch, prefetchNeighbours, prefetchView} from './prefetch.js';
 import {Stopped} from './engine.js';
 import {freshId} from './keep.js';
 import {app, blank, doc, services, say} from './state.js';
+import {underWay} from './under_way.js';
 import {unjudged} from './unmarked.js';
 import {counted, moveName, reason} from './words.js';
 /** @typedef {import('./types.js').Doc} Doc @typedef {import('./types.js').Change} Change */
@@ -242,7 +243,7 @@ function judgeLater({lines, id}) {
   };
   const built = async () => {
     if (!mine()) return;
-    await arrive(app.history, app.say);
+    await underWay('The moves are being judged …', () => arrive(app.history, app.say));
     if (!doc().refused.length) return;
     app.say = null;
     sayOpened(blank);

@@ -1,13 +1,15 @@
 // @ts-check
-// Two kept documents side by side: men, stipulation, verdict, and the moves that differ.
-import {h} from './dom.js';
-import {work} from './actions.js';
+// Two kept documents side by side: men, stipulation, verdict, and the moves that differ; and studies that the open one
+// takes over from the other.
+import {h, smallButton} from './dom.js';
+import {change, work} from './actions.js';
 import {evaluate} from './running.js';
 import {viewOf} from './answer_cache.js';
 import {differences} from './comparing.js';
 import {headAt, linesOf} from './documents.js';
 import {numbersOf, studyName} from './entries.js';
 import {diagramOf} from './drawing.js';
+import {aloneLines} from './study_edits.js';
 import {reviewFor} from './list_facts.js';
 import {stampOf} from './stamps.js';
 import {control} from './fen.js';
@@ -16,10 +18,11 @@ import {editsTo, fensOf, toText} from './script.js';
 import {doc, services} from './state.js';
 import {aimText} from './words.js';
 /** @typedef {import('./types.js').View} View */
+/** @typedef {import('./types.js').Study} Study */
 /**
- * A study of a document: `number` says which it is, `all` has the starts and names of all that stand there.
- * @typedef {{name: string, number: string, fen: string, aim: string, stamp: string, view: View | null,
- *   all: [string, string][]}} Version
+ * A study of a document: `number` says which it is, `all` are all that stand there, with their names.
+ * @typedef {{id: string, name: string, number: string, fen: string, aim: string, stamp: string, view: View | null,
+ *   study: Study | null, lines: string[], all: {study: Study, called: string}[]}} Version
  */
 
 /** @type {{sides: Version[]} | null} */
@@ -42,16 +45,19 @@ async function versionOf(id, name, start) {
     script.studies[Math.min(head ? head.at : 0, script.studies.length - 1)];
   if (!s || !('refused' in script)) {
     const fen = head ? head.fen : '', stamp = lacking.length ? `not judged: ${lacking.join(' ')} lack` : 'no study';
-    return {name, number: '', fen, aim: '', stamp, view: null, all: []};
+    return {id, name, number: '', fen, aim: '', stamp, view: null, study: null, lines, all: []};
   }
   const numbers = numbersOf({...script, lines}),
         called = (/** @type {typeof s} */ study, /** @type {number} */ i) =>
           `No. ${numbers[i] || i + 1}, ${studyName(study)}`;
   const view = await viewOf(toText(editsTo(lines, s)), 'root');
   return {
+    id,
     name,
+    study: s,
+    lines,
     number: script.studies.length > 1 ? called(s, script.studies.indexOf(s)) : '',
-    all: script.studies.map((study, i) => [study.fen, called(study, i)]),
+    all: script.studies.map((study, i) => ({study, called: called(study, i)})),
     fen: s.fen,
     aim: s.aim ? aimText(s.aim) : '',
     stamp: stampOf(script, s, await reviewFor(lines, s)).text,
@@ -69,19 +75,39 @@ export const compare = chosen => work(async () => {
   pair = {sides};
   services.show();
 });
+/**
+ * A button by which the open document takes a study over, behind its own.
+ * @param {Version} version
+ * @param {Study | null} study
+ */
+function takeView({id, lines}, study) {
+  const isOther = pair && id !== doc().id && pair.sides.some(side => side.id === doc().id);
+  const take = () => change(now => ({
+    lines: [...now.lines, ...(now.lines.length ? [''] : []), ...aloneLines(lines, /** @type {Study} */ (study))],
+    at: now.studies.length,
+    path: 'root',
+    lenient: true
+  }));
+  return isOther && study &&
+    smallButton('Take over', 'one more study of the open document, behind its own', take, {'data-take': study.fen});
+}
 /** @param {Version} version */
-const sideView = ({name, number, fen, aim, stamp}) =>
-  h('div', {class: 'side'}, h('h3', {}, name), number && h('p', {}, number), fen && diagramOf(fen, true),
-    h('p', {}, fen && [control(fen), h('br', {})], aim && [aim, ': '], h('b', {}, stamp)));
+const sideView = version => h('div', {class: 'side'}, h('h3', {}, version.name),
+  version.number && h('p', {}, version.number), version.fen && diagramOf(version.fen, true),
+  h('p', {}, version.fen && [control(version.fen), h('br', {})], version.aim && [version.aim, ': '],
+    h('b', {}, version.stamp)),
+  takeView(version, version.study));
 /**
  * The studies that one document alone has.
  * @param {Version} here
  * @param {Version} there
  */
 function onlyHere(here, there) {
-  const starts = new Set(there.all.map(([fen]) => fen)), own = here.all.filter(([fen]) => !starts.has(fen));
+  const starts = new Set(there.all.map(({study}) => study.fen)),
+        own = here.all.filter(({study}) => !starts.has(study.fen));
   return own.length > 0 && there.all.length > 0 &&
-    h('p', {class: 'note'}, `Only in ${here.name}: ${own.map(([, name]) => name).join('; ')}.`);
+    h('p', {class: 'note'}, `Only in ${here.name}: `,
+      own.map(({study, called}, i) => [i > 0 && '; ', called, ' ', takeView(here, study)]), '.');
 }
 /** The two that are compared. */
 export function comparingView() {

@@ -115,7 +115,9 @@ function tickedView(all) {
   const ids = [...ui.ticked].filter(id => all.some(head => head.id === id)), gone = ids.filter(id => !isHere(id));
   const names = () => ids.map(id => {
     const head = all.find(one => one.id === id);
-    return /** @type {[string, string]} */ ([id, head ? nameInList(head, all) : '']);
+    const file = head && head.name && !nameInList(head, all).includes(head.name) ? ` (${head.name})` : '',
+          open = isHere(id) ? ', open here' : '';
+    return /** @type {[string, string]} */ ([id, head ? nameInList(head, all) + file + open : '']);
   });
   const remove = () => {
     if (!ui.sure) return set({sure: true});

@@ -60,7 +60,7 @@ function noteView(note) {
         ends = new Set(doc().studies.filter(s => s.origin && s.origin.tail).map(s => s.origin.game));
   const only = ends.size > 0
     ? ` Of ${ends.size > 1 ? 'games' : 'game'} ${[...ends].join(', ')} it writes only what is ` +
-      'judged, from four men on: keep the file.'
+      'judged, from four men without castling on: keep the file.'
     : '';
   return note && h('p', {class: 'note', id: 'notKept'}, `${note} Save PGN writes ${file}${without}.${only}`);
 }

@@ -131,7 +131,7 @@ export function noteAfter(note, before, after) {
     (text, studies) => text.replace(outNote(leftOut(before), studies), () => outNote(leftOut(after), 1)), rest);
 }
 /** @param {string[]} lines */
-const studiesIn = lines => lines.filter(line => line.startsWith('position ')).length;
+export const studiesIn = lines => lines.filter(line => line.startsWith('position ')).length;
 
 /** @param {string} line */
 const isTotal = line => remarksOfKind([line], 'total').length > 0;
@@ -271,8 +271,8 @@ export function originalsIn(remarks) {
  */
 export const headOf = remarks => ({originals: originalsIn(remarks), origin: originIn(remarks)});
 /**
- * A part of a game has the game's names in their own letters too, as long as its tags are the game's, and the language
- * of its moves.
+ * A part of a game has the game's names in their own letters too, as long as its tags are the game's, what speaks
+ * against its stipulation, and the language of its moves.
  * @param {string[]} lines
  * @param {import('./types.js').Study} study
  */
@@ -281,6 +281,7 @@ export function withWholeGame(lines, {origin, originals, tags}) {
   if (!game) return;
   for (const [name, text] of Object.entries(originalsIn(game.remarks)))
     if (originals[name] === undefined && tags[name] === game.tags[name]) originals[name] = text;
+  origin.against = [...origin.against, ...remarksOfKind(game.remarks, 'doubted').map(({said}) => said)];
   origin.letters = origin.letters || remarksOfKind(game.remarks, 'letters').map(({said}) => said).join('');
 }
 /**

@@ -3,7 +3,7 @@
 import {change, track, work} from './actions.js';
 import {asGame, cutBlock, cutOf, hasPosition, leftOutText, remedyOf, textIn} from './cut_game.js';
 import {$} from './dom.js';
-import {documentOf, noteAfter} from './imported.js';
+import {documentOf, noteAfter, studiesIn} from './imported.js';
 import {freshId} from './keep.js';
 import {NO_POSITION, canBeCut, isCutLine, leftOut, leftOutBy, whyLeftOut, withoutCut} from './left_out.js';
 import {refuseLong} from './limits.js';
@@ -200,19 +200,21 @@ export function gamesWithoutAim() {
  * @param {string} aim
  */
 export const readAs = aim => track((async () => {
-  const before = doc();
-  let {lines} = before;
+  const before = doc(), shown = before.studies[before.at];
+  let {lines, at} = before;
   await work(async () => {
     for (const line of withoutAim(lines)) {
       const {game, cut, end} = leftOutText(lines, line);
       if (!game || !cut) continue;
       const from = game.line - cut.text.split('\n').length + 1,
             got = await read(`${(cut.text + cut.rest).trimEnd()}\n`, {game: game.game, line: from}, aim);
-      if (isOneGame(got.lines)) lines = [...lines.slice(0, line), ...got.lines, ...lines.slice(end)];
+      if (!isOneGame(got.lines)) continue;
+      lines = [...lines.slice(0, line), ...got.lines, ...lines.slice(end)];
+      if (shown && line < shown.from) at += studiesIn(got.lines);
     }
   });
   const note = noteAfter(before.note, before.lines, lines);
-  await change(now => (now === before && lines !== now.lines ? {lines, note, path: 'root', lenient: true} : null));
+  await change(now => (now === before && lines !== now.lines ? {lines, note, at, lenient: true} : null));
 })());
 
 /**

@@ -18,6 +18,7 @@ import {savedGames} from './saved_games.js';
 import {isCommand, isSilent, linesOf} from './script.js';
 import {tailIn, wayTo} from './tails.js';
 import {setUpText} from './setup.js';
+import {underWay} from './under_way.js';
 import {aimText, counted, endedReason, readAim} from './words.js';
 
 /**
@@ -167,25 +168,17 @@ export async function openPgn(bytes, where, name, how = {
   services.show();
   checkWhole();
 }
-/** What is read in less time is there before it could be said that it is being read. */
-const SOON = 300;
 /**
  * Says that something is being read, in place of what was said before.
  * @param {string} name      of its file
  * @param {() => Promise<any>} read
  */
-async function whileReading(name, read) {
-  const said = app.say, timer = setTimeout(() => {
+function whileReading(name, read) {
+  const said = app.say;
+  return underWay(`Reading ${name || 'what was pasted'} …`, read, () => {
     if (app.say === said) app.say = null;
-    services.telling(`Reading ${name || 'what was pasted'} …`);
     services.show();
-  }, SOON);
-  try {
-    await read();
-  } finally {
-    clearTimeout(timer);
-    services.telling('');
-  }
+  });
 }
 /**
  * A script or a PGN takes the place of the document, which undo brings back; a position is set up.

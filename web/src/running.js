@@ -238,6 +238,7 @@ export async function repliesFor(lines, report = () => {}) {
   }
   const blocks = blocksOf(sent), names = await services.tables.classesOf(fensOf(linesOf(blocks.filter(isFresh))));
   if (services.tables.isTooMuch(names)) await runByTables(blocks, report);
+  const headless = blocks[0] && !isPosition(blocks[0][0].text) ? 1 : 0;
   let carried = /** @type {Carried} */ ({aim: null, tags: {}});
   const take = (/** @type {Sent[]} */ block, /** @type {string[]} */ own) => {
     replies.push(...own);
@@ -259,7 +260,7 @@ export async function repliesFor(lines, report = () => {}) {
       take(block, own);
     }
     at += some.length;
-    if (blocks.length > MANY) report(at, blocks.length);
+    if (blocks.length > MANY) report(at - headless, blocks.length - headless);
   }
   return {sent, replies};
 }

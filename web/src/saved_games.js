@@ -5,6 +5,7 @@ import {stampOf, unreadIn} from './stamps.js';
 import {AT_MOVES, RESULT, TOKEN, isMoveText, looseMove, oneLine, plain} from './notes.js';
 import {cutAt, ownRemark} from './remarks.js';
 import {isOfFile} from './imported.js';
+import {tailName} from './tails.js';
 import {aimText} from './words.js';
 /** @typedef {import('./types.js').Study} Study @typedef {import('./types.js').Script} Script */
 /**
@@ -209,9 +210,25 @@ function verdictOf(script, study, review) {
   const {text} = stampOf(script, study, review);
   return unreadIn(script, study) || (/^(not judged|\d+ faults?)$/.test(text) ? '' : text);
 }
+/** How a comment before the first move states what is to be done. */
+const STATED =
+  new RegExp('^\\(?((White|Black) (to (play and |move and )?(win|draw|mate)|wins|draws|mates)|mate in|win\\b|' +
+      'draw\\b|#\\d|[+=](?=[\\s:.,;!)]|$))',
+    'i');
 /**
- * A study's games as they are saved, the last with the page's verdict. Without the program's marks they say what is to
- * be done, unless the author's file does, and that a study was not read to its end.
+ * Whether the author's own tags and comments say what is to be done. Those of a game that was saved with marks do not,
+ * since the program's words stood in its comment.
+ * @param {Study} study
+ * @param {string[]} remarks
+ */
+function isStated({origin, aim}, remarks) {
+  const first = remarks.filter(line => line.startsWith('#! note -: ')).map(line => line.slice('#! note -: '.length));
+  if (aim && first.some(text => text.startsWith(aimText(aim)))) return true;
+  return origin && isOfFile(origin) && (origin.source !== 'comment' || first.some(text => STATED.test(text)));
+}
+/**
+ * A study's games as they are saved, the last with the page's verdict. A part of a game says which it is; without the
+ * program's marks they say what is to be done, unless the author does, and that a study was not read to its end.
  * @param {Script} script
  * @param {Study} study
  * @param {boolean} marks
@@ -219,10 +236,9 @@ function verdictOf(script, study, review) {
  */
 function gamesOfStudy(script, study, marks, review) {
   const remarks = script.lines.slice(study.head, study.from), unread = unreadIn(script, study).replace(/[{}]/g, ''),
-        stated = study.origin && isOfFile(study.origin);
-  const words = study.aim ? aimText(study.aim) : '',
-        isSaid = stated || remarks.some(line => line.startsWith(`#! note -: ${words}`)),
-        said = marks ? [] : [isSaid ? '' : words, unread].filter(Boolean),
+        part = tailName(study);
+  const words = study.aim && !marks && !isStated(study, remarks) ? aimText(study.aim) : '',
+        said = [words, part, marks ? '' : unread].filter(Boolean),
         verdict = marks ? verdictOf(script, study, review).replace(/[{}]/g, '') : '', last = study.games.length - 1;
   return study.games.map(
     (game, i) => withNotes(inOwnLetters(study, i === last ? judged(game, verdict) : game), remarks, marks, said));

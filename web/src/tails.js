@@ -2,6 +2,7 @@
 // A game with more than four men in a script: its lines `#> ` are the whole game, and each part that begins with at
 // most four men, a tail, is a study below a heading.
 import {numbered} from './fault_kinds.js';
+import {lettersOf} from './fen.js';
 import {once} from './once.js';
 import {ownRemark, remarkOf} from './remarks.js';
 import {numberedLine} from './words.js';
@@ -122,17 +123,34 @@ export function namesOfTails(lines, parts) {
   return names;
 }
 /**
- * Which part of its game a study is, where that has more than four men, and what of the game is not judged.
+ * Which part of its game a study is; nothing for a whole one.
+ * @param {Part} part
+ */
+export function tailName({origin}) {
+  const {tail} = origin || {};
+  if (!tail) return '';
+  const beside = tail.beside ? ', beside the solution: a try, which should fail' : '';
+  return `Tail ${tail.number} of game ${tail.game}${tail.after && `, after ${tail.after}`}${beside}`;
+}
+/**
+ * Why the moves before a part of a game are not judged.
+ * @param {string} fen      of the game's start, if the script has it
+ */
+function whyUnjudged(fen) {
+  const MEN = 'more than four men', CASTLING = 'a right to castle';
+  if (/^(-|)$/.test(fen.split(' ')[2] || '')) return MEN;
+  return lettersOf(fen).length > 4 ? `${MEN} or ${CASTLING}` : CASTLING;
+}
+/**
+ * Which part of its game a study is, where that has more than four men or a right to castle, and what of the game is
+ * not judged.
  * @param {string[]} lines
  * @param {Part} part
  */
 export function tailText(lines, part) {
-  const {tail} = part.origin || {}, {fen, sans} = wayOf(lines, part);
+  const name = tailName(part), {tail} = part.origin || {}, {fen, sans} = wayOf(lines, part);
   if (!tail) return '';
-  const beside = tail.beside ? ', beside the solution: a try, which should fail' : '',
-        name =
-          [`Tail ${tail.number} of game ${tail.game}`, tail.after && `after ${tail.after}`].filter(Boolean).join(', '),
-        way = sans.length && !sans.includes('') ? `: ${numberedLine(fen, sans)}` : '';
-  const rest = tail.after && ` Judged from there on; the moves before, with more than four men, are not judged${way}.`;
-  return `${name}${beside}.${rest}`;
+  const way = sans.length && !sans.includes('') ? `: ${numberedLine(fen, sans)}` : '',
+        rest = ` Judged from there on; the moves before, with ${whyUnjudged(fen)}, are not judged${way}.`;
+  return `${name}.${tail.after && rest}`;
 }

@@ -52,8 +52,10 @@ export function verdictView(s) {
 /** Why there are no marks: tables are on their way, or something failed. */
 function notJudged() {
   if (!app.noView)
-    return h('p', {class: 'note', id: 'unjudged'},
-      'Not judged yet: its tables are being built. The marks come then, and the board follows the moves.');
+    return h('p', {class: 'note', id: 'unjudged'}, 'Not judged yet: ',
+      app.progress && !app.progress.reading ? 'its tables are being built'
+                                            : 'its moves are being looked up in its tables',
+      '. The marks come then, and the board follows the moves.');
   return h('p', {class: 'say', id: 'unjudged'}, `This study is not judged: ${app.noView}. `,
     / table|ables /.test(app.noView) &&
       h('button', {class: 'chip act', id: 'buildNow', onclick: judgeAgain}, 'Build the tables'));

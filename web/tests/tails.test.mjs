@@ -53,7 +53,10 @@ test('each part of a game has the names of the game in their own letters, as lon
   assert.ok(rows.every(row => row.title.startsWith('Čtyři kameny (after ')), rows[0].title);
   assert.ok(d.studies.every(s => s.origin.letters === 'Czech'));
   d.studies[0].games = ['[Event "Ctyri kameny"]\n[White "Fritz, Jindrich"]\n[Result "1-0"]\n\n4. Rd2 1-0\n\n'];
-  assert.match(savedGames(d), /\[Event "Čtyři kameny"\]\n\[White "Fritz, Jindřich"\]/);
+  const saved = savedGames(d), plain = savedGames(d, false).replace(/\s+/g, ' ');
+  assert.match(saved, /\[Event "Čtyři kameny"\]\n\[White "Fritz, Jindřich"\]/);
+  assert.match(saved, /\{Tail 1 of game 7, after 3\.\.\. Kxb2\} 4\. Rd2 1-0/);
+  assert.match(plain, /\{White to win\. Tail 1 of game 7, after 3\.\.\. Kxb2\} 4\. Rd2 1-0/);
   const [first, ...others] = czech(CZECH.map((line, at) => (at === 29 ? 'tag White Prokes' : line))).studies;
   assert.deepEqual([first.tags.White, first.originals.White], ['Prokes', undefined]);
   assert.ok(others.every(s => s.originals.White === 'Fritz, Jindřich'));

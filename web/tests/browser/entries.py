@@ -438,6 +438,7 @@ def test_our_own_pgn_is_kept_whole(user):
     opened(user, "own.pgn", own, "document.getElementById('stamp')")
     user.until("!document.getElementById('notKept')")
     assert user.download("savePgn") == ("own.pgn", own)
+    assert "\n\n{White to win} 1. Kg3 Kf5" in user.download("savePlain")[1]
 
 
 def test_a_file_goes_back_as_its_authors(user):

@@ -347,6 +347,11 @@ def test_versions(user):
     )
     assert len(rows) == 1 and rows[0][0] == "1. b4" and sorted(rows[0][1:]) == ["not given", "throws it away"], rows
     user.picture("versions", whole=False)
+    before = user.promise("studyboard.script()")
+    user.press_on("#documents [data-take]")
+    user.settle()
+    after = user.promise("studyboard.script()")
+    assert after.startswith(before.rstrip()) and after.count("position ") == before.count("position ") + 1, after
     user.click("endComparing")
     user.keys(Keys.ESCAPE)
 

@@ -297,4 +297,18 @@ def test_games_without_a_stipulation_are_read_alone(user):
     assert "tag White Another" in lines and "3 games, 3 studies" in user.text("import"), user.text("import")
 
 
+def test_the_study_that_is_shown_stays_shown(user):
+    """Games that are read with a stipulation come to stand in front of it."""
+    user.open_tables(TABLES, SMALL)
+    first = games(("One", FEN, "1. Kg3 Kf5")).replace('[Result "1-0"]\n', "").replace("1-0", "*")
+    opened(user, first + games(("Two", FEN, "1. Kg3 Kf5"), ("Three", FEN, "1. Kg3 Kh5")))
+    user.press_on('#list tr:nth-child(3) button')
+    user.settle()
+    shown = user.by("tagEvent").get_attribute("value")
+    user.press_on('[data-import="white win"]')
+    user.until("!document.getElementById('aims')", 60)
+    user.settle()
+    assert user.by("tagEvent").get_attribute("value") == shown == "Three", shown
+
+
 run(globals(), sys.argv[2:])
