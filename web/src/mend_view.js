@@ -10,12 +10,23 @@ import {doc} from './state.js';
 /** What was typed and not read yet stays there, as long as the game is the same. */
 let typed = /** @type {{text: string, lines: string[], at: number} | null} */ (null);
 /**
- * The bad move is chosen in the field, which is scrolled to its line.
+ * The text of a game, apart at what is wrong with it: at a place among its moves, else at its position, or where its
+ * stipulation would stand.
+ * @param {CutText} cut
+ * @param {import('./left_out.js').LeftOut} game
+ * @returns {CutText}
+ */
+function cutAtFault(cut, {column, why}) {
+  const text = cut.text + cut.rest, at = text.search(/Stipulation/.test(why) ? /^(?![[%;\s])/m : /^[ \t]*\[FEN "/m);
+  return column || at < 0 ? cut : {text: text.slice(0, at), rest: text.slice(at)};
+}
+/**
+ * The bad move, or tag, is chosen in the field, which is scrolled to its line.
  * @param {HTMLTextAreaElement} field
  * @param {CutText} game
  */
 function showPlace(field, {text, rest}) {
-  const [bad] = /^\S*/.exec(rest) || [''], rows = field.value.split('\n').length;
+  const [bad] = /^(\s*\[[^\n]*|\S*)/.exec(rest) || [''], rows = field.value.split('\n').length;
   field.setSelectionRange(text.length, text.length + bad.length);
   requestAnimationFrame(() => {
     field.scrollTop = field.scrollHeight / rows * (text.split('\n').length - 3);
@@ -60,12 +71,10 @@ export function cutView(s) {
 export function gameView() {
   const it = beingMended();
   if (!it) return null;
-  const field = textField('gameText', it.cut, -1 - it.place.line),
-        place = it.game.column ? `, column ${it.game.column}` : '';
+  const field = textField('gameText', cutAtFault(it.cut, it.game), -1 - it.place.line), {game, line, column} = it.game,
+        place = column ? `, for what stands in line ${line}, column ${column}` : '';
   return h('div', {id: 'gameMended'},
-    h('p', {class: 'note'}, `Game ${it.game.game} was left out, for what stands in line ${it.game.line}${place}: `,
-      h('b', {}, it.why), '.'),
-    field, messageAt('game'),
+    h('p', {class: 'note'}, `Game ${game} was left out${place}: `, h('b', {}, it.why), '.'), field, messageAt('game'),
     h('p', {class: 'row'},
       button('Read this game', 'the text as it stands in the field', () => readLeftOut(field.value),
         {id: 'readGame', class: 'main'}),

@@ -241,7 +241,7 @@ export const notesMoved = (lines, study, to, marked = squares => squares) => lin
 const bare = move => looseMove(plain(move));
 /**
  * What a game says beside its moves, as a tail has it: its moves begin behind those of the way to it, and what is said
- * elsewhere is left out.
+ * elsewhere is left out, and so is a sign of the last move before it.
  * @param {string[]} remarks
  * @param {string[]} way
  */
@@ -250,5 +250,6 @@ export const saidInTail = (remarks, way) => remarks.flatMap(line => {
   if (!AT_MOVES.has(name)) return [line];
   const [moves, said] = cutAt(text, ': '), path = moves === '-' ? [] : moves.split(' ');
   if (way.some((move, i) => bare(move) !== bare(path[i] || ''))) return [];
+  if (path.length === way.length && way.length && /^\$[1-9]$/.test(said)) return [];
   return [`#! ${name} ${path.slice(way.length).join(' ') || '-'}: ${said}`];
 });

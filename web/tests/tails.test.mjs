@@ -28,8 +28,8 @@ test('a tail has what its game says behind the way to it', () => {
     '#! tag Annotator X', '#! note -: the whole', '#! note Nc1 Rd5+ Nd3 Rxd3+ Kc2: a point', '#! note Nc1: key',
     '#! mark Nc1 Rd5 Nd3: $1'
   ];
-  assert.deepEqual(
-    saidInTail(remarks, ['Nc1', 'Rd5+', 'Nd3']), ['#! tag Annotator X', '#! note Rxd3+ Kc2: a point', '#! mark -: $1']);
+  assert.deepEqual(saidInTail(remarks, ['Nc1', 'Rd5+', 'Nd3']), ['#! tag Annotator X', '#! note Rxd3+ Kc2: a point']);
+  assert.deepEqual(saidInTail(['#! note Nc1: $14', '#! note Nc1: $1'], ['Nc1']), ['#! note -: $14']);
   assert.deepEqual(saidInTail(remarks, []), remarks);
 });
 /** A game of five men in Czech letters whose three parts begin after moves of one name. */
