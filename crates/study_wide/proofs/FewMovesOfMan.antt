@@ -264,3 +264,22 @@ module _ (g : Wide) (man : Man) (wide : IsWide g) (here : man_at g.board.men man
       let b = none_elsewhere g man wide here x Bishop mid in
       let k = none_elsewhere g man wide here x Knight mid in
       rw (q, r, b, k) refl
+
+  abbrev pub kept : Kind → List Move
+  kept k = filter (is_wide_legal g) (record { origin = man.at; target = x; promoted = Some k } ∷ [])
+
+  -- there is room for one promotion after the other
+  pub record IsRoom : Type 0 where
+    pub queen : length old + length (kept Queen) ≤ 432
+    pub rook : length (old ++ kept Queen) + length (kept Rook) ≤ 432
+    pub bishop : length ((old ++ kept Queen) ++ kept Rook) + length (kept Bishop) ≤ 432
+    pub knight : length (((old ++ kept Queen) ++ kept Rook) ++ kept Bishop) + length (kept Knight) ≤ 432
+
+  pub room_at_end : reaches_last_rank man x ≡ true → length old + length (legal_between g man.at x) ≤ 432 → IsRoom
+  room_at_end end room =
+      let all = ap (λ (l : List Move). length l) (at_end end) ∙ length-append old (legal_between g man.at x) in
+      let four = length-append (((old ++ kept Queen) ++ kept Rook) ++ kept Bishop) (kept Knight) in
+      let three = length-append ((old ++ kept Queen) ++ kept Rook) (kept Bishop) in
+      let two = length-append (old ++ kept Queen) (kept Rook) in
+      let one = length-append old (kept Queen) in
+      record { queen = omega arith; rook = omega arith; bishop = omega arith; knight = omega arith }

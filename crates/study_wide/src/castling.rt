@@ -14,7 +14,7 @@ use study_board::{
 use study_moves::Move;
 
 /// A wing to which a king castles.
-#[derive(Clone, Copy, Debug, PartialEq, Eq)]
+#[derive(Clone, Copy, PartialEq, Eq)]
 pub enum Wing {
     Short,
     Long,

@@ -75,30 +75,33 @@ fn add_moves_to(p: &WidePosition, man: &Man, target: Square, list: &mut MoveList
 {
     let _men = p.men();
     if reaches_last_rank(man, target) {
-        add(p, move_between(man.at, target, Some(Kind::Queen)), list);
-        add(p, move_between(man.at, target, Some(Kind::Rook)), list);
-        add(p, move_between(man.at, target, Some(Kind::Bishop)), list);
-        add(p, move_between(man.at, target, Some(Kind::Knight)), list);
+        add(p, man.at, target, Some(Kind::Queen), list);
+        add(p, man.at, target, Some(Kind::Rook), list);
+        add(p, man.at, target, Some(Kind::Bishop), list);
+        add(p, man.at, target, Some(Kind::Knight), list);
     } else {
-        add(p, move_between(man.at, target, None), list);
-    }
-}
-
-fn move_between(origin: Square, target: Square, promoted: Option<Kind>) -> Move
-    ensures { result ≡ record { origin = origin; target = target; promoted = promoted } }
-{
-    Move {
-        origin,
-        target,
-        promoted,
+        add(p, man.at, target, None, list);
     }
 }
 
 /// Adds a move if it is legal.
-fn add(p: &WidePosition, m: Move, list: &mut MoveList)
-    requires { array_vec_len list.old + length (filter (is_wide_legal p.now) (m ∷ [])) ≤ 432 }
-    ensures { list.new.items ≡ list.old.items ++ filter (is_wide_legal p.now) (m ∷ []) }
+fn add(
+    p: &WidePosition,
+    origin: Square,
+    target: Square,
+    promoted: Option<Kind>,
+    list: &mut MoveList,
+)
+    requires { array_vec_len list.old + length (filter (is_wide_legal p.now)
+        (record { origin = origin; target = target; promoted = promoted } ∷ [])) ≤ 432 }
+    ensures { list.new.items ≡ list.old.items ++ filter (is_wide_legal p.now)
+        (record { origin = origin; target = target; promoted = promoted } ∷ []) }
 {
+    let m = Move {
+        origin,
+        target,
+        promoted,
+    };
     if allows(p, &m) {
         list.push(m);
     }

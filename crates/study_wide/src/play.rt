@@ -5,8 +5,8 @@ ghost use Rattle.study_wide.specs.Rules.{is_wide_legal, wide_after, narrow, wide
 
 use crate::castling::men_after_castling;
 use crate::legal::{men_after, wing_of};
+use crate::wide::copied_men;
 use crate::{Rights, WidePosition};
-use arrayvec::ArrayVec;
 use study_board::Position;
 use study_moves::{Move, passed_by};
 
@@ -43,11 +43,7 @@ pub fn narrow(p: &WidePosition) -> Option<Position>
     ensures { result ≡ narrow p.now }
 {
     if p.men().len() <= 4 && !p.rights().any() {
-        let mut men = ArrayVec::new();
-        for m in p.men() {
-            men.push(*m);
-        }
-        Some(Position::of(men, p.to_move(), p.passed()))
+        Some(Position::of(copied_men(p.men()), p.to_move(), p.passed()))
     } else {
         None
     }
@@ -58,9 +54,5 @@ pub fn widen(p: &Position) -> WidePosition
     ensures value { result ≡ widen p.now }
     ensures valid { IsWide result }
 {
-    let mut men = ArrayVec::new();
-    for m in p.men() {
-        men.push(*m);
-    }
-    WidePosition::of(men, p.to_move(), p.passed(), Rights::none())
+    WidePosition::of(copied_men(p.men()), p.to_move(), p.passed(), Rights::none())
 }

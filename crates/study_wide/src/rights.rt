@@ -1,5 +1,5 @@
 //! Rights to castle.
-ghost use Rattle.std.specs.Prelude.{◌≡◌};
+ghost use Rattle.std.specs.Prelude.{◌≡◌, ◌&&◌, not};
 ghost use Rattle.study_wide.specs.Rights.{touches, rights_after, fits, rights_fit, has_right, no_rights};
 ghost use Rattle.study_wide.specs.Rules.{has_rights};
 
@@ -8,7 +8,7 @@ use study_board::{Kind, Man, Side, has_man};
 use study_moves::Move;
 
 /// The rights that the two sides have left.
-#[derive(Clone, Copy, Debug, PartialEq, Eq)]
+#[derive(Clone, Copy)]
 pub struct Rights {
     pub white_short: bool,
     pub white_long: bool,
@@ -53,10 +53,10 @@ impl Rights {
         ensures { result ≡ rights_after self m }
     {
         Rights {
-            white_short: self.white_short && !touches(&m, 4) && !touches(&m, 7),
-            white_long: self.white_long && !touches(&m, 4) && !touches(&m, 0),
-            black_short: self.black_short && !touches(&m, 60) && !touches(&m, 63),
-            black_long: self.black_long && !touches(&m, 60) && !touches(&m, 56),
+            white_short: keeps(self.white_short, &m, 4, 7),
+            white_long: keeps(self.white_long, &m, 4, 0),
+            black_short: keeps(self.black_short, &m, 60, 63),
+            black_long: keeps(self.black_long, &m, 60, 56),
         }
     }
 }
@@ -66,6 +66,13 @@ fn touches(m: &Move, number: u8) -> bool
     ensures { result ≡ touches m.now number }
 {
     m.origin.number() == number || m.target.number() == number
+}
+
+/// Whether a right that is held stays: the move touches neither its king nor its rook.
+fn keeps(held: bool, m: &Move, king: u8, rook: u8) -> bool
+    ensures { result ≡ (held && not (touches m.now king) && not (touches m.now rook)) }
+{
+    held && !touches(m, king) && !touches(m, rook)
 }
 
 /// Whether a right that is held has its king and its rook in place.

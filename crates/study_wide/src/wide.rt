@@ -8,19 +8,18 @@ use crate::rights::rights_fit;
 use arrayvec::ArrayVec;
 use std::marker::Model;
 use study_board::{Man, PositionFault, Side, Square, fault_among, in_order};
-use thiserror::Error;
 
 /// The most men of a position.
 pub const MAX_MEN: usize = 32;
 
 /// Why a list of men is not a position; faults are checked in this order.
-#[derive(Clone, Copy, Debug, PartialEq, Eq, Error)]
+#[derive(Clone, Copy)]
 pub enum WideFault {
-    #[error("more than sixteen men of a side")]
+    /// More than sixteen men of a side.
     TooManyMen,
-    #[error("the men are no position")]
+    /// The men are no position.
     Men(PositionFault),
-    #[error("a right to castle without its king or rook in place")]
+    /// A right to castle without its king or rook in place.
     Castling,
 }
 
@@ -43,6 +42,16 @@ impl Model for WidePosition {
 
     ghost invariant = { λ p.
         IsWide (record { board = record { men = p.men.items; to_move = p.to_move; passed = p.passed }; rights = p.rights }) };
+}
+
+/// The same men in a list of their own.
+pub fn copied_men<const N: usize>(men: &[Man]) -> ArrayVec<Man, N>
+    requires { length men.now ≤ N }
+    ensures { result.items ≡ men.now }
+{
+    let mut list = ArrayVec::new();
+    let _fits = list.try_extend_from_slice(men);
+    list
 }
 
 /// Whether the side has more than sixteen men.
@@ -101,6 +110,18 @@ impl WidePosition {
         }
     }
 
+    /// A position equal to this one.
+    pub fn copied(&self) -> WidePosition
+        ensures { result ≡ self.now }
+    {
+        WidePosition::of(
+            copied_men(self.men()),
+            self.to_move,
+            self.passed,
+            self.rights,
+        )
+    }
+
     /// The men in ascending order of their squares.
     #[inline]
     pub fn men(&self) -> &[Man]
@@ -115,7 +136,13 @@ impl WidePosition {
     pub fn man_at(&self, x: Square) -> Option<Man>
         ensures { result ≡ man_at self.now.board.men x }
     {
-        self.men.as_slice().iter().copied().find(|m| m.at == x)
+        let men = self.men.as_slice();
+        for m in men {
+            if m.at == x {
+                return Some(*m);
+            }
+        }
+        None
     }
 
     /// The side to move.

@@ -1,10 +1,6 @@
-use Rattle.std.proofs.Common.{◌≡◌, ◌∙◌}
-use Rattle.std.proofs.lemmas.List.{take_all}
 use Rattle.study_wide.proofs.FewMen.{wide_of}
 use Rattle.study_wide.proofs.play.widen.Goals as goal
 
 pub of-requires : goal.of-requires
 of-requires c =
-    let p = c.args.p.now in
-    let all : c.loop-m.men.items ≡ p.men = c.loop-m.invariant ∙ take_all _ _ (rw (← c.men-m-items.ensures.value) c.loop-m-test.false) in
-    rw (all, c.to_move.ensures, c.passed.ensures, c.none.ensures) (wide_of p c.men-m-items.ensures.valid)
+    rw (c.copied_men.ensures, c.men.ensures.value, c.to_move.ensures, c.passed.ensures, c.none.ensures) (wide_of c.args.p.now c.men.ensures.valid)
