@@ -39,7 +39,7 @@ pub struct Heading {
 }
 
 /// Why a game has no text.
-#[derive(Clone, Copy, Debug, PartialEq, Eq)]
+#[derive(Clone, Copy)]
 pub enum GameLeftOut {
     /// No line gets down to four men.
     NeverFourMen,

@@ -157,9 +157,7 @@ impl<'a, A: Allocator> FollowedStudy<'a, A> {
     {
         if steps.len() <= MAX_DEPTH {
             let mut places = ArrayVec::new();
-            for step in steps {
-                places.push(*step);
-            }
+            let _fits = places.try_extend_from_slice(steps);
             self.steps = places;
             self.start = start;
         }

@@ -5,12 +5,10 @@ ghost use Rattle.study_tree.specs.Tree.{size_of};
 ghost use Rattle.study_tails.specs.Study.{IsWideStudy, IsWidePlayable, node_from, node_at};
 
 use crate::tags::Tags;
-use arrayvec::ArrayVec;
 use std::alloc::Allocator;
 use std::marker::Model;
 use study_marks::Stipulation;
 use study_tree::{Subtree, Tree};
-use study_wide::WidePosition;
 use study_wide_text::WideStart;
 
 /// A study that may begin with more than four men and rights to castle.
@@ -42,23 +40,12 @@ pub struct WideNode<'t, 'a, A: Allocator> {
     pub tree: Subtree<'t, 'a, (), A>,
 }
 
-/// A copy of the position.
-fn copied_position(p: &WidePosition) -> WidePosition
-    ensures { result ≡ p.now }
-{
-    let mut men = ArrayVec::new();
-    for m in p.men() {
-        men.push(*m);
-    }
-    WidePosition::of(men, p.to_move(), p.passed(), p.rights())
-}
-
 /// A copy of the start.
 pub fn copied_start(start: &WideStart) -> WideStart
     ensures { result ≡ start.now }
 {
     WideStart {
-        position: copied_position(&start.position),
+        position: start.position.copied(),
         clock: start.clock,
         number: start.number,
     }

@@ -14,7 +14,7 @@ use study_marks::{Stipulation, TagName, is_printable};
 pub type Tags = [Option<ArrayString<64>>; 6];
 
 /// A text is not 1 to 60 printable bytes.
-#[derive(Clone, Copy, Debug, PartialEq, Eq)]
+#[derive(Clone, Copy)]
 pub struct NoTagText;
 
 /// The place of a tag among the six.

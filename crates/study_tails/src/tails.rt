@@ -15,7 +15,7 @@ use study_wide::{WidePosition, played};
 use study_wide_text::WideStart;
 
 /// Why there is no study at a path; reasons are checked in this order.
-#[derive(Clone, Copy, Debug, PartialEq, Eq)]
+#[derive(Clone, Copy)]
 pub enum LeftOut {
     /// The path leads to no node, or more than four men or a right to castle are left there.
     NoTail,
