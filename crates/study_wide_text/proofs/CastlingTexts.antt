@@ -5,7 +5,7 @@ use Rattle.study_notation.specs.San.{is_ending}
 use Rattle.study_notation.specs.SanParts.{san_of, is_castling, is_castling_with, kind_at, file_at, rank_at, takes_at, squares_at}
 use Rattle.study_wide.specs.declared.castling.Wing.{Wing}
 use Rattle.study_wide.specs.declared.castling.Wing.TheVariants.{Short, Long}
-use Rattle.study_wide_text.specs.Matching.{wing_spelled_with, wing_or, castling_wing}
+use Rattle.study_wide_text.specs.Matching.{is_long, wing_behind, wing_spelled_with, wing_or, castling_wing}
 use Rattle.study_wide_text.specs.Meaning.{castling_with, SpellsCastling}
 
 -- ---- what is read is spelled so
@@ -24,51 +24,44 @@ same_back o d e t h =
     let p = and_parts (d == 45) (e == o) h in
     ap (λ z. o ∷ 45 ∷ o ∷ z ∷ e ∷ t) (eqb-true d 45 p.0) ∙ ap (λ z. o ∷ 45 ∷ o ∷ 45 ∷ z ∷ t) (eqb-true e o p.1)
 
-long_or_short : (o a b c d e : ℕ) (rest : List ℕ) (w : Wing) → (a == o && b == 45 && c == o) ≡ true
-    → cond (d == 45 && e == o && is_ending rest) (Some Long) (cond (is_ending (d ∷ e ∷ rest)) (Some Short) None) ≡ Some w
-    → SpelledWith o (a ∷ b ∷ c ∷ d ∷ e ∷ rest) w
-long_or_short o a b c d e rest w front h = elim (cases_Bool (d == 45 && e == o && is_ending rest)) [
-  | inl t ↦
-      let it : Some Long ≡ Some w = rw t at h in
-      let same : Long ≡ w = cc in
-      let p = and_parts (d == 45 && e == o) (is_ending rest) t in
-      subst (λ (v : Wing). SpelledWith o (a ∷ b ∷ c ∷ d ∷ e ∷ rest) v) same
-      (rest, p.1, same_front o a b c (d ∷ e ∷ rest) front ∙ same_back o d e rest p.0)
-  | inr f ↦ elim (cases_Bool (is_ending (d ∷ e ∷ rest))) [
-    | inl t ↦
-        let it : cond (is_ending (d ∷ e ∷ rest)) (Some Short) None ≡ Some w = rw f at h in
-        let it' : Some Short ≡ Some w = rw t at it in
-        let same : Short ≡ w = cc in
-        subst (λ (v : Wing). SpelledWith o (a ∷ b ∷ c ∷ d ∷ e ∷ rest) v) same (d ∷ e ∷ rest, t, same_front o a b c (d ∷ e ∷ rest) front)
-    | inr g ↦
-        let it : cond (is_ending (d ∷ e ∷ rest)) (Some Short) None ≡ Some w = rw f at h in
-        let it' : None ≡ Some w = rw g at it in
-        absurd (let no : ⊥ = cc in no)
-  ]
-]
-
 no_wing : {A : Type 0} (w : Wing) → None ≡ Some w → A
 no_wing w e = absurd (let no : ⊥ = cc in no)
 
-short_only : (o a b c : ℕ) (rest : List ℕ) (w : Wing) → cond (a == o && b == 45 && c == o && is_ending rest) (Some Short) None ≡ Some w
+-- the front, a dash and the byte again, and an ending
+long : (o a b c : ℕ) (rest : List ℕ) → (a == o && b == 45 && c == o) ≡ true → is_long o rest ≡ true → SpelledWith o (a ∷ b ∷ c ∷ rest) Long
+long o a b c [] front h = absurd (false≢true h)
+long o a b c (d ∷ []) front h = absurd (false≢true h)
+long o a b c (d ∷ e ∷ rest) front h =
+    let p = and_parts (d == 45 && e == o) (is_ending rest) h in
+    (rest, p.1, same_front o a b c (d ∷ e ∷ rest) front ∙ same_back o d e rest p.0)
+
+behind : (o a b c : ℕ) (rest : List ℕ) (w : Wing) → (a == o && b == 45 && c == o) ≡ true → wing_behind o rest ≡ Some w
     → SpelledWith o (a ∷ b ∷ c ∷ rest) w
-short_only o a b c rest w h = elim (cases_Bool (a == o && b == 45 && c == o && is_ending rest)) [
+unfolding wing_behind
+behind o a b c rest w front h = elim (cases_Bool (is_long o rest)) [
   | inl t ↦
-      let it : Some Short ≡ Some w = rw t at h in
-      let same : Short ≡ w = cc in
-      let p = and_parts (a == o && b == 45 && c == o) (is_ending rest) t in
-      subst (λ (v : Wing). SpelledWith o (a ∷ b ∷ c ∷ rest) v) same (rest, p.1, same_front o a b c rest p.0)
-  | inr f ↦ (let it : None ≡ Some w = rw f at h in no_wing w it)
+      let it : Some Long ≡ Some w = rw t at h in
+      let same : Long ≡ w = cc in
+      subst (λ (v : Wing). SpelledWith o (a ∷ b ∷ c ∷ rest) v) same (long o a b c rest front t)
+  | inr f ↦ elim (cases_Bool (is_ending rest)) [
+    | inl t ↦
+        let it : cond (is_ending rest) (Some Short) None ≡ Some w = rw f at h in
+        let it' : Some Short ≡ Some w = rw t at it in
+        let same : Short ≡ w = cc in
+        subst (λ (v : Wing). SpelledWith o (a ∷ b ∷ c ∷ rest) v) same (rest, t, same_front o a b c rest front)
+    | inr g ↦
+        let it : cond (is_ending rest) (Some Short) None ≡ Some w = rw f at h in
+        let it' : None ≡ Some w = rw g at it in
+        no_wing w it'
+  ]
 ]
 
 spelled_with : (o : ℕ) (text : List ℕ) (w : Wing) → wing_spelled_with o text ≡ Some w → SpelledWith o text w
 spelled_with o [] w h = no_wing w h
 spelled_with o (a ∷ []) w h = no_wing w h
 spelled_with o (a ∷ b ∷ []) w h = no_wing w h
-spelled_with o (a ∷ b ∷ c ∷ []) w h = short_only o a b c [] w h
-spelled_with o (a ∷ b ∷ c ∷ d ∷ []) w h = short_only o a b c (d ∷ []) w h
-spelled_with o (a ∷ b ∷ c ∷ d ∷ e ∷ rest) w h = elim (cases_Bool (a == o && b == 45 && c == o)) [
-  | inl t ↦ long_or_short o a b c d e rest w t (rw t at h)
+spelled_with o (a ∷ b ∷ c ∷ rest) w h = elim (cases_Bool (a == o && b == 45 && c == o)) [
+  | inl t ↦ behind o a b c rest w t (rw t at h)
   | inr f ↦ (let it : None ≡ Some w = rw f at h in no_wing w it)
 ]
 
@@ -96,14 +89,14 @@ no_dash d e o t h = elim (cases_Bool (d == 45)) [
     none (a ∷ t) = refl
 
 read_letters : (w : Wing) (ending : List ℕ) → is_ending ending ≡ true → castling_wing (castling_with 79 w ++ ending) ≡ Some w
-unfolding castling_wing
+unfolding castling_wing wing_behind
 read_letters Short [] h = refl
 read_letters Short (a ∷ []) h = rw h refl
 read_letters Short (a ∷ b ∷ t) h = rw (no_dash a b 79 t h, h) refl
 read_letters Long ending h = rw h refl
 
 read_digits : (w : Wing) (ending : List ℕ) → is_ending ending ≡ true → castling_wing (castling_with 48 w ++ ending) ≡ Some w
-unfolding castling_wing
+unfolding castling_wing wing_behind
 read_digits Short [] h = refl
 read_digits Short (a ∷ []) h = rw h refl
 read_digits Short (a ∷ b ∷ t) h = rw (no_dash a b 48 t h, h) refl
@@ -135,34 +128,26 @@ no_parts text w s = elim s.1 [
 
 -- ---- castling as with four men, where it is left out
 
+one_ending : (x z : Bool) → cond x (cond z (Some Short) None) None ≡ None → (x && z) ≡ false
+one_ending false z k = refl
+one_ending true true k = absurd (let no : ⊥ = cc in no)
+one_ending true false k = refl
+
+two_endings : (x y z : Bool) → cond x (cond y (Some Long) (cond z (Some Short) None)) None ≡ None → (x && (y || z)) ≡ false
+two_endings false y z k = refl
+two_endings true true z k = absurd (let no : ⊥ = cc in no)
+two_endings true false true k = absurd (let no : ⊥ = cc in no)
+two_endings true false false k = refl
+
 some_with : (o : ℕ) (text : List ℕ) → wing_spelled_with o text ≡ None → is_castling_with o text ≡ false
+unfolding wing_behind
 some_with o [] h = refl
 some_with o (a ∷ []) h = refl
 some_with o (a ∷ b ∷ []) h = refl
-some_with o (a ∷ b ∷ c ∷ []) h = short o a b c [] h
-  where
-    short : (o a b c : ℕ) (rest : List ℕ) → cond (a == o && b == 45 && c == o && is_ending rest) (Some Short) None ≡ None
-        → ((a == o && b == 45 && c == o) && is_ending rest) ≡ false
-    short o a b c rest k = elim (cases_Bool (a == o && b == 45 && c == o && is_ending rest)) [
-      | inl t ↦ absurd (let it : Some Short ≡ None = rw t at k in let no : ⊥ = cc in no)
-      | inr f ↦ f
-    ]
-some_with o (a ∷ b ∷ c ∷ d ∷ []) h = short o a b c (d ∷ []) h
-  where
-    short : (o a b c : ℕ) (rest : List ℕ) → cond (a == o && b == 45 && c == o && is_ending rest) (Some Short) None ≡ None
-        → ((a == o && b == 45 && c == o) && is_ending rest) ≡ false
-    short o a b c rest k = elim (cases_Bool (a == o && b == 45 && c == o && is_ending rest)) [
-      | inl t ↦ absurd (let it : Some Short ≡ None = rw t at k in let no : ⊥ = cc in no)
-      | inr f ↦ f
-    ]
+some_with o (a ∷ b ∷ c ∷ []) h = one_ending (a == o && b == 45 && c == o) (is_ending []) h
+some_with o (a ∷ b ∷ c ∷ d ∷ []) h = one_ending (a == o && b == 45 && c == o) (is_ending (d ∷ [])) h
 some_with o (a ∷ b ∷ c ∷ d ∷ e ∷ rest) h =
-    five (a == o && b == 45 && c == o) (d == 45 && e == o && is_ending rest) (is_ending (d ∷ e ∷ rest)) h
-  where
-    five : (x y z : Bool) → cond x (cond y (Some Long) (cond z (Some Short) None)) None ≡ None → (x && (y || z)) ≡ false
-    five false y z k = refl
-    five true true z k = absurd (let no : ⊥ = cc in no)
-    five true false true k = absurd (let no : ⊥ = cc in no)
-    five true false false k = refl
+    two_endings (a == o && b == 45 && c == o) (d == 45 && e == o && is_ending rest) (is_ending (d ∷ e ∷ rest)) h
 
 pub none_castles : (text : List ℕ) → castling_wing text ≡ None → is_castling text ≡ false
 unfolding castling_wing

@@ -3,6 +3,7 @@ pub mod StepsRead
 pub mod RightsAgain
 pub mod WideFen
 pub mod FenAgrees
+pub mod FenInTwo
 pub mod PlacementLength
 pub mod Candidates
 pub mod OneMoveAgrees

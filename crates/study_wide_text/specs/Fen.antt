@@ -12,7 +12,7 @@ use Rattle.study_notation.specs.declared.fault.FenFault.TheVariants.{FieldCount,
 use Rattle.study_notation.specs.declared.fault.FenFault.TheVariants.{PawnOnEndRank, SideField, OpponentInCheck}
 use Rattle.study_notation.specs.declared.fault.FenFault.TheVariants.{Castling, EnPassantField, EnPassantImpossible}
 use Rattle.study_notation.specs.declared.fault.FenFault.TheVariants.{Clock, MoveNumber}
-use Rattle.study_notation.specs.Fen.{fields_of, placement, side_of, passed_of, count_of, ◌>>=◌, refuse, refuse_any, field_needed}
+use Rattle.study_notation.specs.Fen.{Fields, fields_of, placement, side_of, passed_of, count_of, ◌>>=◌, refuse, refuse_any, field_needed}
 use Rattle.study_notation.specs.FenSpelling.{placement_text, side_text, passed_text}
 use Rattle.study_wide.specs.declared.rights.Rights.{Rights}
 use Rattle.study_wide.specs.Rights.{rights_fit}
@@ -44,6 +44,24 @@ wide_start_of text = do
   _ ← refuse (not (rights_fit men rights)) Castling
   passed ← field_needed (passed_of f.passed) EnPassantField
   position ← field_needed (wide_position_of men side passed rights) EnPassantImpossible
+  clock ← field_needed (count_of f.clock) Clock
+  number ← field_needed (count_of f.number) MoveNumber
+  Ok (record { position = position; clock = clock; number = if number == 0 then 1 else number })
+
+-- Not part of any public contract: the position of the first four fields, and the start with the other two
+unfoldable pub wide_position_at : Fields → Result Wide FenFault
+wide_position_at f = do
+  men ← field_needed (placement f.placement) Placement
+  _ ← refuse_any (wide_placement_fault men)
+  side ← field_needed (side_of f.side) SideField
+  _ ← refuse (in_check men (other_side side)) OpponentInCheck
+  rights ← field_needed (rights_of f.castling) Castling
+  _ ← refuse (not (rights_fit men rights)) Castling
+  passed ← field_needed (passed_of f.passed) EnPassantField
+  field_needed (wide_position_of men side passed rights) EnPassantImpossible
+
+unfoldable pub wide_counted : Fields → Wide → Result WideStart FenFault
+wide_counted f position = do
   clock ← field_needed (count_of f.clock) Clock
   number ← field_needed (count_of f.number) MoveNumber
   Ok (record { position = position; clock = clock; number = if number == 0 then 1 else number })

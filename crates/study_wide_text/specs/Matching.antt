@@ -1,5 +1,5 @@
 -- The legal move that a SAN text means.
-use Rattle.std.specs.Prelude.{ℕ, ◌&&◌, ◌==◌, List, ◌∷◌, Option, Some, None, Result, Ok, Err, if◌then◌else◌}
+use Rattle.std.specs.Prelude.{ℕ, Bool, false, ◌&&◌, ◌==◌, List, ◌∷◌, Option, Some, None, Result, Ok, Err, if◌then◌else◌}
 use Rattle.study_moves.specs.declared.moves.Move.{Move}
 use Rattle.study_notation.specs.declared.fault.SanFault.{SanFault}
 use Rattle.study_notation.specs.declared.fault.SanFault.TheVariants.{NoSuchMove}
@@ -10,12 +10,18 @@ use Rattle.study_wide.specs.declared.castling.Wing.TheVariants.{Short, Long}
 use Rattle.study_wide.specs.Wide.{Wide}
 use Rattle.study_wide.specs.Castling.{can_castle, castling_move}
 
+-- a dash, this byte and an ending
+abbrev pub is_long : ℕ → List ℕ → Bool
+is_long o (d ∷ e ∷ rest) = d == 45 && e == o && is_ending rest
+is_long o _ = false
+
+-- `-O` and an ending, or an ending, behind `O-O`
+unfoldable pub wing_behind : ℕ → List ℕ → Option Wing
+wing_behind o rest = if is_long o rest then Some Long else (if is_ending rest then Some Short else None)
+
 -- `O-O-O` or `O-O`, spelled with this byte, and an ending
 abbrev pub wing_spelled_with : ℕ → List ℕ → Option Wing
-wing_spelled_with o (a ∷ b ∷ c ∷ d ∷ e ∷ rest) =
-    if a == o && b == 45 && c == o
-    then (if d == 45 && e == o && is_ending rest then Some Long else (if is_ending (d ∷ e ∷ rest) then Some Short else None)) else None
-wing_spelled_with o (a ∷ b ∷ c ∷ rest) = if a == o && b == 45 && c == o && is_ending rest then Some Short else None
+wing_spelled_with o (a ∷ b ∷ c ∷ rest) = if a == o && b == 45 && c == o then wing_behind o rest else None
 wing_spelled_with o _ = None
 
 abbrev pub wing_or : Option Wing → Option Wing → Option Wing

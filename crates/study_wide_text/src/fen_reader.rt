@@ -3,14 +3,15 @@ ghost use Rattle.std.specs.Prelude.{◌≡◌, None, true, false};
 ghost use Rattle.study_board.specs.Men.{other_side};
 ghost use Rattle.study_board.specs.Position.{IsAscending, in_check};
 ghost use Rattle.study_notation.specs.Fen.{fen_fault_of_men};
-ghost use Rattle.study_wide_text.specs.Fen.{wide_placement_fault, wide_position_of, wide_start_of};
+ghost use Rattle.study_notation.specs.FieldsView.{fields_view};
+ghost use Rattle.study_wide_text.specs.Fen.{wide_placement_fault, wide_position_of, wide_position_at, wide_counted, wide_start_of};
 ghost use Rattle.study_wide.specs.Rights.{rights_fit};
 
 use crate::WideStart;
 use crate::rights_field::read_rights;
 use study_board::{Man, PositionFault, Side, Square, fault_among, in_check};
 use study_notation::{
-    FenFault, is_dash, read_count, read_passed, read_placement, read_side, split_fields,
+    FenFault, FenFields, read_count, read_passed, read_placement, read_side, split_fields,
 };
 use study_wide::{Rights, WidePosition, is_crowded, rights_fit};
 
@@ -19,13 +20,23 @@ use study_wide::{Rights, WidePosition, is_crowded, rights_fit};
 /// Fields are those of the PGN Standard, with one or more spaces between them; the third is `-`, or some of the letters KQkq in this order. Four fields are
 /// read as if `0 1` followed, a run of empty squares may be given in several digits, and the move number 0 is read as 1. `TooManyMen` is more than sixteen
 /// men of a side, and `Castling` a third field that is neither, or a right without its king or its rook in place.
-#[tactic(auto, unfolding(crate::specs::Fen::wide_start_of))]
 pub fn read_wide_fen(text: &str) -> Result<WideStart, FenFault>
     ensures { result ≡ wide_start_of text.now }
 {
-    let Some(fields) = split_fields(text.as_bytes()) else {
-        return Err(FenFault::FieldCount);
-    };
+    match split_fields(text.as_bytes()) {
+        None => Err(FenFault::FieldCount),
+        Some(fields) => match read_position(&fields) {
+            Err(fault) => Err(fault),
+            Ok(position) => with_counts(position, &fields),
+        },
+    }
+}
+
+/// The position that the first four fields spell.
+#[tactic(auto, unfolding(crate::specs::Fen::wide_position_at))]
+fn read_position(fields: &FenFields<'_>) -> Result<WidePosition, FenFault>
+    ensures { result ≡ wide_position_at (fields_view fields.now) }
+{
     let Some(men) = read_placement(fields.placement) else {
         return Err(FenFault::Placement);
     };
@@ -47,9 +58,14 @@ pub fn read_wide_fen(text: &str) -> Result<WideStart, FenFault>
     let Some(passed) = read_passed(fields.passed) else {
         return Err(FenFault::EnPassantField);
     };
-    let Some(position) = position_of(men.as_slice(), to_move, passed, rights) else {
-        return Err(FenFault::EnPassantImpossible);
-    };
+    position_of(men.as_slice(), to_move, passed, rights).ok_or(FenFault::EnPassantImpossible)
+}
+
+/// The start with the counts that the last two fields spell.
+#[tactic(auto, unfolding(crate::specs::Fen::wide_counted))]
+fn with_counts(position: WidePosition, fields: &FenFields<'_>) -> Result<WideStart, FenFault>
+    ensures { result ≡ wide_counted (fields_view fields.now) position }
+{
     let Some(clock) = read_count(fields.clock) else {
         return Err(FenFault::Clock);
     };

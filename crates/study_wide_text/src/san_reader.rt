@@ -5,7 +5,7 @@ ghost use Rattle.study_moves.specs.LegalList.{legal_list};
 ghost use Rattle.study_moves.specs.Rules.{is_legal};
 ghost use Rattle.study_notation.specs.Matching.{agrees, matches, only_match, move_of};
 ghost use Rattle.study_wide.specs.Rules.{is_wide_legal};
-ghost use Rattle.study_wide_text.specs.Matching.{wing_spelled_with, castling_wing, wide_move_of};
+ghost use Rattle.study_wide_text.specs.Matching.{is_long, wing_behind, wing_spelled_with, castling_wing, wide_move_of};
 ghost use Rattle.study_wide_text.specs.Candidates.{move_to};
 
 use crate::capture_rule::is_capture;
@@ -42,25 +42,38 @@ fn wing_spelled_with(o: u8, text: &[u8]) -> Option<Wing>
     ensures { result ≡ wing_spelled_with o text.now }
 {
     match text {
-        [a, b, c, d, e, rest @ ..] => {
-            if !(*a == o && *b == b'-' && *c == o) {
-                None
-            } else if *d == b'-' && *e == o && is_ending(rest) {
-                Some(Wing::Long)
-            } else if is_ending(&text[3..]) {
-                Some(Wing::Short)
-            } else {
-                None
-            }
-        }
         [a, b, c, rest @ ..] => {
-            if *a == o && *b == b'-' && *c == o && is_ending(rest) {
-                Some(Wing::Short)
+            if *a == o && *b == b'-' && *c == o {
+                wing_behind(o, rest)
             } else {
                 None
             }
         }
         _ => None,
+    }
+}
+
+/// The wing of a text of castling that goes on so behind its first three bytes.
+#[tactic(auto, unfolding(crate::specs::Matching::wing_behind))]
+fn wing_behind(o: u8, rest: &[u8]) -> Option<Wing>
+    ensures { result ≡ wing_behind o rest.now }
+{
+    if is_long(o, rest) {
+        Some(Wing::Long)
+    } else if is_ending(rest) {
+        Some(Wing::Short)
+    } else {
+        None
+    }
+}
+
+/// Whether it goes on with one more castle, and an ending.
+fn is_long(o: u8, rest: &[u8]) -> bool
+    ensures { result ≡ is_long o rest.now }
+{
+    match rest {
+        [d, e, ending @ ..] => *d == b'-' && *e == o && is_ending(ending),
+        _ => false,
     }
 }
 

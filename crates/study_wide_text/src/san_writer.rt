@@ -1,10 +1,11 @@
 //! Writing a SAN text.
-ghost use Rattle.std.specs.Prelude.{◌≡◌, ◌<◌, ◌≤◌, ◌+◌, ◌++◌, [], true, Some, IfSome};
+ghost use Rattle.std.specs.Prelude.{◌≡◌, ◌<◌, ◌≤◌, ◌+◌, ◌++◌, ◌==◌, ◌&&◌, ◌||◌, not, [], true, Some, IfSome, if◌then◌else◌};
 ghost use Rattle.arrayvec.specs.ArrayString.{array_string_len};
 ghost use Rattle.study_notation.specs.San.{file_text, rank_text, san_text};
-ghost use Rattle.study_notation.specs.SanSpelling.{is_rival, has_rival, has_file_rival, gives_rank};
+ghost use Rattle.study_board.specs.Geometry.{file_of, rank_of};
+ghost use Rattle.study_notation.specs.SanSpelling.{is_rival, has_rival, has_file_rival};
 ghost use Rattle.study_wide.specs.Rules.{is_wide_legal, wing_of};
-ghost use Rattle.study_wide_text.specs.SanSpelling.{has_rank_rival, gives_wide_file, wide_san_for, castling_san};
+ghost use Rattle.study_wide_text.specs.SanSpelling.{has_rank_rival, wide_san_for, castling_san};
 ghost use Rattle.study_wide_text.specs.SanSpelling.{wide_check_text, move_parts_text, wide_move_text};
 
 use crate::capture_rule::is_capture;
@@ -50,12 +51,9 @@ fn push_castling(out: &mut ArrayString<16>, wing: Wing)
     ensures bytes { out.new.bytes ≡ castling_san wing }
     ensures len { array_string_len out.new ≤ 8 }
 {
-    push_byte(out, b'O');
-    push_byte(out, b'-');
-    push_byte(out, b'O');
-    if wing == Wing::Long {
-        push_byte(out, b'-');
-        push_byte(out, b'O');
+    match wing {
+        Wing::Short => out.push_str("O-O"),
+        Wing::Long => out.push_str("O-O-O"),
     }
 }
 
@@ -103,74 +101,83 @@ fn push_check(out: &mut ArrayString<16>, next: &WidePosition)
 }
 
 /// The parts that are written for a legal move of this man.
-#[tactic(auto, unfolding(crate::specs::SanSpelling::wide_san_for))]
+#[tactic(auto, unfolding(crate::specs::SanSpelling::wide_san_for, crate::specs::SanSpelling::gives_wide_file, study_notation::specs::SanSpelling::gives_rank))]
 fn describe(p: &WidePosition, man: &Man, m: &Move) -> San
     ensures value { result ≡ wide_san_for p.now.board man.now m.now }
     ensures file { IfSome result.file (λ f. f < 8) }
     ensures rank { IfSome result.rank (λ r. r < 8) }
 {
     let x = m.target;
+    let rivals = rivals_of(p, man, x);
+    let is_capture = is_capture(p, man, x);
+    let is_pawn = man.kind == Kind::Pawn;
     San {
         kind: man.kind,
-        file: if gives_file(p, man, x) {
+        file: if gives_file(is_pawn, is_capture, &rivals) {
             Some(man.at.file())
         } else {
             None
         },
-        rank: if gives_rank(p, man, x) {
+        rank: if !is_pawn && rivals.on_file {
             Some(man.at.rank())
         } else {
             None
         },
-        is_capture: is_capture(p, man, x),
+        is_capture,
         target: x,
         promoted: m.promoted,
     }
 }
 
 /// Whether the origin's file is written.
-#[tactic(auto, unfolding(crate::specs::SanSpelling::gives_wide_file))]
-fn gives_file(p: &WidePosition, man: &Man, x: Square) -> bool
-    ensures { result ≡ gives_wide_file p.now.board man.now x }
+fn gives_file(is_pawn: bool, is_capture: bool, rivals: &Rivals) -> bool
+    ensures { result ≡ (if is_pawn then is_capture
+        else (rivals.now.any && (not rivals.now.on_file || rivals.now.on_rank))) }
 {
-    if man.kind == Kind::Pawn {
-        is_capture(p, man, x)
+    if is_pawn {
+        is_capture
     } else {
-        has_rival(p, man, x) && (!has_file_rival(p, man, x) || has_rank_rival(p, man, x))
+        rivals.any && (!rivals.on_file || rivals.on_rank)
     }
 }
 
-/// Whether the origin's rank is written.
-#[tactic(auto, unfolding(study_notation::specs::SanSpelling::gives_rank))]
-fn gives_rank(p: &WidePosition, man: &Man, x: Square) -> bool
-    ensures { result ≡ gives_rank p.now.board man.now x }
-{
-    man.kind != Kind::Pawn && has_file_rival(p, man, x)
+/// Whether other men of the same kind and side can legally go to a square: any, one on the man's file, one on its rank.
+#[derive(Clone, Copy)]
+struct Rivals {
+    any: bool,
+    on_file: bool,
+    on_rank: bool,
 }
 
-#[tactic(auto, unfolding(study_notation::specs::SanSpelling::has_rival))]
-fn has_rival(p: &WidePosition, man: &Man, x: Square) -> bool
-    ensures { result ≡ has_rival p.now.board man.now x }
+/// The rivals of a man at a square.
+fn rivals_of(p: &WidePosition, man: &Man, x: Square) -> Rivals
+    ensures any { result.any ≡ has_rival p.now.board man.now x }
+    ensures on_file { result.on_file ≡ has_file_rival p.now.board man.now x }
+    ensures on_rank { result.on_rank ≡ has_rank_rival p.now.board man.now x }
 {
-    p.men().iter().any(|o| is_rival(p, man, x, o))
+    let men = p.men();
+    let mut found = Rivals {
+        any: false,
+        on_file: false,
+        on_rank: false,
+    };
+    for o in men {
+        found = with_man(found, man, o, is_rival(p, man, x, o));
+    }
+    found
 }
 
-#[tactic(auto, unfolding(study_notation::specs::SanSpelling::has_file_rival))]
-fn has_file_rival(p: &WidePosition, man: &Man, x: Square) -> bool
-    ensures { result ≡ has_file_rival p.now.board man.now x }
+/// The rivals with one more man, if it is one.
+fn with_man(found: Rivals, man: &Man, o: &Man, is: bool) -> Rivals
+    ensures any { result.any ≡ (found.any || is) }
+    ensures on_file { result.on_file ≡ (found.on_file || (is && file_of o.now.at == file_of man.now.at)) }
+    ensures on_rank { result.on_rank ≡ (found.on_rank || (is && rank_of o.now.at == rank_of man.now.at)) }
 {
-    p.men()
-        .iter()
-        .any(|o| is_rival(p, man, x, o) && o.at.file() == man.at.file())
-}
-
-#[tactic(auto, unfolding(crate::specs::SanSpelling::has_rank_rival))]
-fn has_rank_rival(p: &WidePosition, man: &Man, x: Square) -> bool
-    ensures { result ≡ has_rank_rival p.now.board man.now x }
-{
-    p.men()
-        .iter()
-        .any(|o| is_rival(p, man, x, o) && o.at.rank() == man.at.rank())
+    Rivals {
+        any: found.any || is,
+        on_file: found.on_file || (is && o.at.file() == man.at.file()),
+        on_rank: found.on_rank || (is && o.at.rank() == man.at.rank()),
+    }
 }
 
 /// Whether `o` is another man of the same kind and side that can legally go to the square.
