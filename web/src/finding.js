@@ -18,6 +18,17 @@ export const THEMES = /** @type {[string, string][]} */ ([
   ['try win', 'wins with a try into a zugzwang'], ['try draw', 'draws with a try into a zugzwang'],
   ['longest white', 'longest wins of White'], ['longest black', 'longest wins of Black']
 ]);
+/** What the row of only moves is asked to have, as the program names it, with what the list of these says. */
+export const FEATURES = /** @type {[string, string][]} */ ([
+  ['', 'any row of only moves'], ['row-underpromotion', 'a row with an underpromotion'],
+  ['row-offer', 'a row in which a man is offered'], ['row-zugzwang', 'a row with a zugzwang'],
+  ['row-stalemate', 'a row that ends in stalemate']
+]);
+/**
+ * Whether the words of a search ask what a row has, so that the whole row is shown.
+ * @param {string} words
+ */
+export const isOfRows = words => / row-/.test(words);
 /**
  * A position a line: its FEN, its value or values, and the one move that holds.
  * @param {string} line
@@ -79,26 +90,29 @@ export function opened({fen, values: [white, black]}) {
   return {fen: fen.replace(' w ', ' b '), value: black};
 }
 /**
- * The result that a theme of only moves in a row keeps; of other themes null.
- * @param {string} theme      with its number
- */
-export function rowSought(theme) {
-  const [, goal] = /^(win|draw) \d+$/.exec(theme) || [];
-  return goal === 'win' || goal === 'draw' ? goal : null;
-}
-/**
- * A position that was found as a study: with the whole row of only moves if they win, with as many as the theme says if
- * they draw, since such a row may have no end; without a row with its key.
+ * The result that the row of only moves keeps, if the theme or what is asked of a row says that it is shown.
  * @param {Found} found
  * @param {string} theme      with its number
+ * @param {string} words      of the whole search
+ */
+export function rowSought({values: [value]}, theme, words) {
+  const [, goal] = /^(win|draw) \d+$/.exec(theme) || [], kept = goal || (isOfRows(words) && value.kind);
+  return kept === 'win' || kept === 'draw' ? kept : null;
+}
+/**
+ * A position that was found as a study: with the whole row of only moves if they win or if the search asks what the row
+ * has, with as many as the theme says if they draw, since such a row may have no end; without a row with its key.
+ * @param {Found} found
+ * @param {string} theme      with its number
+ * @param {string} words      of the whole search
  * @param {string[]} row
  */
-export function linesOf(found, theme, row) {
+export function linesOf(found, theme, words, row) {
   const {fen, value} = opened(found), won = winner(sideOf(fen), value),
               hero = (won || (found.key ? sideOf(fen) : 'White')).toLowerCase(), [goal, n] = theme.split(' ');
-  const moves = !row.length ? [found.key].filter(Boolean)
-    : goal === 'draw'       ? row.slice(0, 2 * Number(n) - 1)
-                            : row,
+  const moves = !row.length               ? [found.key].filter(Boolean)
+    : goal === 'draw' && !isOfRows(words) ? row.slice(0, 2 * Number(n) - 1)
+                                          : row,
         insert = (/** @type {string} */ san, /** @type {number} */ i) =>
           `insert ${i ? Array(i).fill('0').join('.') : 'root'} ${san}`;
   return [`position ${fen}`, `stipulate ${hero} ${won ? 'win' : 'draw'}`, ...moves.map(insert)];

@@ -6,7 +6,7 @@ import {app, services} from './state.js';
 import {CLASSES} from './core_host.js';
 import {diagramOf} from './drawing.js';
 import {control, sideOf} from './fen.js';
-import {THEMES, manMissing, narrowing, searchText, partText} from './finding.js';
+import {FEATURES, THEMES, manMissing, narrowing, partText, searchText} from './finding.js';
 import {hitsHere, openAll, openHit} from './hits.js';
 import {search} from './searching.js';
 import {draftFen} from './setup.js';
@@ -21,6 +21,7 @@ const form = {
   n: '4',
   side: '',
   squares: '',
+  row: '',
   quiet: false
 };
 /**
@@ -91,7 +92,8 @@ function chooseClass(name) {
   state.chosen = true;
 }
 function formView() {
-  const {here} = state, takesNumber = form.theme.endsWith('N'), narrowed = !form.theme.startsWith('longest');
+  const {here} = state, takesNumber = form.theme.endsWith('N'), narrowed = !form.theme.startsWith('longest'),
+        keyed = narrowed && form.theme !== 'zugzwang';
   return h('div', {class: 'row'},
     choice('findClass', 'The men', CLASSES.map(name => [name, name]), form.name, chooseClass),
     here && here !== form.name &&
@@ -117,7 +119,12 @@ function formView() {
     narrowed &&
       field('findSquares', 'Squares, as Kf7 or Pa2-h4, small letters for Black; the board is turned as it fits',
         'squares', {placeholder: 'squares', size: 14}),
-    narrowed && form.theme !== 'zugzwang' &&
+    keyed &&
+      choice('findRow', 'What the row of only moves has', FEATURES, form.row,
+        value => {
+          form.row = value;
+        }),
+    keyed &&
       h('label', {class: 'note'}, h('input', {
         type: 'checkbox',
         id: 'findQuiet',
@@ -135,12 +142,12 @@ function find() {
     Object.assign(state, {search: null, fault: 'the number of only moves in a row is 1 to 12'});
     return showFinding();
   }
-  const narrowed = !form.theme.startsWith('longest'),
-        quiet = form.quiet && form.theme !== 'zugzwang' ? 'no-capture no-check' : '';
+  const narrowed = !form.theme.startsWith('longest'), keyed = narrowed && form.theme !== 'zugzwang',
+        ofKey = keyed ? [form.quiet && 'no-capture no-check', form.row] : [];
   const wanted = {
     name: form.name,
     theme: form.theme.replace('N', form.n),
-    filters: narrowed ? [form.side, quiet, form.squares.trim()].filter(Boolean).join(' ') : '',
+    filters: narrowed ? [form.side, ...ofKey, form.squares.trim()].filter(Boolean).join(' ') : '',
     most: MOST
   };
   const shown = [wanted.name, wanted.theme, wanted.filters].filter(Boolean).join(' '),

@@ -21,15 +21,16 @@ let hits = /** @type {Hits | null} */ (null);
 /** What was found, if one of it is what is shown. */
 export const hitsHere = () => (hits && hits.id === doc().id ? hits : null);
 /**
- * The lines of a position as a study: with the row of only moves that its theme says, else with its key.
+ * The lines of a position as a study: with the row of only moves that its search says, else with its key.
  * @param {Found} found
  * @param {string} theme      with its number
+ * @param {string} words      of the whole search
  */
-async function studyOf(found, theme) {
-  const goal = rowSought(theme), {fen} = opened(found);
+async function studyOf(found, theme, words) {
+  const goal = rowSought(found, theme, words), {fen} = opened(found);
   if (goal) await services.tables.loadFor([fen], services.facts);
   const row = goal ? await rowAt(services.facts, goal, fen) : null;
-  return linesOf(found, theme, row ? row.moves : []);
+  return linesOf(found, theme, words, row ? row.moves : []);
 }
 /**
  * Looks at one of the positions that were found.
@@ -38,7 +39,7 @@ async function studyOf(found, theme) {
  */
 export const openHit = ({found, part, theme, words}, at) => track((async () => {
   if (!found[at]) return;
-  const lines = await studyOf(found[at], theme), here = hitsHere(), id = freshId(),
+  const lines = await studyOf(found[at], theme, words), here = hitsHere(), id = freshId(),
         before = here    ? here.before
     : doc().lines.length ? doc().id
                          : '';
@@ -61,7 +62,7 @@ export const openAll = ({found, theme, words}) => track((async () => {
   try {
     for (const [at, one] of found.entries()) {
       services.reading(at, found.length, 'Opening position');
-      const [position, stipulation, ...moves] = await studyOf(one, theme);
+      const [position, stipulation, ...moves] = await studyOf(one, theme, words);
       lines.push(position, stipulation, `tag Event ${words}, ${at + 1}`.slice(0, 70), ...moves, '');
     }
   } finally { services.reading(0, 0); }

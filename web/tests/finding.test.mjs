@@ -33,13 +33,19 @@ test('a zugzwang opens with the side to move with which somebody wins', () => {
 test('a position opens with its row of only moves', () => {
   const draw = readFound('6kR/8/5K2/8/8/8/8/8 b - - 0 1 draw Kxh8'), row = ['Kxh8', 'Kg6', 'Kg8'],
         head = ['position 6kR/8/5K2/8/8/8/8/8 b - - 0 1', 'stipulate black draw', 'insert root Kxh8'];
-  assert.deepEqual(linesOf(draw, 'draw 2', row), [...head, 'insert 0 Kg6', 'insert 0.0 Kg8']);
-  assert.deepEqual(linesOf(draw, 'draw 1', row), head);
-  assert.deepEqual(linesOf(draw, 'into draw', []), head);
+  const whole = [...head, 'insert 0 Kg6', 'insert 0.0 Kg8'];
+  assert.deepEqual(linesOf(draw, 'draw 2', 'KRK draw 2', row), whole);
+  assert.deepEqual(linesOf(draw, 'draw 1', 'KRK draw 1', row), head);
+  assert.deepEqual(linesOf(draw, 'draw 1', 'KRK draw 1 row-zugzwang', row), whole);
+  assert.deepEqual(linesOf(draw, 'into draw', 'KRK into draw', []), head);
   const win = readFound('8/8/8/5n2/8/1RK5/8/2k5 w - - 0 1 win 69 Kd3');
-  assert.equal(linesOf(win, 'win 1', ['Kd3', 'Kd1', 'Rb1+']).length, 5);
-  assert.equal(linesOf(readFound('8/8/8/8/1pK5/kP6/8/8 w - - 0 1 loss 20 loss 22'), 'zugzwang', []).length, 2);
-  assert.deepEqual(['win 6', 'draw 12', 'zugzwang', 'try win'].map(rowSought), ['win', 'draw', null, null]);
+  assert.equal(linesOf(win, 'win 1', 'KRKN win 1', ['Kd3', 'Kd1', 'Rb1+']).length, 5);
+  const lost = readFound('8/8/8/8/1pK5/kP6/8/8 w - - 0 1 loss 20 loss 22');
+  assert.equal(linesOf(lost, 'zugzwang', 'KPKP zugzwang', []).length, 2);
+  const sought = ['win 6', 'draw 12', 'zugzwang', 'try win'];
+  assert.deepEqual(sought.map(theme => rowSought(win, theme, `KRKN ${theme}`)), ['win', 'draw', null, null]);
+  assert.equal(rowSought(win, 'try win', 'KRKN try win Kc3 row-offer'), 'win');
+  assert.equal(rowSought(draw, 'into draw', 'KRK into draw row-stalemate'), 'draw');
 });
 test('a man that a class does not have', () => {
   assert.equal(manMissing('KPK', 'pa7'), 'KPK has no P of Black, so pa7 fits no position');

@@ -2,6 +2,7 @@ mod HeldClasses
 pub mod Found
 pub mod Written
 pub mod MainLines
+pub mod RowFeatures
 pub mod OneList
 pub mod Said
 pub mod Shown

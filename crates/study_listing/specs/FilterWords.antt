@@ -12,6 +12,8 @@ use Rattle.study_command.specs.Parser.{side_parsed}
 use Rattle.study_search.specs.declared.only_moves.Outcome.{Outcome}
 use Rattle.study_search.specs.declared.only_moves.Outcome.TheVariants.{Win, Draw}
 use Rattle.study_search.specs.declared.themes.Theme.{Theme}
+use Rattle.study_listing.specs.declared.features.Feature.{Feature}
+use Rattle.study_listing.specs.declared.features.Feature.TheVariants.{Underpromotion, Offer, Zugzwang, Stalemate}
 use Rattle.study_listing.specs.declared.filters.Placed.{Placed}
 use Rattle.study_listing.specs.declared.filter_words.Behind.{Behind}
 use Rattle.study_listing.specs.declared.filter_words.Unread.{Unread}
@@ -71,11 +73,11 @@ placed_parsed _ = None
 abbrev pub nothing_behind : Behind
 nothing_behind = record { side = None; filters = no_filters }
 
--- one more man, if there is room for it
-abbrev pub put_placed : Placed → List (Option Placed) → Option (List (Option Placed))
-put_placed w [] = None
-put_placed w (None ∷ ws) = Some (Some w ∷ ws)
-put_placed w (Some v ∷ ws) = option_map (λ more. Some v ∷ more) (put_placed w ws)
+-- one more, if there is room for it
+abbrev pub put : {A : Type 0} → A → List (Option A) → Option (List (Option A))
+put w [] = None
+put w (None ∷ ws) = Some (Some w ∷ ws)
+put w (Some v ∷ ws) = option_map (λ more. Some v ∷ more) (put w ws)
 
 abbrev pub with_men : Behind → Option (List (Option Placed)) → Result Behind Unread
 with_men b None = Err NoSuchFilter
@@ -83,7 +85,7 @@ with_men b (Some men) = Ok (record b { filters = record b.filters { men = men } 
 
 abbrev pub with_placed : Behind → Option Placed → Result Behind Unread
 with_placed b None = Err NoSuchFilter
-with_placed b (Some w) = with_men b (put_placed w b.filters.men)
+with_placed b (Some w) = with_men b (put w b.filters.men)
 
 -- one side at most
 abbrev pub with_side : Behind → Side → Result Behind Unread
@@ -93,7 +95,7 @@ abbrev pub with_side_or_man : Behind → List ℕ → Option Side → Result Beh
 with_side_or_man b word (Some side) = with_side b side
 with_side_or_man b word None = with_placed b (placed_parsed word)
 
--- a filter on the key, or on the result that it keeps, needs a theme that has one
+-- a filter on the key, the result that it keeps, or the row that it begins, needs a theme that has one
 abbrev pub if_key : Theme → Behind → Result Behind Unread
 if_key t b = if has_key t then Ok b else Err NoKeyMove
 
@@ -122,12 +124,30 @@ with_promoted t b word None = with_result t b word (result_parsed word)
 with_promoted t b word (Some kind) =
     if is_some b.filters.promoted then Err NoSuchFilter else if_key t (record b { filters = record b.filters { promoted = Some kind } })
 
--- `no-capture`, `no-check`, `=N`, `wins`, `draws`, `white`, `black`, or the square of a man
+-- `row-underpromotion`, `row-offer`, `row-zugzwang`, `row-stalemate`
+abbrev pub feature_parsed : List ℕ → Option Feature
+feature_parsed word =
+    if bytes_eq word (codes "row-underpromotion") then Some Underpromotion
+    else (if bytes_eq word (codes "row-offer") then Some Offer
+    else (if bytes_eq word (codes "row-zugzwang") then Some Zugzwang
+    else (if bytes_eq word (codes "row-stalemate") then Some Stalemate
+    else None)))
+
+abbrev pub with_row : Theme → Behind → Option (List (Option Feature)) → Result Behind Unread
+with_row t b None = Err NoSuchFilter
+with_row t b (Some row) = if_key t (record b { filters = record b.filters { row = row } })
+
+-- four features at most
+abbrev pub with_feature : Theme → Behind → List ℕ → Option Feature → Result Behind Unread
+with_feature t b word None = with_promoted t b word (promoted_parsed word)
+with_feature t b word (Some f) = with_row t b (put f b.filters.row)
+
+-- `no-capture`, `no-check`, `row-offer`, `=N`, `wins`, `draws`, `white`, `black`, or the square of a man
 abbrev pub with_word : Theme → Behind → List ℕ → Result Behind Unread
 with_word t b word =
     if bytes_eq word (codes "no-capture") then if_key t (record b { filters = record b.filters { no_capture = true } })
     else (if bytes_eq word (codes "no-check") then if_key t (record b { filters = record b.filters { no_check = true } })
-    else with_promoted t b word (promoted_parsed word))
+    else with_feature t b word (feature_parsed word))
 
 -- word by word, up to the first that is refused
 abbrev pub with_words : Theme → Result Behind Unread → List (List ℕ) → Result Behind Unread

@@ -1,4 +1,4 @@
--- Filters: the squares of men, the kind of key, and the result.
+-- Filters: the squares of men, the kind of key, the result, and what the row of only moves has.
 use Rattle.std.specs.Prelude.{◌≡◌, ◌&&◌, ◌||◌, not, ℕ, nat_le, nat_lt, Bool, true, false, length, replicate, List, [], ◌∷◌, Option, Some, None, is_some, if◌then◌else◌}
 use Rattle.std.specs.List.{list_all, list_any}
 use Rattle.study_board.specs.declared.men.Kind.{Kind}
@@ -17,7 +17,7 @@ use Rattle.study_listing.specs.declared.filters.Filters.{Filters}
 
 -- every position passes
 abbrev pub no_filters : Filters
-no_filters = record { men = replicate 4 None; no_capture = false; no_check = false; promoted = None; result = None }
+no_filters = record { men = replicate 4 None; no_capture = false; no_check = false; promoted = None; result = None; row = replicate 4 None }
 
 abbrev pub is_from_to : ℕ → ℕ → ℕ → Bool
 is_from_to low high n = nat_le low n && nat_le n high

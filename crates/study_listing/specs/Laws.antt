@@ -12,7 +12,7 @@ use Rattle.study_search.specs.Themes.{HasTheme}
 use Rattle.study_listing.specs.declared.filters.Selection.{Selection}
 use Rattle.study_listing.specs.declared.text.Form.{Form}
 use Rattle.study_listing.specs.Filters.{no_filters, are_placed, HasImagePlaced, HasWantedKey, HasWantedResult}
-use Rattle.study_listing.specs.Lists.{is_paired, listed_image, IsListedAt, IsList}
+use Rattle.study_listing.specs.Lists.{is_paired, listed_image, HasRowShown, IsListedAt, IsList}
 
 -- A range of numbers has exactly one list.
 abbrev pub ListsAreUnique : Type 0
@@ -44,9 +44,11 @@ PlacedAreShown = (s : Selection) (p q : Position) → IsValid p → IsOf s.searc
     → are_placed s.filters.men p ≡ true → position_numbered s.search.class (index_of p) ≡ Some q → is_some (listed_image s q) ≡ true
 
 -- Each position of the class with the theme, White having the class's first list, with the wanted side to move, men on the wanted squares, a key that passes
--- the filters and the wanted result, is listed by its index. (Of a mutual zugzwang in two placements one is.)
+-- the filters and the wanted result, is listed by its index, if the row that is shown with the position of that index has what is wanted: of equal replies a
+-- row has the first by squares, so that images have different rows. (Of a mutual zugzwang in two placements one is.)
 abbrev pub EachIsListed : Type 0
 EachIsListed = (s : Selection) (p : Position) → IsValid p → IsOf s.search.class p → is_swapped p.men ≡ false → is_for s.search.side p.to_move ≡ true
     → HasTheme s.search.theme p → are_placed s.filters.men p ≡ true → HasWantedKey s.filters p → HasWantedResult s.filters.result p
+    → ((q : Position) → position_numbered s.search.class (index_of p) ≡ Some q → HasRowShown s q)
     → is_paired s.search ≡ false
     → IsListedAt s (index_of p)

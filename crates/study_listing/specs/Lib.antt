@@ -1,9 +1,11 @@
 pub mod Lines
 pub mod MainLines
 pub mod Facts
+pub mod Features
 pub mod Filters
 pub mod FilterWords
 pub mod Lists
+pub mod LetThrough
 pub mod Stops
 pub mod Requests
 pub mod Laws

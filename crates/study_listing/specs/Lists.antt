@@ -19,6 +19,7 @@ use Rattle.study_listing.specs.declared.request.Request.{Request}
 use Rattle.study_listing.specs.declared.request.Request.TheVariants.{Positions, Longest}
 use Rattle.study_listing.specs.declared.text.Form.{Form}
 use Rattle.study_listing.specs.Facts.{IsTextOf}
+use Rattle.study_listing.specs.Features.{HasWantedRow}
 use Rattle.study_listing.specs.Filters.{turns, or_else, first_placed, HasWantedKey, HasWantedResult, no_filters}
 
 -- both sides have the same men, so that each position has a colour image in the class
@@ -55,14 +56,19 @@ second_placed s p = if is_paired s.search then first_placed s.filters.men (count
 abbrev pub listed_image : Selection → Position → Option Position
 listed_image s p = or_else (first_placed s.filters.men p turns) (second_placed s p)
 
+-- the row of only moves that is shown with the listed image has what the filters want
+abbrev pub HasRowShown : Selection → Position → Type 0
+HasRowShown s p = (q : Position) → listed_image s p ≡ Some q → HasWantedRow s.filters.row q
+
 -- The position matches the search, and is not the second placement of a mutual zugzwang; some image of it has men on the wanted squares; and its key passes
--- the filters, and so does its result.
+-- the filters, and so do its result and the row that is shown.
 pub record IsListed (s : Selection) (p : Position) : Type 0 where
   pub sought : IsLookedFor s.search p
   pub first : IsOneOfPair s.search p
   pub placed : is_some (listed_image s p) ≡ true
   pub key : HasWantedKey s.filters p
   pub result : HasWantedResult s.filters.result p
+  pub row : HasRowShown s p
 
 abbrev pub IsListedAt : Selection → ℕ → Type 0
 IsListedAt s n = (p : Position) × (position_numbered s.search.class n ≡ Some p) × IsListed s p

@@ -2,10 +2,12 @@
 ghost use Rattle.std.specs.Prelude.{◌≡◌, map, true, Ok, Some};
 ghost use Rattle.study_command.specs.Parser.{side_parsed};
 ghost use Rattle.study_listing.specs.FilterWords.{side_lettered, capital, kind_lettered, square_spelled, are_corners, placed_by, placed_on};
-ghost use Rattle.study_listing.specs.FilterWords.{placed_parsed, nothing_behind, put_placed, with_placed, with_side, with_side_or_man};
+ghost use Rattle.study_listing.specs.FilterWords.{placed_parsed, nothing_behind, put, with_placed, with_side, with_side_or_man};
 ghost use Rattle.study_listing.specs.FilterWords.{if_key, promoted_parsed, result_parsed, with_result, with_promoted, with_word, with_words};
+ghost use Rattle.study_listing.specs.FilterWords.{feature_parsed, with_row, with_feature};
 
 use crate::facts::wanted_for;
+use crate::features::Feature;
 use crate::filters::{Filters, Placed};
 use study_board::{Kind, Side, Square};
 use study_command::read_side;
@@ -15,9 +17,9 @@ use study_search::{Outcome, Theme};
 #[derive(Clone, Copy, Debug, PartialEq, Eq)]
 pub enum Unread {
     NoSuchTheme,
-    /// A word after the theme is not a filter, or names a second side to move or a fifth man.
+    /// A word after the theme is not a filter, or names a second side to move, a fifth man or a fifth feature of the row.
     NoSuchFilter,
-    /// A filter concerns the key move, and the theme has none.
+    /// A filter concerns the key move or the row that it begins, and the theme has none.
     NoKeyMove,
 }
 
@@ -147,11 +149,11 @@ fn read_placed(word: &[u8]) -> Option<Placed>
     }
 }
 
-/// One more man, if there is room for it.
-fn put_placed(w: Placed, men: [Option<Placed>; 4]) -> Option<[Option<Placed>; 4]>
-    ensures { result ≡ put_placed w men }
+/// One more, if there is room for it.
+fn put<T: Copy>(w: T, there: [Option<T>; 4]) -> Option<[Option<T>; 4]>
+    ensures { result ≡ put w there }
 {
-    match men {
+    match there {
         [None, b, c, d] => Some([Some(w), b, c, d]),
         [a, None, c, d] => Some([a, Some(w), c, d]),
         [a, b, None, d] => Some([a, b, Some(w), d]),
@@ -173,9 +175,9 @@ fn with_men(behind: Behind, men: [Option<Placed>; 4]) -> Behind
 
 /// One more man for these filters.
 fn put_man(w: Placed, filters: Filters) -> Option<[Option<Placed>; 4]>
-    ensures { result ≡ put_placed w filters.men }
+    ensures { result ≡ put w filters.men }
 {
-    put_placed(w, filters.men)
+    put(w, filters.men)
 }
 
 fn with_placed(behind: Behind, w: Option<Placed>) -> Result<Behind, Unread>
@@ -212,7 +214,7 @@ fn with_side_or_man(behind: Behind, word: &[u8]) -> Result<Behind, Unread>
     }
 }
 
-/// A filter on the key move, or on the result that it keeps, needs a theme that has one.
+/// A filter on the key move, the result that it keeps, or the row that it begins, needs a theme that has one.
 fn if_key(theme: Theme, behind: Behind) -> Result<Behind, Unread>
     ensures { result ≡ if_key theme behind }
 {
@@ -327,6 +329,64 @@ fn with_promoted(theme: Theme, behind: Behind, word: &[u8]) -> Result<Behind, Un
     }
 }
 
+/// A feature of the row of only moves: `row-offer`.
+fn read_feature(word: &[u8]) -> Option<Feature>
+    ensures { result ≡ feature_parsed word.now }
+{
+    if word == b"row-underpromotion".as_slice() {
+        Some(Feature::Underpromotion)
+    } else if word == b"row-offer".as_slice() {
+        Some(Feature::Offer)
+    } else if word == b"row-zugzwang".as_slice() {
+        Some(Feature::Zugzwang)
+    } else if word == b"row-stalemate".as_slice() {
+        Some(Feature::Stalemate)
+    } else {
+        None
+    }
+}
+
+fn with_features(behind: Behind, row: [Option<Feature>; 4]) -> Behind
+    ensures { result ≡ record behind { filters = record behind.filters { row = row } } }
+{
+    let mut filters = behind.filters;
+    filters.row = row;
+    Behind {
+        side: behind.side,
+        filters,
+    }
+}
+
+fn with_row(
+    theme: Theme,
+    behind: Behind,
+    row: Option<[Option<Feature>; 4]>,
+) -> Result<Behind, Unread>
+    ensures { result ≡ with_row theme behind row }
+{
+    let Some(row) = row else {
+        return Err(Unread::NoSuchFilter);
+    };
+    if_key(theme, with_features(behind, row))
+}
+
+/// One more feature for these filters.
+fn put_feature(feature: Feature, filters: Filters) -> Option<[Option<Feature>; 4]>
+    ensures { result ≡ put feature filters.row }
+{
+    put(feature, filters.row)
+}
+
+/// Four features at most.
+fn with_feature(theme: Theme, behind: Behind, word: &[u8]) -> Result<Behind, Unread>
+    ensures { result ≡ with_feature theme behind word.now (feature_parsed word.now) }
+{
+    match read_feature(word) {
+        None => with_promoted(theme, behind, word),
+        Some(feature) => with_row(theme, behind, put_feature(feature, behind.filters)),
+    }
+}
+
 /// One more word.
 fn with_word(theme: Theme, behind: Behind, word: &[u8]) -> Result<Behind, Unread>
     ensures { result ≡ with_word theme behind word.now }
@@ -336,7 +396,7 @@ fn with_word(theme: Theme, behind: Behind, word: &[u8]) -> Result<Behind, Unread
     } else if word == b"no-check".as_slice() {
         if_key(theme, without_check(behind))
     } else {
-        with_promoted(theme, behind, word)
+        with_feature(theme, behind, word)
     }
 }
 

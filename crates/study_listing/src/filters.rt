@@ -1,4 +1,4 @@
-//! Filters: the squares of men, the kind of key, and the result.
+//! Filters: the squares of men, the kind of key, the result, and what the row of only moves has.
 #![tactic(auto, using(study_search::proofs::Faults::can_report, study_search::proofs::Faults::if_reported))]
 
 ghost use Rattle.std.specs.Prelude.{◌≡◌, ◌↔◌, true, IfOk, IfErr, IfSome};
@@ -11,6 +11,7 @@ ghost use Rattle.study_listing.specs.Filters.{image_placed, first_placed, is_let
 ghost use Rattle.study_listing.specs.Filters.{promotes_as_wanted, is_on_key, HasWantedResult, no_filters};
 
 use crate::facts::{Wanted, facts_of};
+use crate::features::Feature;
 use study_board::{Kind, Man, Position, Side, Square, Symmetry};
 use study_moves::{Move, in_check, played};
 use study_search::{Outcome, Search, has_only_moves};
@@ -40,6 +41,8 @@ pub struct Filters {
     pub promoted: Option<Kind>,
     /// The side to move must win, or must draw.
     pub result: Option<Outcome>,
+    /// What the row of only moves that is shown must have.
+    pub row: [Option<Feature>; 4],
 }
 
 /// A search and its filters.
@@ -60,6 +63,7 @@ impl Filters {
             no_check: false,
             promoted: None,
             result: None,
+            row: [None; 4],
         }
     }
 }

@@ -7,11 +7,13 @@
 
 mod facts;
 mod fault;
+mod features;
 mod filter_words;
 mod filters;
 mod laws;
 mod listed;
 mod listing;
+mod main_line;
 mod piece;
 mod piece_words;
 mod request;
@@ -19,6 +21,7 @@ mod text;
 
 pub use facts::{Facts, Wanted, facts_of};
 pub use fault::Stop;
+pub use features::Feature;
 pub use filter_words::Unread;
 pub use filters::{Filters, Placed, Selection};
 pub use laws::{

@@ -13,8 +13,10 @@ ghost use Rattle.study_zugzwang.specs.Zugzwang.{handed_on};
 ghost use Rattle.study_listing.specs.Filters.{first_placed, turns};
 ghost use Rattle.study_listing.specs.Lists.{has_like_sides, is_of_zugzwangs, is_for_white, is_paired, second_placed, listed_image};
 ghost use Rattle.study_listing.specs.Lists.{IsOneOfPair, IsListed, IsListedAt, IsTextAt};
+ghost use Rattle.study_listing.specs.LetThrough.{IsLetThrough};
 
 use crate::filters::{Selection, first_placed, has_wanted_key, has_wanted_result};
+use crate::main_line::has_wanted_row;
 use crate::text::{Form, Listed, text_of};
 use study_board::{Position, Side, Symmetry};
 use study_index::decode;
@@ -118,15 +120,14 @@ fn listed_image(selection: &Selection, p: &Position) -> Option<Position>
     }
 }
 
-/// Whether a position that matches the search, and of which an image is shown, is listed.
-fn is_listed<V: Values>(
+/// Whether a position that matches the search passes the filters, but for that of the row.
+fn is_let_through<V: Values>(
     selection: &Selection,
     p: &Position,
     values: &mut V,
 ) -> Result<bool, ProbeFault>
     ensures game { V.source.is_honest values.old → IsLookedFor selection.now.search p.now
-        → is_some (listed_image selection.now p.now) ≡ true
-        → IfOk result (λ b. (b ≡ true) ↔ IsListed selection.now p.now) }
+        → IfOk result (λ b. (b ≡ true) ↔ IsLetThrough selection.now p.now) }
     ensures faults { IfErr result (CanReport V.source (NeedsClass p.now) values.old) }
     ensures honest { V.source.is_honest values.old → V.source.is_honest values.new }
     ensures tables { HasSameTables V.source values.old values.new }
@@ -139,6 +140,28 @@ fn is_listed<V: Values>(
             Ok(false) => Ok(false),
             Ok(true) => has_wanted_result(&selection.filters, p, values),
         },
+    }
+}
+
+/// Whether a position that matches the search, and of which this image is shown, is listed.
+fn is_listed<V: Values>(
+    selection: &Selection,
+    p: &Position,
+    image: &Position,
+    values: &mut V,
+) -> Result<bool, ProbeFault>
+    requires needs { NeedsNoMore p.now image.now }
+    ensures game { V.source.is_honest values.old → IsLookedFor selection.now.search p.now
+        → listed_image selection.now p.now ≡ Some image.now
+        → IfOk result (λ b. (b ≡ true) ↔ IsListed selection.now p.now) }
+    ensures faults { IfErr result (CanReport V.source (NeedsClass p.now) values.old) }
+    ensures honest { V.source.is_honest values.old → V.source.is_honest values.new }
+    ensures tables { HasSameTables V.source values.old values.new }
+{
+    match is_let_through(selection, p, values) {
+        Err(fault) => Err(fault),
+        Ok(false) => Ok(false),
+        Ok(true) => has_wanted_row(&selection.filters, image, values),
     }
 }
 
@@ -161,7 +184,7 @@ fn image_listed<V: Values>(
 {
     match listed_image(selection, p) {
         None => Ok(None),
-        Some(image) => match is_listed(selection, p, values) {
+        Some(image) => match is_listed(selection, p, &image, values) {
             Err(fault) => Err(fault),
             Ok(true) => Ok(Some(image)),
             Ok(false) => Ok(None),

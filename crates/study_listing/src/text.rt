@@ -7,20 +7,20 @@ ghost use Rattle.study_moves.specs.Rules.{is_legal};
 ghost use Rattle.study_material.specs.Needs.{NeedsClass};
 ghost use Rattle.study_search.specs.Faults.{CanReport, HasSameTables};
 ghost use Rattle.study_search.specs.Rows.{IsLine};
-ghost use Rattle.study_values.specs.Game.{IsValueOf};
 ghost use Rattle.study_marks.specs.Marks.{value_words};
-ghost use Rattle.study_listing.specs.Facts.{outcome_by, IsStudyOf, IsTextOf};
+ghost use Rattle.study_listing.specs.Facts.{IsStudyOf, IsTextOf};
 ghost use Rattle.study_listing.specs.MainLines.{few_moves};
 ghost use Rattle.study_listing.specs.Lines.{fen_of, value_after, move_after, line_of};
 ghost use Rattle.study_listing.specs.Lines.{hero_of, side_named, goal_named, stipulation_line, insert_line, lines_below, main_line, study_of};
 
 use crate::facts::{Facts, facts_of, wanted_for};
+use crate::main_line::main_line_of;
 use arrayvec::ArrayString;
 use study_board::{Position, Side};
 use study_marks::value_words;
 use study_moves::{Move, played};
 use study_notation::{Start, write_fen, write_san};
-use study_search::{LongestRow, Outcome, Theme, longest_row, value_of};
+use study_search::{Theme, value_of};
 use study_values::{ProbeFault, Value, Values};
 
 /// The form of a list.
@@ -31,9 +31,6 @@ pub enum Form {
     /// The commands of a script that makes each a study.
     Script,
 }
-
-/// The most only moves in a row that a study has as its main line.
-const LONGEST: u8 = 12;
 
 /// The text of a position: 92 bytes at most of a line; 99 of a study, and 65 for each of its 23 moves at most.
 pub type Listed = ArrayString<1600>;
@@ -233,51 +230,15 @@ fn line_text<V: Values>(p: &Position, theme: Theme, values: &mut V) -> Result<Li
     }
 }
 
-/// What the side to move has to keep.
-fn outcome_by(value: Value) -> Option<Outcome>
-    ensures { result ≡ outcome_by value }
-{
-    match value {
-        Value::Win(_) => Some(Outcome::Win),
-        Value::Loss(_) => None,
-        Value::Draw => Some(Outcome::Draw),
-    }
-}
-
 /// The study with the row; without a row that right values do not give: twelve only moves and the replies between them are 23 moves.
-fn study_with(p: &Position, value: Value, found: &Option<LongestRow>) -> Listed
-    requires { IfSome found.now (λ f. IsLine p.now f.row.items) }
-    ensures { result.bytes ≡ study_of p.now value (few_moves found.now) }
+fn study_with(p: &Position, value: Value, row: &[Move]) -> Listed
+    requires { IsLine p.now row.now }
+    ensures { result.bytes ≡ study_of p.now value (few_moves row.now) }
 {
-    match found {
-        None => study_of(p, value, &[]),
-        Some(found) => {
-            let row = found.row.as_slice();
-            if row.len() > 23 {
-                return study_of(p, value, &[]);
-            }
-            study_of(p, value, row)
-        }
+    if row.len() > 23 {
+        return study_of(p, value, &[]);
     }
-}
-
-/// The study of a position in which the side to move has an outcome to keep.
-fn study_to_keep<V: Values>(
-    p: &Position,
-    value: Value,
-    outcome: Outcome,
-    values: &mut V,
-) -> Result<Listed, ProbeFault>
-    ensures game { V.source.is_honest values.old → IsValueOf p.now value
-        → outcome_by value ≡ Some outcome → IfOk result (λ text. IsStudyOf p.now text.bytes) }
-    ensures faults { IfErr result (CanReport V.source (NeedsClass p.now) values.old) }
-    ensures honest { V.source.is_honest values.old → V.source.is_honest values.new }
-    ensures tables { HasSameTables V.source values.old values.new }
-{
-    match longest_row(p, outcome, LONGEST, values) {
-        Err(fault) => Err(fault),
-        Ok(found) => Ok(study_with(p, value, &found)),
-    }
+    study_of(p, value, row)
 }
 
 /// The study of a position: the result of the side to move, and the longest row of only moves that keep it.
@@ -289,9 +250,9 @@ fn study_text<V: Values>(p: &Position, values: &mut V) -> Result<Listed, ProbeFa
 {
     match value_of(p, values) {
         Err(fault) => Err(fault),
-        Ok(value) => match outcome_by(value) {
-            None => Ok(study_of(p, value, &[])),
-            Some(outcome) => study_to_keep(p, value, outcome, values),
+        Ok(value) => match main_line_of(p, value, values) {
+            Err(fault) => Err(fault),
+            Ok(row) => Ok(study_with(p, value, row.as_slice())),
         },
     }
 }

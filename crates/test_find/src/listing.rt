@@ -156,6 +156,38 @@ fn promotions_and_results_are_filtered(rt: HostRuntime) {
     }
 }
 
+/// The number of positions of KPK that the words list.
+fn count_of<V: CellPages>(rt: &impl Abort, alloc: Global, line: &str, values: &mut V) -> u32 {
+    let mut words = Vec::new(alloc);
+    for word in line.split_ascii_whitespace() {
+        words.push(word.as_bytes()).ok().expect(rt, "memory");
+    }
+    let Ok(Request::Positions(wanted)) = read_request(Class::KPK, words.as_slice()) else {
+        panic!(rt; "no request");
+    };
+    count_found(&wanted, values, &mut NoWatch)
+        .ok()
+        .expect(rt, "values")
+}
+
+/// By an independent program: how many rows of KPK have such a move of the hero, in their first place and behind it.
+#[test]
+fn rows_are_filtered(rt: HostRuntime) {
+    let alloc = rt.alloc();
+    let mut values = tables(&rt, &alloc);
+    for (line, count) in [
+        ("win 1 row-underpromotion", 3u32),
+        ("win 6 row-zugzwang", 8),
+        ("win 5 row-zugzwang wins", 42),
+        ("win 5 row-offer", 0),
+        ("win 5 row-zugzwang row-offer", 0),
+        ("draw 1 row-stalemate", 6),
+        ("draw 2 row-stalemate", 1),
+    ] {
+        assert!(rt; count_of(&rt, alloc, line, &mut values) == count, "{line}");
+    }
+}
+
 /// A writer with room for two lines and one byte accepts these, and then nothing.
 #[test]
 fn a_list_stops_in_its_midst(rt: HostRuntime) {

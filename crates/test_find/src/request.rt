@@ -3,7 +3,7 @@
 use std::alloc::Global;
 use std::process::Abort;
 use study_board::{Kind, Side, Square};
-use study_listing::{Filters, Placed, Request, Selection, Unread, read_request};
+use study_listing::{Feature, Filters, Placed, Request, Selection, Unread, read_request};
 use study_material::Class;
 use study_search::{Outcome, Search, Theme};
 
@@ -72,7 +72,12 @@ fn filters_are_read(rt: HostRuntime) {
     want.filters.no_check = true;
     want.filters.promoted = Some(Kind::Knight);
     want.filters.result = Some(Outcome::Win);
-    let line = "win 5 Kf7 no-check =N pa2-h4 black wins";
+    want.filters.row[0] = Some(Feature::Stalemate);
+    want.filters.row[1] = Some(Feature::Offer);
+    want.filters.row[2] = Some(Feature::Zugzwang);
+    want.filters.row[3] = Some(Feature::Underpromotion);
+    let line =
+        "win 5 Kf7 row-stalemate no-check =N row-offer pa2-h4 black row-zugzwang wins row-underpromotion";
     assert!(rt; read(&rt, alloc, Class::KPKP, line) == Ok(Request::Positions(want)));
 }
 
@@ -89,11 +94,15 @@ win 5 Ka1 Kb1 Kc1 Kd1 Ke1
 win 5 =K
 win 5 =N =N
 underpromotion wins draws
+win 5 row-check
+win 5 row-offer row-offer row-offer row-offer row-offer
+longest white row-offer
 longest white Kf7
 zugzwang no-check red
 zugzwang no-capture
 zugzwang white no-check
 zugzwang =R
+zugzwang row-zugzwang
 zugzwang draws";
 
 /// A refusal for the theme comes before one for the words after it, and among these the first unknown word is refused.
@@ -106,7 +115,7 @@ fn words_are_refused(rt: HostRuntime) {
         number = number.saturating_add(1);
         let want = if number <= 3 {
             Unread::NoSuchTheme
-        } else if number <= 14 {
+        } else if number <= 17 {
             Unread::NoSuchFilter
         } else {
             Unread::NoKeyMove

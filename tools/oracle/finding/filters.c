@@ -4,8 +4,9 @@
 //   cc -O2 -o filters filters.c
 //   ./filters counts KRKP KPKP KQKP          a line each: the class, the theme and its filters, and how many there are
 //   ./filters rows KRKP win 8                the studies with eight only moves in a row or more, a line each, in no order
+//   ./filters rows KRKP win 2 offer          those whose row has a move of this kind
 //   ./filters tries KPPK KPKP                how many have a zugzwang try; how many would have one if any zugzwang counted; and those that differ
-//   ./filters within KRKP 3                  how many have one, two, three only moves in a row, and one of them of each kind
+//   ./filters within KRKP 3                  how many have one, two, three only moves in a row, and how many of their rows have moves of some kinds
 //
 // A class has three men, or four with a pawn, for `counts` and `rows` with one more man a side at most; White has the men named first. A pawn's class takes
 // 17 MB for each class that its moves lead to.
@@ -114,8 +115,8 @@ static U targets(const Pos *p, int i, U occ) {
     return to;
 }
 
-// The legal moves, ascending by the squares that they leave and reach.
-static int moves(const Pos *p, Mv *out) {
+// The legal moves, in no order.
+static int any_moves(const Pos *p, Mv *out) {
     int n = 0, s = p->stm;
     U occ = occupied(p);
     for (int i = 0; i < p->n; i++) {
@@ -128,6 +129,12 @@ static int moves(const Pos *p, Mv *out) {
             for (int k = m.promoted; k <= (last ? N : 0); k++) { m.promoted = k; out[n++] = m; }
         }
     }
+    return n;
+}
+
+// The same, ascending by the squares that they leave and reach.
+static int moves(const Pos *p, Mv *out) {
+    int n = any_moves(p, out);
     if (n > 1) qsort(out, n, sizeof *out, order);
     return n;
 }
@@ -231,26 +238,13 @@ static int with_passing(const Pos *p, int bare, const Table *making) {
 static int value(const Pos *p) { return with_passing(p, bare_value(p), NULL); }
 
 static int decide(const Pos *p, const Table *t) {
-    int any = 0, v = LOSS, s = p->stm;
-    U occ = occupied(p);
-    for (int i = 0; i < p->n; i++) {
-        if (p->side[i] != s) continue;
-        for (U to = targets(p, i, occ); to; to &= to - 1) {
-            int b = __builtin_ctzll(to), last = p->kind[i] == P && rk(b) == (s ? 0 : 7);
-            Mv m = {p->at[i], b, last ? Q : 0};
-            Pos q = play(p, m);
-            if (in_check(&q, s)) continue;
-            any = 1;
-            for (int k = m.promoted; k <= (last ? N : 0); k++) {
-                m.promoted = k;
-                if (last) q = play(p, m);
-                int w = opposite(with_passing(&q, open_value(&q, t), t));
-                if (w == WIN) return WIN;
-                v = better(v, w);
-            }
-        }
+    Mv ms[256];
+    int n = any_moves(p, ms), v = LOSS;
+    for (int i = 0; i < n && v != WIN; i++) {
+        Pos q = play(p, ms[i]);
+        v = better(v, opposite(with_passing(&q, open_value(&q, t), t)));
     }
-    return any ? v : in_check(p, s) ? LOSS : DRAW;
+    return n ? v : in_check(p, p->stm) ? LOSS : DRAW;
 }
 
 static int read_cell(const Table *t, size_t i, Pos *p) {
@@ -475,28 +469,21 @@ static void count_it(const Pos *p) {
     if (o && only_move(p, o, &key)) sums[o == DRAW][key.promoted]++;
 }
 
-static int wanted, length;
-static void write_it(const Pos *p) {
-    if (!has_row(p, wanted, length)) return;
-    char text[128], node[64] = "";
-    int n = length;
-    while (n < 12 && has_row(p, wanted, n + 1)) n++;
-    fen(p, text);
-    printf("position %s|stipulate %s %s|", text, p->stm ? "black" : "white", wanted == WIN ? "win" : "draw");
+// The longest row of only moves, of twelve at most, for a hero who has to find some: each reply is the first that leads on.
+static int row_of(const Pos *p, int outcome, Mv *row) {
+    int n = 1;
+    while (n < 12 && has_row(p, outcome, n + 1)) n++;
     Pos at = *p;
     for (int i = 0; i < 2 * n - 1; i++) {
-        Mv m, ms[256];
-        if (i % 2 == 0) only_move(&at, wanted, &m);
+        Mv ms[256];
+        if (i % 2 == 0) only_move(&at, outcome, &row[i]);
         else {
             int k = moves(&at, ms);
-            for (int j = 0; j < k; j++) { Pos next = play(&at, ms[j]); if (has_row(&next, wanted, n - (i + 1) / 2)) { m = ms[j]; break; } }
+            for (int j = 0; j < k; j++) { Pos next = play(&at, ms[j]); if (has_row(&next, outcome, n - (i + 1) / 2)) { row[i] = ms[j]; break; } }
         }
-        san(&at, m, text);
-        printf("insert %s %s|", i ? node : "root", text);
-        strcat(node, i ? ".0" : "0");
-        at = play(&at, m);
+        at = play(&at, row[i]);
     }
-    printf("pgn\n");
+    return 2 * n - 1;
 }
 
 // ---- mutual zugzwangs
@@ -539,10 +526,10 @@ static void try_it(const Pos *p) {
     if (any != strict) { char text[128]; fen(p, text); printf("# %s %s\n", text, o == WIN ? "win" : "draw"); }
 }
 
-// ---- a move of some row of only moves
+// ---- a move of the hero in the row that is shown
 
-enum { UNDERPROMOTION, SACRIFICE, ZUGZWANG, STALEMATE, KINDS };
-static const char *kinds[] = {"underpromotion", "sacrifice", "zugzwang", "stalemate"};
+enum { UNDERPROMOTION, OFFER, ZUGZWANG, STALEMATE, KINDS };
+static const char *kinds[] = {"underpromotion", "offer", "zugzwang", "stalemate"};
 
 // The move that led from p to q promotes to less than a queen; its man can be taken, in passing too; leads into a mutual zugzwang; stalemates.
 static int is_such(const Pos *p, Mv m, const Pos *q, int kind) {
@@ -555,24 +542,65 @@ static int is_such(const Pos *p, Mv m, const Pos *q, int kind) {
     return 0;
 }
 
-static int has_row_with(const Pos *p, int outcome, int n, int kind) {
-    Mv key, ms[256];
-    if (!n || result(p) != outcome || !only_move(p, outcome, &key)) return 0;
-    Pos q = play(p, key);
-    if (is_such(p, key, &q, kind)) return has_row(p, outcome, n);
-    int replies = n > 1 ? moves(&q, ms) : 0;
-    for (int i = 0; i < replies; i++) { Pos r = play(&q, ms[i]); if (has_row_with(&r, outcome, n - 1, kind)) return 1; }
-    return 0;
+// The kinds in the row, a bit each.
+static unsigned kinds_in(const Pos *p, int outcome) {
+    Mv row[23];
+    int n = row_of(p, outcome, row);
+    unsigned in = 0;
+    Pos at = *p;
+    for (int i = 0; i < n; i++) {
+        Pos next = play(&at, row[i]);
+        for (int k = 0; i % 2 == 0 && k < KINDS; k++) in |= (unsigned)is_such(&at, row[i], &next, k) << k;
+        at = next;
+    }
+    return in;
 }
 
-static int longest;
-static long withs[2][64][KINDS + 1];
+static int wanted, length;
+static unsigned asked;
+static void write_it(const Pos *p) {
+    if (!has_row(p, wanted, length) || (kinds_in(p, wanted) & asked) != asked) return;
+    char text[128], node[64] = "";
+    Mv row[23];
+    int n = row_of(p, wanted, row);
+    fen(p, text);
+    printf("position %s|stipulate %s %s|", text, p->stm ? "black" : "white", wanted == WIN ? "win" : "draw");
+    Pos at = *p;
+    for (int i = 0; i < n; i++) {
+        san(&at, row[i], text);
+        printf("insert %s %s|", i ? node : "root", text);
+        strcat(node, i ? ".0" : "0");
+        at = play(&at, row[i]);
+    }
+    printf("pgn\n");
+}
+
+static int most;
+static long withs[2][13][1 << KINDS];
 static void row_it(const Pos *p) {
     int o = result(p);
-    for (int n = 1; o && n <= longest && has_row(p, o, n); n++) {
-        withs[o == DRAW][n][KINDS]++;
-        for (int k = 0; k < KINDS; k++) withs[o == DRAW][n][k] += has_row_with(p, o, n, k);
-    }
+    if (!o || !has_row(p, o, 1)) return;
+    unsigned in = kinds_in(p, o);
+    for (int n = 1; n <= most && has_row(p, o, n); n++) withs[o == DRAW][n][in]++;
+}
+
+// The positions whose row has all of these kinds.
+static long with_all(const long *counts, unsigned wanted_kinds) {
+    long all = 0;
+    for (unsigned in = 0; in < 1 << KINDS; in++) if ((in & wanted_kinds) == wanted_kinds) all += counts[in];
+    return all;
+}
+
+static void write_withs(const char *class) {
+    for (int o = 0; o < 2; o++)
+        for (int n = 1; n <= most; n++)
+            for (unsigned some = 0; some < 1 << KINDS; some++) {
+                long all = with_all(withs[o][n], some);
+                if (!all && some & (some - 1)) continue; // no line for two kinds that no row has
+                printf("%s\t%s %d", class, o ? "draw" : "win", n);
+                for (int k = 0; k < KINDS; k++) if (some >> k & 1) printf(" row-%s", kinds[k]);
+                printf("\t%ld\n", all);
+            }
 }
 
 int main(int argc, char **argv) {
@@ -588,13 +616,9 @@ int main(int argc, char **argv) {
         }
         return 0;
     }
-    if (argc == 4 && !strcmp(argv[1], "within") && (longest = atoi(argv[3])) < 64) {
+    if (argc == 4 && !strcmp(argv[1], "within") && (most = atoi(argv[3])) < 13) {
         each(argv[2], row_it);
-        for (int o = 0; o < 2; o++)
-            for (int n = 1; n <= longest; n++) {
-                printf("%s\t%s %d\t%ld\n", argv[2], o ? "draw" : "win", n, withs[o][n][KINDS]);
-                for (int k = 0; k < KINDS; k++) printf("%s\t%s %d with-%s\t%ld\n", argv[2], o ? "draw" : "win", n, kinds[k], withs[o][n][k]);
-            }
+        write_withs(argv[2]);
         return 0;
     }
     if (argc >= 3 && !strcmp(argv[1], "counts")) {
@@ -611,11 +635,12 @@ int main(int argc, char **argv) {
         }
         return 0;
     }
-    if (argc == 5 && !strcmp(argv[1], "rows")) {
+    if (argc >= 5 && !strcmp(argv[1], "rows")) {
         wanted = !strcmp(argv[3], "win") ? WIN : DRAW; length = atoi(argv[4]);
+        for (int a = 5; a < argc; a++) for (int k = 0; k < KINDS; k++) asked |= (unsigned)!strcmp(argv[a], kinds[k]) << k;
         each(argv[2], write_it);
         return 0;
     }
-    fprintf(stderr, "usage: filters counts CLASS.. | rows CLASS win|draw N | tries CLASS.. | within CLASS N\n");
+    fprintf(stderr, "usage: filters counts CLASS.. | rows CLASS win|draw N [KIND ..] | tries CLASS.. | within CLASS N\n");
     return 2;
 }

@@ -25,8 +25,8 @@ def documents(user):
     return user.js("return Object.keys(localStorage).filter(key => key.startsWith('studyboard.head.')).length")
 
 
-def find(user, theme, n=""):
-    """A search in KPK to its end; the positions in the list."""
+def find(user, theme, n="", row=""):
+    """A search in KPK to its end, for rows that have this; the positions in the list."""
     user.open_tables(TABLES, SMALL)
     user.click("findButton")
     user.choose("findClass", "KPK")
@@ -34,6 +34,8 @@ def find(user, theme, n=""):
     if n:
         user.fill("findN", n)
         user.js("document.getElementById('findN').dispatchEvent(new Event('input', {bubbles: true}))")
+    if row:
+        user.choose("findRow", row)
     user.click("findGo")
     user.until("/: all there are\\.$/.test(document.getElementById('findState').innerText)", 120)
     return user.js("return [...document.querySelectorAll('[data-found]')].map(e => e.getAttribute('data-found'))")
@@ -87,6 +89,21 @@ def test_hits_are_looked_at_and_kept_once_changed(user):
     user.d.find_element(By.XPATH, "//*[@data-kept][contains(., 'Composer')]").click()
     user.settle()
     assert script(user) == kept
+
+
+def test_rows_with_a_feature(user):
+    """By an independent program: eight of the 15 wins have a zugzwang in their row, and six draws a stalemate."""
+    fens = find(user, "win N", "6", "row-zugzwang")
+    assert len(fens) == 8 and "8/8/8/1k6/8/8/K5P1/8 w - - 0 1" in fens, fens
+    user.choose("findTheme", "zugzwang")
+    assert not user.has("findRow")
+    user.click("closeFinding")
+    fens = find(user, "draw N", "1", "row-stalemate")
+    assert len(fens) == 6 and "K7/8/P7/2k5/8/8/8/8 b - - 0 1" in fens, fens
+    user.press_on('[data-found="K7/8/P7/2k5/8/8/8/8 b - - 0 1"]')
+    user.settle()
+    assert re.findall(r"^insert \S+ (.*)$", script(user), re.M) == ["Kb6", "a7", "Kc7"], script(user)
+    assert user.text("finds").startswith("KPK draw 1 row-stalemate: "), user.text("finds")
 
 
 def test_a_reload_shows_the_document_before_a_look(user):

@@ -1,11 +1,13 @@
-use Rattle.std.proofs.Common.{sym, ◌∙◌}
-use Rattle.study_listing.proofs.MainLines.{study-lost}
+use Rattle.std.proofs.Common.{List, ap, ◌∙◌}
+use Rattle.study_moves.specs.declared.moves.Move.{Move}
+use Rattle.study_listing.specs.Lines.{study_of}
+use Rattle.study_listing.specs.MainLines.{few_moves}
+use Rattle.study_listing.proofs.MainLines.{study-shown}
 use Rattle.study_listing.proofs.text.study_text.Goals as goal
 
-pub returns-in-None-clause-game : goal.returns-in-None-clause-game
-returns-in-None-clause-game g c h =
-    study-lost c.args.p.now c.in-Ok.value c.study_of.result.bytes (c.in-Ok.ensures.game h) (sym c.outcome_by.ensures ∙ c.in-None.is) c.study_of.ensures
-
-pub returns-in-Some-clause-game : goal.returns-in-Some-clause-game
-returns-in-Some-clause-game g c h =
-    c.study_to_keep.ensures.game (c.value_of.ensures.honest h) (c.in-Ok.ensures.game h) (sym c.outcome_by.ensures ∙ c.in-Some.is)
+pub returns-in-Ok-main_line_of-clause-game : goal.returns-in-Ok-main_line_of-clause-game
+returns-in-Ok-main_line_of-clause-game g c h =
+    let is = c.in-Ok.ensures.game h in
+    study-shown c.args.p.now c.in-Ok.value c.in-Ok-main_line_of.row.items c.study_with.result.bytes is
+    (c.in-Ok-main_line_of.ensures.game (c.value_of.ensures.honest h) is)
+    (c.study_with.ensures ∙ ap (λ (r : List Move). study_of c.args.p.now c.in-Ok.value (few_moves r)) c.as_slice.ensures.value)
