@@ -133,6 +133,8 @@ export function typedFen(text, mover) {
   const listing = fromControl(text), fields = (listing ? `${listing} ${mover} - - 0 1` : text).trim().split(/\s+/);
   const bad = drawingFault(fields[0]);
   if (bad) return {bad};
+  if (fields[1] && !/^[wb]$/.test(fields[1]))
+    return {bad: `No position: behind the ranks stands w or b, the side to move, and this has ${fields[1]}.`};
   const rest = ['w', '-', '-', '0', '1'].map((d, i) => fields[i + 1] || (i === 0 ? mover : d));
   return {fen: [fields[0], ...rest].join(' ')};
 }

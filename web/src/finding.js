@@ -143,5 +143,5 @@ export function searchText({at, of, found, many, ended}, advice) {
   const whole = of > 0 && at >= of, first = `the first ${found.length} are listed${advice}`,
         end = {all: 'all there are', enough: whole ? `all there are, and ${first}` : first, stopped: 'stopped'}[ended];
   const part = whole || !of ? '' : `; ${Math.floor(100 * at / of)} % looked at`;
-  return `${counted(many, 'position')} found${part}: ${end || 'searching …'}.`;
+  return `${counted(many, 'position')} found${part}: ${end ? `${end}.` : 'searching …'}`;
 }

@@ -13,5 +13,7 @@ export function lookOf(text) {
   const line = text.trim();
   if (looksLikePgn(text)) return 'pgn';
   if (linesOf(text).some(isCommand)) return 'script';
-  return !line.includes('\n') && 'fen' in typedFen(line, 'w') ? 'position' : '';
+  return !line.includes('\n') && ('fen' in typedFen(line, 'w') || MEANT.test(line)) ? 'position' : '';
 }
+/** Ranks with / between them, in whatever number and of whatever length. */
+const MEANT = /^[1-9KQRBNPkqrbnp]+(\/[0-9a-z]+){5,9}(\s|$)/i;

@@ -2,7 +2,7 @@
 // Below the board: the way through the tree, and the legal moves of the node by what each leaves.
 import {button, h} from './dom.js';
 import {control, other, sideOf, squareName} from './fen.js';
-import {change, go} from './actions.js';
+import {change, go, idle} from './actions.js';
 import {app, doc, node, services, say} from './state.js';
 import {flip} from './board.js';
 import {shownText, wordsIn} from './comments.js';
@@ -58,7 +58,11 @@ export function navView(n) {
     autocapitalize: 'off',
     spellcheck: 'false',
     value: typedOr('san', ''),
-    onchange: (/** @type {any} */ e) => typedMoves(e.target.value)
+    onchange: (/** @type {any} */ e) => {
+      const text = e.target.value;
+      e.target.value = '';
+      typedMoves(text);
+    }
   });
   return [
     h('div', {class: 'group'},
@@ -78,9 +82,17 @@ export function navView(n) {
  * @param {string | undefined} san
  */
 const squares = san => (san || '').replace(/^[KQRBN]|[+#!?=x]/g, '');
+let entering = Promise.resolve();
+/**
+ * Moves are played behind those that are under way.
+ * @param {string} text
+ */
+function typedMoves(text) {
+  if (!refuseLong({id: 'san', value: ''}, text)) entering = entering.then(() => enter(text));
+}
 /** @param {string} text */
-async function typedMoves(text) {
-  if (refuseLong({id: 'san', value: ''}, text)) return;
+async function enter(text) {
+  await idle();
   const sans = movesIn(text), [first] = sans,
         named =
           app.view && app.view.moves.find(m => squareName(m.from) + squareName(m.to) + m.promoted === squares(first));

@@ -57,6 +57,7 @@ export async function search(wanted, spawn, report, signal) {
    */
   async function look(core, first) {
     await services.tables.loadFor(fens, core);
+    if (first && !over()) report(now);
     for (let size = PIECE; !over() && (first || next < now.of); first = false) {
       const from = next, began = performance.now();
       next += size;

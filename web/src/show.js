@@ -26,12 +26,14 @@ import {speakDraft, speakNode, speakState, speakVerdict} from './spoken.js';
 import {textsView} from './texts_view.js';
 import {faultsView, verdictView} from './verdict_view.js';
 import {keyView, listenToTree, markCurrent, showTree} from './tree_view.js';
+import {drawn, typeAgain, typedNow, watchTyping} from './typing.js';
 import {wordOf} from './wording.js';
 
 let pressing = false, tabbing = false;
 const late = /** @type {Set<() => void>} */ (new Set());
 export function watch() {
   listenToTree();
+  watchTyping();
   onDocument('pointerover', pointedAt);
   onDocument('keydown', leaving, true);
   addEventListener('scroll', () => {
@@ -91,7 +93,8 @@ function focused() {
   return {
     id: focus.id,
     place: by ? `[${by}="${focus.getAttribute(by)}"]` : focus.tagName,
-    name: by ? null : nameIn(focus)
+    name: by ? null : nameIn(focus),
+    typed: typedNow()
   };
 }
 /**
@@ -175,14 +178,17 @@ export function show() {
 }
 /**
  * Focus stays where it was, though everything is drawn again.
- * @param {{id: string, place: string, name: string | null}} kept
+ * @param {ReturnType<typeof focused>} kept
  */
-function refocus({id, place, name}) {
+function refocus({id, place, name, typed}) {
+  drawn();
   if (document.activeElement !== document.body || place === 'BODY') return;
   const again = id
     ? $(id)
     : /** @type {any} */ ([...document.querySelectorAll(place)].find(e => name === null || nameIn(e) === name));
-  if (again) again.focus({preventScroll: true});
+  if (!again) return;
+  again.focus({preventScroll: true});
+  typeAgain(again, typed);
 }
 /** A refusal that is off the screen is shown below the bar too, until the page is scrolled. */
 function hint() {

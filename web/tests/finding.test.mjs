@@ -72,7 +72,7 @@ test('what can have stood before a position', () => {
 });
 test('how a search stands', () => {
   const search = {at: 50, of: 100, found: Array(3), many: 3, ended: ''}, advice = narrowing('zugzwang', 4);
-  assert.equal(searchText(search, advice), '3 positions found; 50 % looked at: searching ….');
+  assert.equal(searchText(search, advice), '3 positions found; 50 % looked at: searching …');
   assert.equal(searchText({...search, ended: 'stopped'}, advice), '3 positions found; 50 % looked at: stopped.');
   assert.equal(partText({...search, ended: 'stopped'}), ' so far, 50 % looked at');
   assert.equal(partText({...search, ended: 'enough'}), ' that are listed');

@@ -12,7 +12,7 @@ import sys
 import tempfile
 import time
 
-from user import By, run
+from user import ActionChains, By, Keys, run
 
 TABLES = os.path.abspath(sys.argv[1])
 FEN = "8/8/8/6k1/8/8/1P5K/8 w - - 0 1"
@@ -151,6 +151,27 @@ def test_trees_are_given_up_with_the_survey(user):
     user.choose("surveyMan", "15")
     user.until("document.getElementById('stands')", 30)
     assert not user.has("lookAtTrees")
+
+
+def test_what_is_typed_stays_in_its_field(user):
+    """A move arrives while words are being typed: they are those on this move, and none is lost."""
+    opened(user)
+    typed = ActionChains(user.d).send_keys
+    user.by("note").click()
+    typed("Not the").perform()
+    user.js("document.querySelector('[data-san=Kg2]').click()")
+    user.settle()
+    field = user.d.switch_to.active_element
+    assert field.get_attribute("id") == "note" and field.get_attribute("value") == "Not the", field
+    typed(" king.").perform()
+    typed(Keys.TAB).perform()
+    user.settle()
+    assert [line for line in script(user).splitlines() if line[0] == "#"] == ["#! note Kg2: Not the king."], script(user)
+    user.by("san").click()
+    typed("Kh4" + Keys.ENTER).perform()
+    typed("Kf3" + Keys.ENTER).perform()
+    user.until("document.getElementById('script').value.includes('insert 1.0 ')", 30)
+    assert script(user).splitlines()[-2:] == ["insert 1 Kh4", "insert 1.0 Kf3"], script(user)
 
 
 def test_which_of_several_typed_moves_is_refused(user):

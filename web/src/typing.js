@@ -1,0 +1,60 @@
+// @ts-check
+// What is being typed stays in its field, whatever is drawn anew around it, and is handed over as the browser would.
+import {onDocument} from './dom.js';
+import {doc} from './state.js';
+/** @typedef {HTMLInputElement | HTMLTextAreaElement} Field */
+/** @typedef {{id: string, value: string, start: number | null, end: number | null, of: string, at: number}} Typed */
+
+/** The field with words that were not handed over yet. */
+let typing = /** @type {Field | null} */ (null);
+/** Fields that were drawn with such words: the browser does not know that the user typed them. */
+const owed = /** @type {WeakSet<Field>} */ (new WeakSet());
+/** Whether the page is being drawn: a field that goes then was not left. */
+let drawing = false;
+/** @param {any} element */
+const isField = element => element instanceof HTMLTextAreaElement ||
+  (element instanceof HTMLInputElement && /^(text|search)$/.test(element.type));
+/** @param {Field} field */
+function handOver(field) {
+  if (owed.has(field) && field.isConnected && !drawing) field.dispatchEvent(new Event('change', {bubbles: true}));
+}
+export function watchTyping() {
+  // A browser hands over what stands in a field that is taken out while it is typed in.
+  document.addEventListener('change', e => drawing && e.stopImmediatePropagation(), true);
+  onDocument('input', e => {
+    if (isField(e.target)) typing = /** @type {Field} */ (e.target);
+  });
+  onDocument('change', e => {
+    const field = /** @type {Field} */ (e.target);
+    owed.delete(field);
+    if (typing === field) typing = null;
+  });
+  onDocument('focusout', e => handOver(/** @type {Field} */ (e.target)));
+  onDocument('keydown', e => {
+    if (e.key === 'Enter' && e.target instanceof HTMLInputElement) setTimeout(handOver, 0, e.target);
+  });
+}
+/**
+ * What is being typed in the field with the focus, before the page is drawn.
+ * @returns {Typed | null}
+ */
+export function typedNow() {
+  drawing = true;
+  if (!typing || typing !== document.activeElement || !typing.id) return null;
+  const {id, value, selectionStart: start, selectionEnd: end} = typing;
+  return {id, value, start, end, of: doc().id, at: doc().at};
+}
+export function drawn() { drawing = false; }
+/**
+ * The same in the field that was drawn in its place, of the same study.
+ * @param {any} field
+ * @param {Typed | null} typed
+ */
+export function typeAgain(field, typed) {
+  if (!typed || !isField(field) || field.id !== typed.id || doc().at !== typed.at) return;
+  if (typed.of && doc().id !== typed.of) return;
+  field.value = typed.value;
+  field.setSelectionRange(typed.start, typed.end);
+  typing = field;
+  owed.add(field);
+}
