@@ -173,7 +173,8 @@ export function remarksOf(game) {
       if (text !== tags.Result) out.push(`#! result ${text}`);
     } else if (!first) {
       if (own && kind === 'comment' && ACCEPTED.test(text)) out.push(`#! accepted ${key}: dual`);
-      out.push(...noteLines(key, own && kind === 'comment' ? withoutOurs(text) : text));
+      const words = own && kind === 'comment' ? withoutOurs(text) : text;
+      out.push(...noteLines(key, key === '-' && kind === 'comment' ? words.replace(AIM, '') : words));
     } else if (!said.some(other => other.key === key && other.kind === 'nag' && other.place === 'comment'))
       out.push(`#! mark ${key}: ${text}`);
   }
@@ -199,6 +200,8 @@ const VALUE = '(draw|mate|(White|Black) mates in \\d+)',
       OPENING = new RegExp(`^${VERDICT}(\\. |$)`), SAID = new RegExp(`\\{${VERDICT}(?=[.}])`, 'g'),
       OURS = new RegExp(`(^|(?<=[.!?:;,\\])]) )${VALUE}(; dual \\d+(; accepted)?)?$`);
 const ACCEPTED = new RegExp(`${VALUE}; dual \\d+; accepted$`);
+/** What is to be done, as this page writes it: it is written again, whatever the author says behind it. */
+const AIM = /^(White|Black) to (win|draw|mate in \d+)(\. |$)/;
 /** What games that were saved before say behind `sound` where there is no solution. */
 const NO_MOVE = 'holds: no move of the solution is given';
 /**

@@ -27,6 +27,12 @@ const OURS = `[Event "Rigaer Tageblatt"]
 1-0
 
 `;
+test('a stipulation before the first move is written again, and is not one of the author\'s words', () => {
+  const game = (/** @type {string} */ words) => `[FEN "8/8/8/6k1/8/8/1P5K/8 w - - 0 1"]\n\n{${words}} 1. Kg3 *\n`;
+  assert.deepEqual(remarksOf(game('White to win. After Grigoriev')), ['#! note -: After Grigoriev', '#! result *']);
+  assert.deepEqual(remarksOf(game('White to mate in 12')), ['#! result *']);
+  assert.deepEqual(remarksOf(game('White to play and win')), ['#! note -: White to play and win', '#! result *']);
+});
 test('title and author of a game that is left out', () => {
   assert.deepEqual(namesOf(GAME), ['#! its Event was: Rigaer Tageblatt', '#! its White was: Reti']);
   assert.deepEqual(namesOf('[Event "?"]\n[White "A \\"B\\" C"]\n\n1. e4 *\n'), ['#! its White was: A "B" C']);

@@ -166,7 +166,7 @@ def test_what_is_typed_stays_in_its_field(user):
     typed(" king.").perform()
     typed(Keys.TAB).perform()
     user.settle()
-    assert [line for line in script(user).splitlines() if line[0] == "#"] == ["#! note Kg2: Not the king."], script(user)
+    assert [line for line in script(user).splitlines() if line[0] == "#"] == ["#! note Kg2: Not the king."]
     user.by("san").click()
     typed("Kh4" + Keys.ENTER).perform()
     typed("Kf3" + Keys.ENTER).perform()
