@@ -68,6 +68,7 @@ function actionsView(head, all) {
   const naming = () => {
     set({naming: head.id});
     $('nameKept').focus();
+    $('nameKept').select();
   };
   return [
     smallButton('Name', 'give it a name', naming, {'aria-label': `Name ${name}`, 'data-name': head.id}), ' ',

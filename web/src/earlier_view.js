@@ -52,9 +52,8 @@ function stop() {
  * @param {import('./types.js').Study} s
  */
 function longestView(s) {
-  if (!intro && !going)
-    return h(
-      'p', {}, button('Longest introduction', 'search back as far as only moves go', searchLongest, {id: 'longest'}));
+  const again = button('Longest introduction', 'search back as far as only moves go', searchLongest, {id: 'longest'});
+  if (!intro && !going) return h('p', {}, again);
   const hero = s.aim ? s.aim.hero : 'White', best = intro ? intro.best : [], own = ownMoves(best, hero),
         seconds = intro ? Math.round((performance.now() - intro.began) / 1000) : 0,
         looked = counted(intro ? intro.looked : 0, 'position');
@@ -71,8 +70,9 @@ function longestView(s) {
         button(going.signal.aborted ? 'Stopping …' : 'Stop', 'keep what was found', stop,
           {id: 'longestStop', disabled: going.signal.aborted})),
     best.length > 0 &&
-      h('p', {}, best.map(move => `${move.san}${markSign(move)} `),
-        button('Begin with these', 'put them in front of the study', take, {id: 'longestBegin'}))
+      h('p', {}, best.map(move => [move.san, markSign(move), h('small', {}, ` from ${squareName(move.from)} `)]),
+        button('Begin with these', 'put them in front of the study', take, {id: 'longestBegin'})),
+    !going && intro && !intro.ended && h('p', {}, again)
   ];
 }
 export function openEarlier() {
