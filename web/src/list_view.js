@@ -124,6 +124,12 @@ export function studyBeside(by) {
   const order = shownEntries().map(({at}) => at).filter(at => at >= 0), here = order.indexOf(doc().at);
   return here >= 0 ? order[here + by] : order[by > 0 ? 0 : order.length - 1];
 }
+/** Why no row is shown. */
+function noneText() {
+  const [, n = 0] = countsOf(knownEntries(doc())).find(([kind]) => kind === ui.filter) || [];
+  return n ? `None of the ${n} ${kindWords(ui.filter)} has this name; one more press on that count shows all entries.`
+           : 'No entry has this name.';
+}
 /** The rows that are wanted, in their order. */
 function rowsView() {
   const all = knownEntries(doc()), shown = shownEntries();
@@ -133,21 +139,27 @@ function rowsView() {
   };
   const heads =
     wordsNamed('list-heads').map((head, i) => sortHead(head.replace('pul', 'pu\u00adl'), COLUMNS[i], ui.order, set));
-  if (!shown.length) return h('p', {class: 'note'}, 'No entry has this name.');
+  if (!shown.length) return h('p', {class: 'note'}, noneText());
   const shared = sharedOf(all);
   return [sharedView(shared), table(heads, shown, entry => cellsOf(entry, numberButton(entry), shared))];
 }
 /** What can be done with the list as a whole. */
 function toolsView() {
+  const named = (/** @type {string} */ text) => {
+    ui.find = text.slice(0, 200);
+    drawRows();
+  };
   const find = h('input', {
     id: 'findEntry',
     type: 'search',
     placeholder: 'find a name',
     'aria-label': 'Find a title, an author or a number',
     value: ui.find,
-    oninput: (/** @type {any} */ e) => {
-      ui.find = e.target.value.slice(0, 200);
-      drawRows();
+    oninput: (/** @type {any} */ e) => named(e.target.value),
+    onkeydown: (/** @type {any} */ e) => {
+      if (e.key !== 'Escape') return;
+      e.target.value = '';
+      named('');
     }
   });
   return h('p', {class: 'row act'}, find, h('span', {id: 'findAll'}),

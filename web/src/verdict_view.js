@@ -221,6 +221,8 @@ function lineFrom(n) {
   for (; at.children[0] && sans.length < 8; at = at.children[0]) sans.push(at.children[0].san);
   return numberedLine(n.parent ? n.parent.fen : n.fen, sans) + (at.children[0] ? ' ..' : '');
 }
+/** So many moves that remain are named. */
+const MOST_NAMED = 8;
 /**
  * How many of the other moves only waste time.
  * @param {Study} s
@@ -234,10 +236,12 @@ function timeView(s, root) {
     const n = nodeAt(root, f.path);
     return (n && n.parent ? moveNumber(n.parent.fen) : '') + a.san;
   }));
+  const first = rest.slice(0, MOST_NAMED), more = all - idle - first.length;
   return h('p', {},
     h('b', {}, all === 1 ? 'This one wastes time' : `${idle} of these ${all} ${idle === 1 ? 'wastes' : 'waste'} time`),
     `: ${other(s.aim.hero)} forces a position of the same line again. `,
-    rest.length ? ['There remains: ', h('b', {}, rest.slice(0, 8).join(', ')), '.'] : 'None remains.');
+    first.length ? ['There remains: ', h('b', {}, first.join(', ')), more > 0 && ` and ${more} more`, '.']
+                 : 'None remains.');
 }
 /**
  * What could be said of this position instead: of a try nothing, since it is to fail.
