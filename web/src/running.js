@@ -185,7 +185,7 @@ async function loadsOf(names) {
  * Runs studies that were never run, those that need the same tables together, so that the program holds no more than
  * these: each behind what it takes over if every line before it is accepted. Where that is not so it is run again.
  * @param {Sent[][]} blocks
- * @param {(done: number, of: number) => void} report
+ * @param {(done: number) => void} report
  */
 async function runByTables(blocks, report) {
   const groups = /** @type {Map<string, {block: Sent[], carried: Carried}[]>} */ (new Map());
@@ -206,7 +206,7 @@ async function runByTables(blocks, report) {
       const some = list.slice(at, at + AT_A_TIME);
       await runApart(key.split(' ').filter(Boolean), some);
       done += some.length;
-      report(done, blocks.length);
+      report(done);
     }
   }
 }
@@ -237,8 +237,9 @@ export async function repliesFor(lines, report = () => {}) {
     return {sent, replies: (await repliesTo([...loads, ...sent.map(({text}) => text)])).slice(loads.length)};
   }
   const blocks = blocksOf(sent), names = await services.tables.classesOf(fensOf(linesOf(blocks.filter(isFresh))));
-  if (services.tables.isTooMuch(names)) await runByTables(blocks, report);
-  const headless = blocks[0] && !isPosition(blocks[0][0].text) ? 1 : 0;
+  const headless = blocks[0] && !isPosition(blocks[0][0].text) ? 1 : 0,
+        told = (/** @type {number} */ done) => report(done - headless, blocks.length - headless);
+  if (services.tables.isTooMuch(names)) await runByTables(blocks, told);
   let carried = /** @type {Carried} */ ({aim: null, tags: {}});
   const take = (/** @type {Sent[]} */ block, /** @type {string[]} */ own) => {
     replies.push(...own);
@@ -260,7 +261,7 @@ export async function repliesFor(lines, report = () => {}) {
       take(block, own);
     }
     at += some.length;
-    if (blocks.length > MANY) report(at - headless, blocks.length - headless);
+    if (blocks.length > MANY) told(at);
   }
   return {sent, replies};
 }
