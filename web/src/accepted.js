@@ -2,6 +2,7 @@
 // Duals that a judge accepts: a tick at each, kept as a remark of the script at the moves that lead to it.
 import {plain} from './notes.js';
 import {cutAt, ownRemark} from './remarks.js';
+import {counted} from './words.js';
 /** @typedef {import('./types.js').Study} Study */
 /** @typedef {{path: string, san: string, children: Node[]}} Node      of a tree, whether it is judged or not */
 
@@ -60,10 +61,13 @@ export function accept(lines, study, root, path, yes) {
  * @param {string} text      the stamp without them
  * @param {number} accepted
  * @param {number} faults
+ * @param {boolean} named      whether the one that the stamp names is accepted
  * @returns {{kind: string, text: string} | null}
  */
-export function acceptedStamp(text, accepted, faults) {
+export function acceptedStamp(text, accepted, faults, named) {
   if (!accepted) return null;
+  if (named && accepted < faults)
+    return {kind: 'duals', text: `${text} (accepted); ${counted(faults - accepted, 'dual')} not accepted`};
   return accepted === faults
     ? {kind: 'accepted', text: `sound but for ${accepted} accepted ${accepted === 1 ? 'dual' : 'duals'}`}
     : {kind: 'duals', text: `${text}, ${accepted} accepted`};

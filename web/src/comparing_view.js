@@ -9,6 +9,7 @@ import {differences} from './comparing.js';
 import {headAt, linesOf} from './documents.js';
 import {numbersOf, studyName} from './entries.js';
 import {diagramOf} from './drawing.js';
+import {isOfGame} from './imported.js';
 import {aloneLines} from './study_edits.js';
 import {reviewFor} from './list_facts.js';
 import {stampOf} from './stamps.js';
@@ -83,7 +84,10 @@ export const compare = chosen => work(async () => {
 function takeView({id, lines}, study) {
   const isOther = pair && id !== doc().id && pair.sides.some(side => side.id === doc().id);
   const take = () => change(now => ({
-    lines: [...now.lines, ...(now.lines.length ? [''] : []), ...aloneLines(lines, /** @type {Study} */ (study))],
+    lines: [
+      ...now.lines, ...(now.lines.length ? [''] : []),
+      ...aloneLines(lines, /** @type {Study} */ (study)).filter(line => !isOfGame(line))
+    ],
     at: now.studies.length,
     path: 'root',
     lenient: true

@@ -78,7 +78,9 @@ function longestView(s) {
 export function openEarlier() {
   $('earlier').hidden = false;
   chosen = [];
-  return look(study().fen);
+  const looked = look(study().fen);
+  $('earlier').scrollIntoView({block: 'nearest'});
+  return looked;
 }
 /** A search ends with its panel. Whether it was open. */
 export function close() {

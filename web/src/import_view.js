@@ -7,7 +7,7 @@ import {remedyOf} from './cut_game.js';
 import {leftOutBy} from './left_out.js';
 import {asked, gamesWithoutAim, openHeld, readAs} from './mending.js';
 import {lastOpened, openPgn} from './opening.js';
-import {doc} from './state.js';
+import {app, doc, say, services} from './state.js';
 import {aimText, counted, readAim} from './words.js';
 /** @typedef {import('./opening.js').Source} Source */
 
@@ -37,9 +37,14 @@ function aimsView({bytes, name, id, waiting, how}) {
  * @param {Source} again
  */
 function codesView({bytes, name, how, foreign}) {
+  const readAnew = async (/** @type {typeof how} */ now) => {
+    await openPgn(bytes, 'board', name, now);
+    if (!app.say) say('board', 'The PGN was read again. Undo brings back what was changed since it was opened.', true);
+    services.show();
+  };
   const codeButton = (/** @type {[string, string]} */[code, words]) =>
     smallButton(`${words}: ${textIn(foreign[0].name, code)}`, 'read the PGN again, in this code page',
-      () => track(openPgn(bytes, 'board', name, {...how, code})),
+      () => track(readAnew({...how, code})),
       {'data-code': code, 'aria-pressed': `${how.code === code}`, class: `chip act${how.code === code ? ' on' : ''}`});
   return foreign.length > 0 &&
     h('p', {class: 'row', id: 'codes', role: 'group', 'aria-label': 'The code page of the names'},

@@ -165,7 +165,7 @@ export const noteLines = (moves, text) => partsOf(
 export function remarksOf(game) {
   const [tags, movetext] = parts(game), own = isOwn(movetext), out = /** @type {string[]} */ ([]);
   for (const [name, text] of Object.entries(tags))
-    if (!OWN_TAGS.has(name)) out.push(`#! tag ${name} ${text}`);
+    if (!OWN_TAGS.has(name)) out.push(`#! tag ${name} ${text.replace(/\\(["\\])/g, '$1')}`);
   const said = saidIn(movetext);
   for (const {kind, text, key, place} of said) {
     const first = own && kind === 'nag' && place === 'move' && /^\$[14]$/.test(text);

@@ -157,13 +157,18 @@ export async function openPgn(bytes, where, name, how = {
         letters = foreignText(foreign, how.code) || (latin && !how.code && LATIN),
         said = [came, letters, notKept(lines)].filter(Boolean).join(' ');
   await learn(held);
-  source = {bytes, name, id: '', waiting, beside: doc().lines, said, held, how, foreign};
+  const before = source, open = doc();
+  source = {bytes, name, id: '', waiting, beside: open.lines, said, held, how, foreign};
   if (!lines.some(line => line.startsWith('position '))) {
     const offered = waiting || leftOut(lines).some(canBeMended) || foreign.length;
     say(where, offered ? '' : `No study was found in this PGN. ${came} Nothing was changed.`);
     return services.show();
   }
   await take(held, where, checkedName(name), said, again);
+  if (doc() === open) {
+    source = before;
+    return services.show();
+  }
   Object.assign(source, {id: doc().id, held: []});
   services.show();
   checkWhole();

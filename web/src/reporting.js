@@ -4,10 +4,12 @@
 import {shownText} from './comments.js';
 import {download} from './dom.js';
 import {Stopped} from './engine.js';
-import {short} from './notes.js';
+import {AT_MOVES, plain, short} from './notes.js';
 import {refusalIn} from './parse_answers.js';
 import {cutAt, ownRemark} from './remarks.js';
+import {squaresOf} from './saved_games.js';
 import {fensOf, reportedLines, toText} from './script.js';
+import {bareTree} from './unmarked.js';
 import {PAGES, app, clearMessage, doc, say, services} from './state.js';
 import {counted, numberedLast, reason} from './words.js';
 
@@ -34,12 +36,31 @@ async function workerFor(fens) {
   return services.tables.factsFor(fens);
 }
 /**
+ * The moves that lead to each node of a tree, by their squares, since remarks may have letters of another language.
+ * @param {import('./unmarked.js').Bare} root
+ */
+function waysIn(root) {
+  const ways = new Set([squaresOf('-')]);
+  const walk = (/** @type {import('./unmarked.js').Bare} */ node, /** @type {string[]} */ way) => {
+    for (const child of node.children) {
+      const own = [...way, plain(child.san)];
+      ways.add(squaresOf(own.join(' ')));
+      walk(child, own);
+    }
+  };
+  walk(root, []);
+  return ways;
+}
+/**
  * A remark above a study that the report prints: a comment of the author, a dual that was accepted, the claimed result.
+ * One at moves that are no longer in the tree is not printed.
  * @param {string} line
  * @param {string} fen
+ * @param {Set<string>} [ways]      in the tree
  */
-export function printedRemark(line, fen) {
+export function printedRemark(line, fen, ways) {
   const {word, rest} = ownRemark(line), [moves, said] = cutAt(rest, ': ');
+  if (ways && AT_MOVES.has(word) && !ways.has(squaresOf(moves))) return line;
   const at = !moves || moves === '-' ? '' : `${numberedLast(fen, moves.split(' '))}: `,
         text = /^note\+?$/.test(word) && !/^\$\d+$/.test(said) ? shownText([said]) : '';
   const words = text      ? at + text
@@ -54,8 +75,10 @@ export function printedRemark(line, fen) {
  */
 function printedLines(d) {
   const lines = [...d.lines];
-  for (const {head, from, fen} of d.studies)
-    for (let at = head; at < from; at++) lines[at] = printedRemark(lines[at], fen);
+  for (const {head, from, end, fen} of d.studies) {
+    const ways = head < from ? waysIn(bareTree(d.lines.slice(from, end))) : undefined;
+    for (let at = head; at < from; at++) lines[at] = printedRemark(lines[at], fen, ways);
+  }
   return reportedLines({...d, lines});
 }
 /**

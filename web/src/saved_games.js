@@ -59,7 +59,7 @@ const loose = path => path.split(' ').map(looseMove).join(' ');
  * The squares of a path, without letters of pieces, which may be those of another language.
  * @param {string} path
  */
-const squaresOf = path => path.split(' ').map(move => looseMove(move).replace(/^[A-Z]|[A-Z]$/g, '')).join(' ');
+export const squaresOf = path => path.split(' ').map(move => looseMove(move).replace(/^[A-Z]|[A-Z]$/g, '')).join(' ');
 /**
  * The keys by their squares, where only one has these.
  * @param {Set<string>} keys
@@ -169,7 +169,7 @@ export function withNotes(game, remarks, marks = true, said = []) {
   const tags = tagsIn(remarks).filter(([name]) => name !== 'Result');
   if (marks && !tags.length && !notes.size && !said.length && !tag) return game;
   const head = tag ? game.slice(0, cut).replace(/^\[Result ".*"\]$/m, () => `[Result "${tag}"]`) : game.slice(0, cut),
-        more = tags.map(([name, text]) => `[${name} "${text}"]\n`).join(''),
+        more = tags.map(([name, text]) => `[${name} "${text.replace(/["\\]/g, '\\$&')}"]\n`).join(''),
         words = [...wordsOfGame(items, notes, marks, said), behind || result];
   return head + more + '\n' + wrap(words.join(' ')) + '\n\n';
 }

@@ -133,9 +133,11 @@ export function stampOf(doc, s, review) {
                                              : {kind: 'correct', text: wordOf('correct')};
   if (!review || !review.stamp) return {kind: 'duals', text: faultsText(n)};
   const stamp = faultyStamp(review);
-  return stamp.kind === 'duals'
-    ? acceptedStamp(stamp.text, acceptedOf(doc, s, review.faults).length, review.faults.length) || stamp
-    : stamp;
+  if (stamp.kind !== 'duals') return stamp;
+  const {faults} = review, accepted = acceptedOf(doc, s, faults),
+        cook = faults.find(fault => faultKind(fault) === 'cook'),
+        named = /^cook/.test(stamp.text) && cook !== undefined && accepted.includes(cook.path);
+  return acceptedStamp(stamp.text, accepted.length, faults.length, named) || stamp;
 }
 /**
  * A stamp as long as facts are being found that can change its words: `sound …`, `3 faults …`.

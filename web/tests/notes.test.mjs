@@ -56,7 +56,7 @@ test('headers as other programs write them, and braces in a comment to the end o
     GAME.replace('[Annotator "an editor"]', ' [ Annotator  "an \\"editor\\""] [ECO "A00"]\n% [Site "x"]\n; {early}')
       .replace('{The only move}', '; see {1}\n');
   assert.deepEqual(remarksOf(game).slice(0, 6), [
-    '#! tag Annotator an \\"editor\\"', '#! tag ECO A00', '#! note -: (early)', '#! note -: A study for practice.',
+    '#! tag Annotator an "editor"', '#! tag ECO A00', '#! note -: (early)', '#! note -: A study for practice.',
     '#! note Kg3: $1', '#! note Kg3: see (1)'
   ]);
 });
@@ -237,4 +237,8 @@ test('what the report prints of an author and of a judge', () => {
     assert.equal(printed(line), line);
   assert.equal(
     printedRemark('#! note Kd5: the point', '8/8/8/4k3/8/3K4/3P4/8 b - - 0 7'), '#! comment: 7... Kd5: the point');
+  const gone = '#! note Kg2: too hasty';
+  assert.equal(printedRemark(gone, fen, new Set(['g3', 'g3 f5'])), gone);
+  assert.equal(printedRemark('#! accepted Kg3 Kf5: dual', fen, new Set(['g3', 'g3 f5'])),
+    '#! comment: 1... Kf5: the dual is accepted');
 });
