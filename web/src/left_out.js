@@ -90,9 +90,11 @@ export function whyLeftOut({why, text}) {
   const words = kind === 'foreign' ? 'not a move with the letters K Q R B N'
     : why === 'NotSan'             ? 'not a move'
                                    : gameReason(why) || (/^[A-Z]\w+$/.test(why) ? reason('error ' + why) : why);
-  const instead = kind === 'foreign' ? 'write the men with these letters, as a PGN has them'
-    : kind === 'word'                ? `write words in braces: {${text}}`
-                                     : insteadOf(why);
+  const promoted = why === 'NoSuchMove' ? /^(?:[a-h]x)?[a-h][18](?![\w=])/.exec(text) : null;
+  const instead = promoted ? `write what the pawn becomes, as ${promoted[0]}=Q, or another move`
+    : kind === 'foreign' ? 'write the men with these letters, as a PGN has them'
+    : kind === 'word'    ? `write words in braces: {${text}}`
+                         : insteadOf(why);
   return (text ? `${text}: ${words}` : words) + (instead && !words.includes(': ') ? `: ${instead}` : '');
 }
 
