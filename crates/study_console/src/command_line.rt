@@ -9,7 +9,7 @@ use std::io::ErrorKind;
 use std::{env, io};
 
 /// The version, and the kits that prove it, as `studybench --version` prints them.
-pub const VERSION: &str = "1.7.0 (rattle-kit-13b or 13f, logic dac8208d650f15bf)";
+pub const VERSION: &str = "2.0.0 (rattle-kit-13b or 13f, logic dac8208d650f15bf)";
 
 /// The words of the command line, the first of which is the program's name; or the exit status, after standard error has why they cannot be read.
 ///

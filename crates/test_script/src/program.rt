@@ -60,7 +60,7 @@ fn help_and_version_are_reported_and_words_refused(rt: HostRuntime) -> Result<()
         &["--version"],
         Err((
             0,
-            "studybench 1.7.0 (rattle-kit-13b or 13f, logic dac8208d650f15bf)\n",
+            "studybench 2.0.0 (rattle-kit-13b or 13f, logic dac8208d650f15bf)\n",
         )),
     )?;
     for words in [
