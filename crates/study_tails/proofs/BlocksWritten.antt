@@ -1,5 +1,5 @@
 -- The words and blocks of tails.
-use Rattle.std.proofs.Common.{◌≡◌, ℕ, zero, suc, Bool, true, false, ◌||◌, List, [], ◌∷◌, ◌++◌, Option, Some, None, refl, sym, ap, ◌∙◌}
+use Rattle.std.proofs.Common.{◌≡◌, ℕ, zero, suc, Bool, true, false, ◌||◌, List, [], ◌∷◌, ◌++◌, Option, Some, None, refl, sym, ap, ◌∙◌, decimal, append-nil}
 use Rattle.study_tree.specs.Forest.{none, more}
 use Rattle.study_tree.specs.Edits.{node_in}
 use Rattle.study_marks.specs.FaultSums.{siblings_from}
@@ -8,8 +8,10 @@ use Rattle.study_wide.specs.Rules.{wide_after}
 use Rattle.study_wide_text.specs.declared.start.WideStart.{WideStart}
 use Rattle.study_wide_text.specs.StartAfter.{wide_start_after}
 use Rattle.study_tails.specs.declared.blocks.LastMove.{LastMove}
+use Rattle.study_tails.specs.declared.blocks.GameLeftOut.{GameLeftOut}
+use Rattle.study_tails.specs.declared.blocks.GameLeftOut.TheVariants.{NeverFourMen, RightsToTheEnd, TooManyTails}
 use Rattle.study_tails.specs.Study.{Moves, Node, node_from}
-use Rattle.study_tails.specs.Blocks.{last_from, has_four, gets_to_four}
+use Rattle.study_tails.specs.Blocks.{last_from, has_four, gets_to_four, reason_of_game, game_words}
 use Rattle.study_tails.proofs.Nodes.{Branch, from_child}
 
 -- ---- the last move
@@ -70,3 +72,11 @@ either_right false b e = e
 
 pub neither : (a b : Bool) → a ≡ false → b ≡ false → (a || b) ≡ false
 neither a b e f = rw (e, f) refl
+
+-- ---- the reason why there is no text
+
+pub counted : (men : ℕ) (why : GameLeftOut) (reason : List ℕ) → reason ≡ reason_of_game why → (why ≡ TooManyTails → ⊥)
+    → game_words men why ≡ decimal men ++ (reason ++ [])
+counted men NeverFourMen reason e not = ap (λ (w : List ℕ). decimal men ++ w) (sym (append-nil reason ∙ e))
+counted men RightsToTheEnd reason e not = ap (λ (w : List ℕ). decimal men ++ w) (sym (append-nil reason ∙ e))
+counted men TooManyTails reason e not = absurd (not refl)

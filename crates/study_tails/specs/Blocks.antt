@@ -44,11 +44,11 @@ last_words (Some m) = decimal m.start.number ++ (dots m.start.position.board.to_
 
 -- ---- the position of an earlier tail
 
-abbrev pub small_of : Option Node → Option Position
+unfoldable pub small_of : Option Node → Option Position
 small_of None = None
 small_of (Some n) = narrow n.start.position
 
-abbrev pub is_same : Option Position → Option Position → Bool
+unfoldable pub is_same : Option Position → Option Position → Bool
 is_same (Some p) (Some q) = same_position p q
 is_same p q = false
 
@@ -121,6 +121,12 @@ game_reason s =
     if length (tails s) == 0
     then Some (if has_four s.start.position || gets_to_four s.start.position s.tree.below then RightsToTheEnd else NeverFourMen)
     else (if nat_lt 255 (length (tails s)) then Some TooManyTails else None)
+
+-- Not part of any public contract: the reason, behind the number of men if that is said
+abbrev pub reason_of_game : GameLeftOut → List ℕ
+reason_of_game NeverFourMen = codes " men, never four or fewer"
+reason_of_game RightsToTheEnd = codes " men, castling rights to the end"
+reason_of_game TooManyTails = codes "more than 255 endings"
 
 -- `8 men, never four or fewer`
 abbrev pub game_words : ℕ → GameLeftOut → List ℕ

@@ -44,7 +44,7 @@ tag_line before name (Some text) = before ++ (codes "tag " ++ (tag_name name ++ 
 abbrev pub six_names : List TagName
 six_names = tag.Event ∷ tag.Site ∷ tag.Date ∷ tag.Round ∷ tag.White ∷ tag.Black ∷ []
 
-abbrev pub line_of_tag : List ℕ → List (Option (List ℕ)) → TagName → List ℕ
+unfoldable pub line_of_tag : List ℕ → List (Option (List ℕ)) → TagName → List ℕ
 line_of_tag before tags name = tag_line before name (tag_of tags name)
 
 abbrev pub tag_lines : List ℕ → List (Option (List ℕ)) → List ℕ

@@ -7,7 +7,7 @@ ghost use Rattle.study_tails.specs.Tails.{is_beside, tails, tail};
 ghost use Rattle.study_tails.specs.Lines.{study_lines};
 ghost use Rattle.study_tails.specs.Blocks.{last_from, dots, last_words, small_of, is_same, twin_among, beside_words, twin_words, reason_words, place_words};
 ghost use Rattle.study_tails.specs.Blocks.{widen_study, body_text, block_text, blocks_text, wide_text};
-ghost use Rattle.study_tails.specs.Blocks.{has_four, gets_to_four, game_reason, game_words};
+ghost use Rattle.study_tails.specs.Blocks.{has_four, gets_to_four, game_reason, reason_of_game, game_words};
 
 use crate::lines::{add_head, add_inserts};
 use crate::study::WideStudy;
@@ -97,6 +97,7 @@ impl<'a, A: Allocator> WideStudy<'a, A> {
     }
 
     /// The position of the node, if at most four men and no right are left there.
+    #[tactic(auto, unfolding(crate::specs::Blocks::small_of))]
     fn small_position(&self, steps: &[u16]) -> Option<Position>
         ensures { result ≡ small_of (node_at self.now steps.now) }
     {
@@ -123,6 +124,7 @@ impl<'a, A: Allocator> WideStudy<'a, A> {
     }
 }
 
+#[tactic(auto, unfolding(crate::specs::Blocks::is_same))]
 fn is_same(p: &Option<Position>, q: &Option<Position>) -> bool
     ensures { result ≡ is_same p.now q.now }
 {
@@ -374,6 +376,17 @@ pub fn game_reason<'a, A: Allocator>(
     }
 }
 
+/// The reason, behind the number of men if that is said.
+fn reason_of_game(why: GameLeftOut) -> &'static [u8]
+    ensures { result.now ≡ reason_of_game why }
+{
+    match why {
+        GameLeftOut::NeverFourMen => b" men, never four or fewer",
+        GameLeftOut::RightsToTheEnd => b" men, castling rights to the end",
+        GameLeftOut::TooManyTails => b"more than 255 endings",
+    }
+}
+
 /// Adds why a game that begins with so many men has no text.
 pub fn add_game_reason<A: Allocator>(
     out: &mut Text<'_, A>,
@@ -382,21 +395,9 @@ pub fn add_game_reason<A: Allocator>(
 ) -> Result<(), AllocError>
     ensures { OnOk result (out.new ≡ out.old ++ game_words men why) }
 {
+    let reason = reason_of_game(why);
     match why {
-        GameLeftOut::NeverFourMen => add_pieces(
-            out,
-            &[
-                Piece::Number(men),
-                Piece::Bytes(b" men, never four or fewer"),
-            ],
-        ),
-        GameLeftOut::RightsToTheEnd => add_pieces(
-            out,
-            &[
-                Piece::Number(men),
-                Piece::Bytes(b" men, castling rights to the end"),
-            ],
-        ),
-        GameLeftOut::TooManyTails => out.add(b"more than 255 endings"),
+        GameLeftOut::TooManyTails => out.add(reason),
+        _ => add_pieces(out, &[Piece::Number(men), Piece::Bytes(reason)]),
     }
 }

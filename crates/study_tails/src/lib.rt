@@ -15,7 +15,8 @@ pub use blocks::{GameLeftOut, MAX_TAILS, add_game_reason, add_wide_text, game_re
 pub use followed::FollowedStudy;
 pub use game::begin_wide_game;
 pub use laws::{no_tail_is_missed, tails_are_built, tails_are_the_games};
+pub use lines::add_stipulation;
 pub use study::{WideNode, WideStudy, copied_start};
 pub use study_reading::{MoveFault, Step};
 pub use tags::NoTagText;
-pub use tails::{LeftOut, Tail};
+pub use tails::{LeftOut, Tail, path_of};

@@ -66,7 +66,7 @@ fn add_goal<A: Allocator>(out: &mut Text<'_, A>, goal: Goal) -> Result<(), Alloc
 
 /// `stipulate SIDE GOAL`.
 #[tactic(auto, unfolding(crate::specs::Lines::stipulation_line))]
-fn add_stipulation<A: Allocator>(
+pub fn add_stipulation<A: Allocator>(
     out: &mut Text<'_, A>,
     before: &[u8],
     stipulation: &Stipulation,
@@ -121,6 +121,7 @@ fn add_text_of_tag<'t, A: Allocator>(
 }
 
 /// The line of a tag, if its text is known.
+#[tactic(auto, unfolding(crate::specs::Lines::line_of_tag))]
 fn add_tag<A: Allocator>(
     out: &mut Text<'_, A>,
     before: &[u8],

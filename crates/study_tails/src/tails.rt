@@ -58,7 +58,7 @@ impl<'t, 'a, A: Allocator> Model for Tail<'t, 'a, A> {
 }
 
 /// The path with these places.
-fn path_of<'a, A: Allocator>(alloc: &'a A, steps: &[u16]) -> Result<Path<'a, A>, AllocError>
+pub fn path_of<'a, A: Allocator>(alloc: &'a A, steps: &[u16]) -> Result<Path<'a, A>, AllocError>
     ensures { IfOk result (λ path. path ≡ steps.now) }
 {
     let mut path = Path::root(alloc);
@@ -97,7 +97,8 @@ fn add_path<'a, A: Allocator>(
 ) -> Result<(), AllocError>
     ensures { OnOk result (found.new.items ≡ found.old.items ++ steps.now ∷ []) }
 {
-    found.push(path_of(alloc, steps)?)?;
+    let path = path_of(alloc, steps)?;
+    found.push(path)?;
     Ok(())
 }
 
