@@ -40,6 +40,7 @@ mod HeaderRead
 mod RoundTrip
 mod PlainText
 mod CutOut
+mod Stipulated
 pub mod StoppedBlock
 mod ReadKept
 mod WideGathered

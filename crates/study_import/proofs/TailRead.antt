@@ -4,13 +4,12 @@ use Rattle.std.proofs.Common.{arith, append_assoc}
 use Rattle.std.specs.Prelude.{◌-◌, nat_le, nat_lt, codes, if◌then◌else◌}
 use Rattle.std.specs.List.{flat_map}
 use Rattle.std.proofs.lemmas.Bool.{and_parts, leb-true, ltb-true}
-use Rattle.study_board.specs.declared.men.Side.{Side}
-use Rattle.study_board.specs.declared.men.Side.TheVariants.{White, Black}
 use Rattle.study_board.specs.Position.{IsValid}
 use Rattle.study_notation.specs.declared.start.Start.{Start}
 use Rattle.study_notation.proofs.FenStarts.{IsRead as IsStart}
 use Rattle.study_tree.specs.Edits.{IsWithin}
 use Rattle.study_tree.specs.Tree.{size_of}
+use Rattle.study_board.specs.declared.men.Side.TheVariants.{White}
 use Rattle.study_marks.specs.declared.stipulation.Goal.{Goal}
 use Rattle.study_marks.specs.declared.stipulation.Goal.TheVariants.{Win, Draw, MateIn}
 use Rattle.study_marks.specs.Study.{position_at}
@@ -25,7 +24,7 @@ use Rattle.study_tails.specs.declared.tails.LeftOut.TheVariants.{NoTail, Numbers
 use Rattle.study_tails.specs.Study.{WideStudy, Node, node_at, IsWideStudy}
 use Rattle.study_tails.specs.Tails.{moves_by, goal_after, has_four_digits, study_from, tail_with, tail_to, tail}
 use Rattle.study_tails.specs.Lines.{position_line as tail_position, stipulation_line as tail_stipulation, tag_lines as tail_tags, insert_lines as tail_inserts}
-use Rattle.study_tails.specs.Lines.{head_lines, study_lines as tail_lines}
+use Rattle.study_tails.specs.Lines.{line_of_tag, head_lines, study_lines as tail_lines}
 use Rattle.study_tails.specs.Insertions.{insertions, IsPlain, IsBuilt}
 use Rattle.study_tails.specs.Insertions.{made_by as tail_made, AllAccepted as AllTailAccepted, lines_for as tail_lines_for, plain_line, root_alone}
 use Rattle.study_tails.specs.Blocks.{widen_study}
@@ -33,6 +32,7 @@ use Rattle.study_tails.proofs.TailStudies.{tail_of}
 use Rattle.study_tails.proofs.TailsBuilt.{tail_plain}
 use Rattle.study_tails.proofs.Built.{built}
 use Rattle.study_import.specs.Insertions.{Insertion, made_by, AllAccepted, lines_for}
+use Rattle.study_import.proofs.Stipulated.{stipulation_same}
 use Rattle.study_import.specs.Blocks.{Entry, position_line, stipulation_line, tag_line, six_names, study_lines, no_moves}
 use Rattle.study_import.specs.Meant.{tag_texts}
 use Rattle.study_import.specs.Laws.{IsCounted, IsStudyIn}
@@ -61,18 +61,8 @@ position_same : (start : Start) → tail_position [] (widen_start start) ≡ pos
 unfolding tail_position position_line
 position_same start = ap (λ (t : List ℕ). codes "position " ++ (t ++ codes "\n")) (fen_agrees.written start)
 
-stipulation_same : (hero : Side) (goal : Goal)
-    → tail_stipulation [] (record { hero = hero; goal = goal }) ≡ stipulation_line (record { hero = hero; goal = goal })
-unfolding tail_stipulation stipulation_line
-stipulation_same White Win = refl
-stipulation_same White Draw = refl
-stipulation_same White (MateIn n) = refl
-stipulation_same Black Win = refl
-stipulation_same Black Draw = refl
-stipulation_same Black (MateIn n) = refl
-
 tags_same : (tags : List Pair) → tail_tags [] (tag_texts tags) ≡ flat_map (tag_line tags) six_names
-unfolding tag_line
+unfolding tag_line line_of_tag
 tags_same tags = refl
 
 joined_lines : (p s t i pgn : List ℕ) → ((p ++ (s ++ t)) ++ i) ++ pgn ≡ p ++ (s ++ (t ++ (i ++ pgn)))
@@ -197,7 +187,7 @@ lines_as_told e u h =
     let pgn = codes "pgn\n\n" in
     joined_lines (tail_position [] (widen_start u.start)) old_s old_t old_i pgn
     ∙ ap (λ (x : List ℕ). x ++ (old_s ++ (old_t ++ (old_i ++ pgn)))) (position_same u.start)
-    ∙ ap (λ (x : List ℕ). p ++ (x ++ (old_t ++ (old_i ++ pgn)))) (stipulation_same u.stipulation.hero u.stipulation.goal)
+    ∙ ap (λ (x : List ℕ). p ++ (x ++ (old_t ++ (old_i ++ pgn)))) (stipulation_same u.stipulation)
     ∙ ap (λ (x : List ℕ). p ++ (s ++ (x ++ (old_i ++ pgn)))) (ap (tail_tags []) h.titled ∙ tags_same (tags_of e.text))
     ∙ ap (λ (x : List ℕ). p ++ (s ++ (t ++ (x ++ pgn)))) (b.lines ∙ lines_same (root_alone (untitled u)) (moves_of u))
 

@@ -118,6 +118,7 @@ text_part tags name =
 
 tag_told : (tags : List Pair) (name : TagName)
     → Remarked (line_of_tag (codes "#> ") (tag_texts tags) name) (told (tag_words name (text_of tags name)) ∷ [])
+unfolding line_of_tag
 tag_told tags named.Event = tag_is named.Event _ (text_part tags named.Event)
 tag_told tags named.Site = tag_is named.Site _ (text_part tags named.Site)
 tag_told tags named.Date = tag_is named.Date _ (text_part tags named.Date)

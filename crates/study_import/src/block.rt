@@ -13,7 +13,7 @@ ghost use Rattle.study_games.specs.Games.{game_seen};
 ghost use Rattle.study_games.specs.Header.{tags_of, header_fault, value_of};
 ghost use Rattle.study_reading.specs.Notes.{game_of};
 ghost use Rattle.study_reading.specs.Aims.{or_stipulation, signed_by};
-ghost use Rattle.study_import.specs.Blocks.{entry_seen, repeated_moves, behind_line, side_text, goal_text, stipulation_line, source_line};
+ghost use Rattle.study_import.specs.Blocks.{entry_seen, repeated_moves, behind_line, stipulation_line, source_line};
 ghost use Rattle.study_import.specs.Blocks.{doubt_line, doubt_lines, head_line, tag_unread, sources_of, sourced_block, repeated_name, repeated_words, single_block};
 ghost use Rattle.study_import.specs.Blocks.{position_line, counts_line, counted_words, other_tags, remark_lines, study_lines, block_lines};
 ghost use Rattle.study_import.specs.Blocks.{tag_aim, result_of, reported_seen, reported_of};
@@ -38,7 +38,7 @@ use study_games::{
     Game, Language, Outcome, Run, count_named, count_tags, cut_run, header_fault, in_english,
     language_name, next_word, tag_value, unescape,
 };
-use study_marks::{Bench, Goal, Stipulation};
+use study_marks::{Bench, Stipulation};
 use study_notation::{FenFault, Start, read_fen, write_fen};
 use study_reading::{
     Aim, Doubts, GameReading, Notes, Sources, aim_by_sources, aim_stated, is_unread_tag,
@@ -52,42 +52,13 @@ use study_wide_text::read_wide_fen;
 /// The initial position of a game.
 const INITIAL_FEN: &[u8] = b"rnbqkbnr/pppppppp/8/8/8/8/PPPPPPPP/RNBQKBNR w KQkq - 0 1";
 
-fn side_text(side: Side) -> &'static [u8]
-    ensures { result.now ≡ side_text side }
-{
-    match side {
-        Side::White => b"white ",
-        Side::Black => b"black ",
-    }
-}
-
-fn add_goal<A: Allocator>(out: &mut Text<'_, A>, goal: Goal) -> Result<(), AllocError>
-    ensures { OnOk result (out.new ≡ out.old ++ goal_text goal) }
-{
-    match goal {
-        Goal::Win => out.add(b"win\n"),
-        Goal::Draw => out.add(b"draw\n"),
-        Goal::MateIn(moves) => add_pieces(
-            out,
-            &[
-                Piece::Bytes(b"mate "),
-                Piece::Number(moves.count() as u32),
-                Piece::Bytes(b"\n"),
-            ],
-        ),
-    }
-}
-
-#[tactic(auto, unfolding(crate::specs::Blocks::stipulation_line))]
 fn add_stipulation<A: Allocator>(
     out: &mut Text<'_, A>,
     stipulation: &Stipulation,
 ) -> Result<(), AllocError>
     ensures { OnOk result (out.new ≡ out.old ++ stipulation_line stipulation.now) }
 {
-    let side = side_text(stipulation.hero);
-    add_pieces(out, &[Piece::Bytes(b"stipulate "), Piece::Bytes(side)])?;
-    add_goal(out, stipulation.goal)
+    study_tails::add_stipulation(out, b"", stipulation)
 }
 
 fn add_source<A: Allocator>(

@@ -5,7 +5,7 @@ ghost use Rattle.study_tails.specs.Tails.{tail};
 ghost use Rattle.study_import.specs.Blocks.{entry_seen, reported_seen, aim_of_game, sources_of, no_study, left_out};
 ghost use Rattle.study_import.specs.Blocks.{wide_read, wide_study, wide_reported, studies_among, tails_block, no_tails_words};
 ghost use Rattle.study_import.specs.Blocks.{followed_block, followed_up_to, wide_sourced, wide_aimed_up_to, wide_up_to, wide_faulty};
-ghost use Rattle.study_import.specs.Blocks.{wide_moves_block, wide_language_of, text_up_to};
+ghost use Rattle.study_import.specs.Blocks.{wide_moves_block, wide_read_block, wide_language_of, text_up_to};
 ghost use Rattle.study_import.specs.BlocksRead.{Adds};
 
 use crate::block::{Reported, Setting, add_head, add_remarks, new_nodes, sources_of};
@@ -222,6 +222,25 @@ fn add_wide_aimed_up_to<'a, A: Allocator>(
     }
 }
 
+/// Adds the blocks of a game up to this fault, where its text is so, or the fault if there are none.
+fn add_wide_front<'a, A: Allocator>(
+    alloc: &'a A,
+    out: &mut Text<'_, A>,
+    setting: &Setting<'_>,
+    start: &WideStart,
+    fault: &MovesFault,
+    text: &[u8],
+) -> Result<u32, AllocError>
+    ensures { Adds result out.old out.new
+        (wide_up_to setting.now.choice.given (entry_seen setting.now.entry) start.now fault.now
+        (wide_read text.now start.now)) }
+{
+    match read_wide(alloc, text, start)? {
+        Ok(mut game) => add_wide_aimed_up_to(alloc, out, setting, start, fault, &mut game),
+        Err(_) => add_stop(alloc, out, &setting.entry, fault),
+    }
+}
+
 /// Adds the blocks of a game up to this fault, or the fault if there are none.
 fn add_wide_up_to<'a, A: Allocator>(
     alloc: &'a A,
@@ -235,10 +254,7 @@ fn add_wide_up_to<'a, A: Allocator>(
         (wide_read (text_up_to setting.now.entry.text.now fault.now.left) start.now)) }
 {
     let text = text_up_to(alloc, setting.entry.text, fault.left)?;
-    match read_wide(alloc, text.as_slice(), start)? {
-        Ok(mut game) => add_wide_aimed_up_to(alloc, out, setting, start, fault, &mut game),
-        Err(_) => add_stop(alloc, out, &setting.entry, fault),
-    }
+    add_wide_front(alloc, out, setting, start, fault, text.as_slice())
 }
 
 /// Adds the blocks of a game with this fault among its moves up to there, if that is wanted, or else the fault.
@@ -260,6 +276,25 @@ fn add_wide_faulty<'a, A: Allocator>(
     }
 }
 
+/// Adds the blocks of a game in letters of this language, which is so in English letters, or its first fault.
+fn add_wide_english<'a, A: Allocator>(
+    alloc: &'a A,
+    out: &mut Text<'_, A>,
+    setting: &Setting<'_>,
+    start: &WideStart,
+    language: Language,
+    english: &[u8],
+) -> Result<u32, AllocError>
+    ensures { Adds result out.old out.new
+        (wide_read_block setting.now.choice (entry_seen setting.now.entry) start.now
+        (Some language) (wide_read english.now start.now)) }
+{
+    match read_wide(alloc, english, start)? {
+        Ok(mut game) => add_wide_aimed(alloc, out, setting, start, Some(language), &mut game),
+        Err(fault) => add_wide_faulty(alloc, out, setting, start, &fault),
+    }
+}
+
 /// Adds the blocks of a game in letters of this language, or its first fault.
 fn add_wide_foreign<'a, A: Allocator>(
     alloc: &'a A,
@@ -273,10 +308,7 @@ fn add_wide_foreign<'a, A: Allocator>(
         (Some language)) }
 {
     let english = in_english(alloc, setting.entry.text, language)?;
-    match read_wide(alloc, english.as_slice(), start)? {
-        Ok(mut game) => add_wide_aimed(alloc, out, setting, start, Some(language), &mut game),
-        Err(fault) => add_wide_faulty(alloc, out, setting, start, &fault),
-    }
+    add_wide_english(alloc, out, setting, start, language, english.as_slice())
 }
 
 /// Adds the blocks of a game that has this fault in English letters: in those of another language, or the fault.

@@ -61,6 +61,17 @@ pub fn read_wide<'t, 'a, A: Allocator>(
     }
 }
 
+/// Whether the moves of a text are read to the end.
+fn is_whole<'a, A: Allocator>(
+    alloc: &'a A,
+    text: &[u8],
+    start: &WideStart,
+) -> Result<bool, AllocError>
+    ensures { IfOk result (λ is. is ≡ is_ok (wide_read text.now start.now)) }
+{
+    Ok(read_wide(alloc, text, start)?.is_ok())
+}
+
 /// Whether the moves of a game are read to the end in letters of this language.
 fn is_readable<'a, A: Allocator>(
     alloc: &'a A,
@@ -71,7 +82,7 @@ fn is_readable<'a, A: Allocator>(
     ensures { IfOk result (λ is. is ≡ is_ok (wide_read (in_english language text.now) start.now)) }
 {
     let english = in_english(alloc, text, language)?;
-    Ok(read_wide(alloc, english.as_slice(), start)?.is_ok())
+    is_whole(alloc, english.as_slice(), start)
 }
 
 /// The first of these languages in whose letters the moves of a game are read to the end.

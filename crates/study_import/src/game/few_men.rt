@@ -1,5 +1,5 @@
 //! A study of at most four men whose tree grows by the moves of a game.
-ghost use Rattle.std.specs.Prelude.{◌≡◌, IfOk};
+ghost use Rattle.std.specs.Prelude.{◌≡◌};
 ghost use Rattle.study_moves.specs.LegalList.{is_mate};
 ghost use Rattle.study_reading.specs.Notes.{is_false};
 
@@ -11,25 +11,14 @@ use study_games::Claim;
 use study_marks::Bench;
 use study_moves::{in_check, legal_moves};
 use study_reading::{Followed, MoveFault, Step};
+use study_tails::path_of;
 use study_text::Text;
-use study_tree::Path;
 
 /// The bench of a game's study; its values are never used.
 #[derive(Drop)]
 pub struct FewMen<'a, A: Allocator> {
     pub alloc: &'a A,
     pub bench: Bench<'a, A>,
-}
-
-/// The path with these places.
-fn path_of<'a, A: Allocator>(alloc: &'a A, steps: &[u16]) -> Result<Path<'a, A>, AllocError>
-    ensures { IfOk result (λ path. path ≡ steps.now) }
-{
-    let mut path = Path::root(alloc);
-    for step in steps {
-        path.push(*step)?;
-    }
-    Ok(path)
 }
 
 #[tactic(auto, unfolding(study_moves::specs::LegalList::is_mate))]

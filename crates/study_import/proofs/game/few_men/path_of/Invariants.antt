@@ -1,6 +1,0 @@
-use Rattle.std.proofs.Common.{◌≡◌, take}
-use Rattle.study_import.proofs.game.few_men.path_of.Given as goal
-
--- the path so far
-abbrev pub invariant-loop-step : goal.invariant-loop-step
-invariant-loop-step g l = l.path ≡ take l.step-index l.steps
