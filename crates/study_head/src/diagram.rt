@@ -2,11 +2,14 @@
 ghost use Rattle.std.specs.Prelude.{◌≡◌, ◌+◌, ◌++◌, OnOk};
 ghost use Rattle.std.specs.List.{flat_map};
 ghost use Rattle.study_board.specs.Letters.{letter};
+ghost use Rattle.study_html.specs.declared.element.Element.TheVariants.{Said};
+ghost use Rattle.study_html.specs.Elements.{element_text};
+ghost use Rattle.study_html.specs.Escape.{escaped_text};
 ghost use Rattle.study_head.specs.Diagram.{man_words, listed_man, control, heard_words, standing, board, mini};
 
 use std::alloc::{AllocError, Allocator};
 use study_board::{Kind, Man, Position, Side};
-use study_html::{Drawing, Element, Html};
+use study_html::{Drawing, Element, Html, put_words};
 use study_pgn::side_name;
 use study_text::Text;
 
@@ -93,6 +96,20 @@ fn add_spoken_position<A: Allocator>(text: &mut Text<'_, A>, p: &Position) -> Re
     text.add(b" to move")
 }
 
+/// Adds the position in words, for whoever hears the page.
+fn put_spoken_position<'a, A: Allocator>(
+    alloc: &'a A,
+    html: &mut Html<'_, A>,
+    p: &Position,
+) -> Result<(), AllocError>
+    ensures { OnOk result (html.new ≡ html.old
+        ++ element_text Said (escaped_text (heard_words p.now))) }
+{
+    let mut text = Text::new(alloc);
+    add_spoken_position(&mut text, p)?;
+    put_words(alloc, html, Element::Said, text.as_slice())
+}
+
 /// Each man on its square.
 fn draw_men<A: Allocator>(html: &mut Html<'_, A>, men: &[Man]) -> Result<(), AllocError>
     ensures { OnOk result (html.new ≡ html.old ++ flat_map standing men.now) }
@@ -112,12 +129,8 @@ pub fn draw_board<'a, A: Allocator>(
 ) -> Result<(), AllocError>
     ensures { OnOk result (html.new ≡ html.old ++ board p.now) }
 {
-    let mut heard = Text::new(alloc);
-    let mut said = Html::new(alloc);
     let mut drawn = Html::new(alloc);
-    add_spoken_position(&mut heard, p)?;
-    said.say(heard.as_slice())?;
-    drawn.put(Element::Said, &said)?;
+    put_spoken_position(alloc, &mut drawn, p)?;
     drawn.draw(&Drawing::Squares)?;
     drawn.draw(&Drawing::Coordinates)?;
     draw_men(&mut drawn, p.men())?;
@@ -133,12 +146,8 @@ pub fn draw_mini<'a, A: Allocator>(
 ) -> Result<(), AllocError>
     ensures { OnOk result (html.new ≡ html.old ++ mini p.now) }
 {
-    let mut heard = Text::new(alloc);
-    let mut said = Html::new(alloc);
     let mut drawn = Html::new(alloc);
-    add_spoken_position(&mut heard, p)?;
-    said.say(heard.as_slice())?;
-    drawn.put(Element::Said, &said)?;
+    put_spoken_position(alloc, &mut drawn, p)?;
     drawn.draw(&Drawing::Squares)?;
     draw_men(&mut drawn, p.men())?;
     html.put(Element::Mini, &drawn)
