@@ -5,6 +5,7 @@ pub mod MainLines
 pub mod RowFeatures
 pub mod OneList
 pub mod Said
+pub mod Kin
 pub mod Shown
 pub mod PlacedImages
 pub mod Selected

@@ -17,7 +17,15 @@ use Rattle.study_listing.specs.declared.filters.Filters.{Filters}
 
 -- every position passes
 abbrev pub no_filters : Filters
-no_filters = record { men = replicate 4 None; no_capture = false; no_check = false; promoted = None; result = None; row = replicate 4 None }
+no_filters = record {
+  men = replicate 4 None;
+  no_capture = false;
+  no_check = false;
+  promoted = None;
+  result = None;
+  row = replicate 4 None;
+  families = false;
+}
 
 abbrev pub is_from_to : ℕ → ℕ → ℕ → Bool
 is_from_to low high n = nat_le low n && nat_le n high

@@ -45,10 +45,10 @@ PlacedAreShown = (s : Selection) (p q : Position) → IsValid p → IsOf s.searc
 
 -- Each position of the class with the theme, White having the class's first list, with the wanted side to move, men on the wanted squares, a key that passes
 -- the filters and the wanted result, is listed by its index, if the row that is shown with the position of that index has what is wanted: of equal replies a
--- row has the first by squares, so that images have different rows. (Of a mutual zugzwang in two placements one is.)
+-- row has the first by squares, so that images have different rows. (Of a mutual zugzwang in two placements one is, and of a family the first.)
 abbrev pub EachIsListed : Type 0
 EachIsListed = (s : Selection) (p : Position) → IsValid p → IsOf s.search.class p → is_swapped p.men ≡ false → is_for s.search.side p.to_move ≡ true
     → HasTheme s.search.theme p → are_placed s.filters.men p ≡ true → HasWantedKey s.filters p → HasWantedResult s.filters.result p
     → ((q : Position) → position_numbered s.search.class (index_of p) ≡ Some q → HasRowShown s q)
-    → is_paired s.search ≡ false
+    → is_paired s.search ≡ false → s.filters.families ≡ false
     → IsListedAt s (index_of p)

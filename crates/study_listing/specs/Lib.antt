@@ -4,6 +4,7 @@ pub mod Facts
 pub mod Features
 pub mod Filters
 pub mod FilterWords
+pub mod Families
 pub mod Lists
 pub mod LetThrough
 pub mod Stops

@@ -1,5 +1,5 @@
 -- The whole list: the texts of all found numbers, one after the other.
-use Rattle.std.specs.Prelude.{◌≡◌, ℕ, ◌≤◌, Bool, true, false, ◌&&◌, List, [], ◌∷◌, ◌++◌, length, Option, Some, None, MatchOption, is_some, if◌then◌else◌}
+use Rattle.std.specs.Prelude.{◌≡◌, ◌⊎◌, ℕ, ◌<◌, ◌≤◌, Bool, true, false, ◌&&◌, List, [], ◌∷◌, ◌++◌, length, Option, Some, None, MatchOption, is_some, if◌then◌else◌}
 use Rattle.std.specs.Io.KnownBytes.{Appends}
 use Rattle.study_text.specs.Taken.{TakesPrefix}
 use Rattle.study_board.specs.declared.men.Side.{Side}
@@ -8,6 +8,11 @@ use Rattle.study_board.specs.Position.{Position}
 use Rattle.study_material.specs.declared.class.Class.{Class}
 use Rattle.study_material.specs.Class.{lists_of, same_kinds}
 use Rattle.study_index.specs.Computed.{position_numbered}
+use Rattle.study_moves.specs.declared.moves.Move.{Move}
+use Rattle.study_values.specs.Index.{index_of}
+use Rattle.study_search.specs.declared.only_moves.Outcome.{Outcome}
+use Rattle.study_search.specs.declared.only_moves.Outcome.TheVariants.{Win, Draw}
+use Rattle.study_search.specs.OnlyMoves.{IsKey}
 use Rattle.study_search.specs.declared.finding.Search.{Search}
 use Rattle.study_search.specs.declared.themes.Theme.{Theme}
 use Rattle.study_search.specs.declared.themes.Theme.TheVariants as theme
@@ -19,6 +24,7 @@ use Rattle.study_listing.specs.declared.request.Request.{Request}
 use Rattle.study_listing.specs.declared.request.Request.TheVariants.{Positions, Longest}
 use Rattle.study_listing.specs.declared.text.Form.{Form}
 use Rattle.study_listing.specs.Facts.{IsTextOf}
+use Rattle.study_listing.specs.Families.{SomeMoved}
 use Rattle.study_listing.specs.Features.{HasWantedRow}
 use Rattle.study_listing.specs.Filters.{turns, or_else, first_placed, HasWantedKey, HasWantedResult, no_filters}
 
@@ -61,7 +67,7 @@ abbrev pub HasRowShown : Selection → Position → Type 0
 HasRowShown s p = (q : Position) → listed_image s p ≡ Some q → HasWantedRow s.filters.row q
 
 -- The position matches the search, and is not the second placement of a mutual zugzwang; some image of it has men on the wanted squares; and its key passes
--- the filters, and so do its result and the row that is shown.
+-- the filters, and so do its result and the row that is shown: it is in the list, or in the family of a position that is.
 pub record IsListed (s : Selection) (p : Position) : Type 0 where
   pub sought : IsLookedFor s.search p
   pub first : IsOneOfPair s.search p
@@ -70,8 +76,20 @@ pub record IsListed (s : Selection) (p : Position) : Type 0 where
   pub result : HasWantedResult s.filters.result p
   pub row : HasRowShown s p
 
+-- such a position has a lower number, and the same move is its key
+abbrev pub IsEarlierKin : Selection → ℕ → Outcome → Move → Position → Type 0
+IsEarlierKin s n o m q = (index_of q < n) × IsKey o q m × IsListed s q
+
+-- with one man on another square it is one of a lower number with the same key
+abbrev pub HasEarlierKin : Selection → Outcome → Position → Type 0
+HasEarlierKin s o p = (m : Move) × IsKey o p m × SomeMoved (IsEarlierKin s (index_of p) o m) p p.men
+
+-- if families are wanted: the position is the first of its family
+abbrev pub IsFirstOfFamily : Selection → Position → Type 0
+IsFirstOfFamily s p = s.filters.families ≡ true → ¬ (HasEarlierKin s Win p ⊎ HasEarlierKin s Draw p)
+
 abbrev pub IsListedAt : Selection → ℕ → Type 0
-IsListedAt s n = (p : Position) × (position_numbered s.search.class n ≡ Some p) × IsListed s p
+IsListedAt s n = (p : Position) × (position_numbered s.search.class n ≡ Some p) × IsListed s p × IsFirstOfFamily s p
 
 -- the text of the image that is shown
 abbrev pub IsTextAt : Selection → Form → ℕ → List ℕ → Type 0

@@ -236,6 +236,17 @@ fn without_capture(behind: Behind) -> Behind
     }
 }
 
+fn by_families(behind: Behind) -> Behind
+    ensures { result ≡ record behind { filters = record behind.filters { families = true } } }
+{
+    let mut filters = behind.filters;
+    filters.families = true;
+    Behind {
+        side: behind.side,
+        filters,
+    }
+}
+
 fn without_check(behind: Behind) -> Behind
     ensures { result ≡ record behind { filters = record behind.filters { no_check = true } } }
 {
@@ -395,6 +406,8 @@ fn with_word(theme: Theme, behind: Behind, word: &[u8]) -> Result<Behind, Unread
         if_key(theme, without_capture(behind))
     } else if word == b"no-check".as_slice() {
         if_key(theme, without_check(behind))
+    } else if word == b"families".as_slice() {
+        if_key(theme, by_families(behind))
     } else {
         with_feature(theme, behind, word)
     }

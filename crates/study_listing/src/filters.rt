@@ -43,6 +43,8 @@ pub struct Filters {
     pub result: Option<Outcome>,
     /// What the row of only moves that is shown must have.
     pub row: [Option<Feature>; 4],
+    /// Of the positions that differ in the square of one man, and have the same key, the first is enough.
+    pub families: bool,
 }
 
 /// A search and its filters.
@@ -64,6 +66,7 @@ impl Filters {
             promoted: None,
             result: None,
             row: [None; 4],
+            families: false,
         }
     }
 }

@@ -6,6 +6,7 @@
 #![tactic(auto)]
 
 mod facts;
+mod families;
 mod fault;
 mod features;
 mod filter_words;

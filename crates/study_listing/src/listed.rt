@@ -15,6 +15,7 @@ ghost use Rattle.study_listing.specs.Lists.{has_like_sides, is_of_zugzwangs, is_
 ghost use Rattle.study_listing.specs.Lists.{IsOneOfPair, IsListed, IsListedAt, IsTextAt};
 ghost use Rattle.study_listing.specs.LetThrough.{IsLetThrough};
 
+use crate::families::first_image;
 use crate::filters::{Selection, first_placed, has_wanted_key, has_wanted_result};
 use crate::main_line::has_wanted_row;
 use crate::text::{Form, Listed, text_of};
@@ -165,8 +166,8 @@ fn is_listed<V: Values>(
     }
 }
 
-/// The image of a position that is listed, or `None`.
-fn image_listed<V: Values>(
+/// The image of a position that matches the search and passes the filters, or `None`.
+pub(crate) fn image_listed<V: Values>(
     selection: &Selection,
     p: &Position,
     values: &mut V,
@@ -214,7 +215,7 @@ pub(crate) fn listed_at<V: Values>(
 {
     match decode(selection.search.class, number) {
         None => Ok(None),
-        Some(p) => image_listed(selection, &p, values),
+        Some(p) => first_image(selection, &p, values),
     }
 }
 

@@ -304,3 +304,19 @@ fn keys_are_let_through(rt: HostRuntime) {
     wanted.filters.no_capture = true;
     assert!(rt; count_found(&wanted, &mut values, &mut NoWatch) == Ok(3));
 }
+
+/// By an independent program: eleven of the fifteen positions with six only moves in a row to win, and two of the three underpromotions, are the first of
+/// their families.
+#[test]
+fn the_first_of_a_family_is_listed(rt: HostRuntime) {
+    let alloc = rt.alloc();
+    let mut values = tables(&rt, &alloc);
+    for (theme, count) in [
+        (Theme::OnlyMoves(Outcome::Win, 6), 11u32),
+        (Theme::Underpromotion, 2),
+    ] {
+        let mut wanted = search(theme, None);
+        wanted.filters.families = true;
+        assert!(rt; count_found(&wanted, &mut values, &mut NoWatch) == Ok(count));
+    }
+}

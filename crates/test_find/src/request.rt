@@ -76,8 +76,9 @@ fn filters_are_read(rt: HostRuntime) {
     want.filters.row[1] = Some(Feature::Offer);
     want.filters.row[2] = Some(Feature::Zugzwang);
     want.filters.row[3] = Some(Feature::Underpromotion);
+    want.filters.families = true;
     let line =
-        "win 5 Kf7 row-stalemate no-check =N row-offer pa2-h4 black row-zugzwang wins row-underpromotion";
+        "win 5 Kf7 row-stalemate no-check =N row-offer pa2-h4 black families row-zugzwang wins row-underpromotion";
     assert!(rt; read(&rt, alloc, Class::KPKP, line) == Ok(Request::Positions(want)));
 }
 
@@ -103,6 +104,7 @@ zugzwang no-capture
 zugzwang white no-check
 zugzwang =R
 zugzwang row-zugzwang
+zugzwang families
 zugzwang draws";
 
 /// A refusal for the theme comes before one for the words after it, and among these the first unknown word is refused.

@@ -7,6 +7,8 @@
 //   ./filters rows KRKP win 2 offer          those whose row has a move of this kind
 //   ./filters tries KPPK KPKP                how many have a zugzwang try; how many would have one if any zugzwang counted; and those that differ
 //   ./filters within KRKP 3                  how many have one, two, three only moves in a row, and how many of their rows have moves of some kinds
+//   ./filters families KRKP win 3            how many have three only moves in a row; in which of them no position with one man on another square and the
+//                                            same key comes earlier; `underpromotion`, `into win`, `into draw` in place of `win 3` likewise
 //
 // A class has three men, or four with a pawn, for `counts` and `rows` with one more man a side at most; White has the men named first. A pawn's class takes
 // 17 MB for each class that its moves lead to.
@@ -603,6 +605,73 @@ static void write_withs(const char *class) {
             }
 }
 
+// ---- families: positions that differ in the square of one man, and have the same key
+
+static int theme_length; // 0: an underpromotion, -1: into a zugzwang, else only moves in a row
+static int theme_outcome; // or 0 for either
+
+// Whether the position has the theme; its result and its key.
+static int has_theme(const Pos *p, int *o, Mv *key) {
+    *o = result(p);
+    if (!*o || (theme_outcome && *o != theme_outcome) || !only_move(p, *o, key)) return 0;
+    if (!theme_length) return key->promoted > Q;
+    Pos q = play(p, *key);
+    return theme_length < 0 ? is_zugzwang(&q) : has_row(p, *o, theme_length);
+}
+
+static int passes_legally(const Pos *p) {
+    Mv ms[256];
+    int n = moves(p, ms);
+    for (int i = 0; i < n; i++) if (p->ep >= 0 && ms[i].to == p->ep && p->kind[man_at(p, ms[i].from)] == P) return 1;
+    return 0;
+}
+
+// The place in the order of a class with pawns, of like men the lower square first; those with a capture in passing come last.
+static size_t place(const Pos *p) {
+    Pos q = *p;
+    if (q.n == 4 && q.side[2] == q.side[3] && q.kind[2] == q.kind[3]) { q.at[2] = p->at[3]; q.at[3] = p->at[2]; }
+    size_t a = cell(p), b = cell(&q);
+    return (a < b ? a : b) + (passes_legally(p) ? 1u << 24 : 0);
+}
+
+static int is_position(const Pos *p) {
+    for (int j = 0; j < p->n; j++) {
+        for (int k = 0; k < j; k++) if (p->at[k] == p->at[j]) return 0;
+        if (p->kind[j] == P && (rk(p->at[j]) == 0 || rk(p->at[j]) == 7)) return 0;
+    }
+    if (p->ep >= 0) {
+        int behind = p->stm ? -8 : 8, i = man_at(p, p->ep - behind);
+        if (i < 0 || p->kind[i] != P || p->side[i] == p->stm || man_at(p, p->ep) >= 0 || man_at(p, p->ep + behind) >= 0) return 0;
+    }
+    return !in_check(p, !p->stm);
+}
+
+static long with_theme, firsts;
+static void family_it(const Pos *p) {
+    int o, other;
+    Mv key, same;
+    if (!has_theme(p, &o, &key)) return;
+    with_theme++;
+    size_t own = place(p);
+    for (int i = 0; i < p->n; i++)
+        for (int s = 0; s < 64; s++) {
+            Pos q = *p;
+            q.at[i] = s;
+            if (s == p->at[i] || !is_position(&q) || place(&q) >= own) continue;
+            if (has_theme(&q, &other, &same) && other == o && same.from == key.from && same.to == key.to && same.promoted == key.promoted) return;
+        }
+    firsts++;
+}
+
+static void write_families(const char *class, const char *theme, const char *more) {
+    theme_length = !strcmp(theme, "underpromotion") ? 0 : !strcmp(theme, "into") ? -1 : atoi(more);
+    const char *goal = theme_length > 0 ? theme : more;
+    theme_outcome = !theme_length ? 0 : !strcmp(goal, "win") ? WIN : DRAW;
+    each(class, family_it);
+    printf("%s\t%s%s%s\t%ld\n", class, theme, *more ? " " : "", more, with_theme);
+    printf("%s\t%s%s%s families\t%ld\n", class, theme, *more ? " " : "", more, firsts);
+}
+
 int main(int argc, char **argv) {
     geometry();
     setvbuf(stdout, NULL, _IOLBF, 0);
@@ -619,6 +688,10 @@ int main(int argc, char **argv) {
     if (argc == 4 && !strcmp(argv[1], "within") && (most = atoi(argv[3])) < 13) {
         each(argv[2], row_it);
         write_withs(argv[2]);
+        return 0;
+    }
+    if (argc >= 4 && !strcmp(argv[1], "families")) {
+        write_families(argv[2], argv[3], argc > 4 ? argv[4] : "");
         return 0;
     }
     if (argc >= 3 && !strcmp(argv[1], "counts")) {
@@ -641,6 +714,6 @@ int main(int argc, char **argv) {
         each(argv[2], write_it);
         return 0;
     }
-    fprintf(stderr, "usage: filters counts CLASS.. | rows CLASS win|draw N [KIND ..] | tries CLASS.. | within CLASS N\n");
+    fprintf(stderr, "usage: filters counts CLASS.. | rows CLASS win|draw N [KIND ..] | tries CLASS.. | within CLASS N | families CLASS THEME\n");
     return 2;
 }
