@@ -22,7 +22,8 @@ const form = {
   side: '',
   squares: '',
   row: '',
-  quiet: false
+  quiet: false,
+  families: false
 };
 /**
  * @type {{spawn: () => import('./engine.js').Core, search: Search | null, going: AbortController | null, fault: string,
@@ -86,6 +87,21 @@ const field = (id, label, field, props) => h('input', {
   },
   ...props
 });
+/**
+ * @param {string} id
+ * @param {'quiet' | 'families'} field
+ * @param {string} label
+ * @param {string} title
+ */
+const check = (id, field, label, title) => h('label', {class: 'note', title}, h('input', {
+  type: 'checkbox',
+  id,
+  checked: form[field],
+  onchange: (/** @type {any} */ e) => {
+    form[field] = e.target.checked;
+  }
+}),
+  ` ${label}`);
 /** @param {string} name */
 function chooseClass(name) {
   form.name = name;
@@ -124,16 +140,10 @@ function formView() {
         value => {
           form.row = value;
         }),
+    keyed && check('findQuiet', 'quiet', 'begins with a quiet move', 'neither a capture nor a check'),
     keyed &&
-      h('label', {class: 'note'}, h('input', {
-        type: 'checkbox',
-        id: 'findQuiet',
-        checked: form.quiet,
-        onchange: (/** @type {any} */ e) => {
-          form.quiet = e.target.checked;
-        }
-      }),
-        ' begins with a quiet move'),
+      check('findFamilies', 'families', 'one of each family',
+        'of those that differ in the square of one man, with the same key, the first'),
     state.going ? button('Stop', 'keep what was found', stop, {id: 'findStop', class: 'main'})
                 : button('Find', 'search the table', find, {id: 'findGo', class: 'main'}));
 }
@@ -143,7 +153,7 @@ function find() {
     return showFinding();
   }
   const narrowed = !form.theme.startsWith('longest'), keyed = narrowed && form.theme !== 'zugzwang',
-        ofKey = keyed ? [form.quiet && 'no-capture no-check', form.row] : [];
+        ofKey = keyed ? [form.quiet && 'no-capture no-check', form.row, form.families && 'families'] : [];
   const wanted = {
     name: form.name,
     theme: form.theme.replace('N', form.n),

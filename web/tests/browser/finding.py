@@ -106,6 +106,15 @@ def test_rows_with_a_feature(user):
     assert user.text("finds").startswith("KPK draw 1 row-stalemate: "), user.text("finds")
 
 
+def test_one_of_each_family(user):
+    """By an independent program: eleven of the 15 wins differ from no earlier one in the square of one man alone, with the same key."""
+    find(user, "win N", "6")
+    user.click("findFamilies")
+    user.click("findGo")
+    user.until("/: all there are\\.$/.test(document.getElementById('findState').innerText)", 120)
+    assert user.text("findState") == "KPK win 6 families: 11 positions found: all there are.", user.text("findState")
+
+
 def test_a_reload_shows_the_document_before_a_look(user):
     user.promise("studyboard.open(a[0])", MINE)
     find(user, "win N", "6")
