@@ -28,6 +28,7 @@ Filters, after a theme but 'longest', a word each and in any order:
   =Q, =R, =B, =N        the one move that holds promotes to this man; not with 'zugzwang'
   wins, draws           the side to move wins, or draws; not with 'zugzwang'
   families              of the positions that differ in the square of one man, and have the same key, the first; not with 'zugzwang'
+  as-white              positions with Black to move are listed with colours exchanged and ranks mirrored, so that White is the hero
 
 Exit status: 0 the list was made; 2 the command line was refused; 3 the list stopped, and why is on standard error.";
 

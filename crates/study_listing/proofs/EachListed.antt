@@ -13,7 +13,7 @@ use Rattle.study_listing.proofs.KeyImages.{wanted-image, result-image}
 use Rattle.study_listing.proofs.Shown.{has-some}
 
 pub each-listed : AllAgreeWithBare → EachIsFoundOnce → EachIsListed
-each-listed law each s p valid home unswapped side theme there key result shown unpaired alone =
+each-listed law each s p valid home unswapped side theme there key result shown unpaired alone plain =
     let found = (each s.search p valid home (ap (λ b. is_for s.search.side (turned_side b p.to_move)) unswapped ∙ side) theme).found in
     let q = found.0 in
     let k = kept law s.search.class p q valid home unswapped found.1 in
@@ -23,7 +23,7 @@ each-listed law each s p valid home unswapped side theme there key result shown 
       record {
         sought = found.2;
         first = λ paired. absurd (false≢true (sym unpaired ∙ paired));
-        placed = has-some s q (image-placed law s.search.class p q valid home unswapped found.1 s.filters.men there);
+        placed = has-some s q plain (image-placed law s.search.class p q valid home unswapped found.1 s.filters.men there);
         key = subst (λ x. HasWantedKey s.filters x) (sym k.is) (wanted-image law p valid k.by turnable s.filters key);
         result = subst (λ x. HasWantedResult s.filters.result x) (sym k.is) (result-image law p valid k.by turnable s.filters.result result);
         row = shown q found.1;

@@ -92,5 +92,5 @@ module _ (law : AllAgreeWithBare) (c : Class) (p q : Position) (valid : IsValid 
       }
 
 pub placed-shown : AllAgreeWithBare → PlacedAreShown
-placed-shown law s p q valid home unswapped there reported =
-    has-some s q (image-placed law s.search.class p q valid home unswapped reported s.filters.men there)
+placed-shown law s p q valid home unswapped plain there reported =
+    has-some s q plain (image-placed law s.search.class p q valid home unswapped reported s.filters.men there)

@@ -5,19 +5,22 @@ use Rattle.std.specs.Prelude.{◌&&◌, ◌||◌, not, if◌then◌else◌, Resu
 use Rattle.study_board.specs.declared.symmetry.Symmetry.{Symmetry}
 use Rattle.study_board.specs.Men.{is_pawn}
 use Rattle.study_board.specs.Position.{Position, IsValid}
+use Rattle.study_board.specs.declared.men.Side.{Side}
+use Rattle.study_board.specs.declared.men.Side.TheVariants.{White, Black}
 use Rattle.study_board.proofs.ImagesOfImages.{image_unturned}
+use Rattle.study_board.proofs.ImagesValid.{valid_image}
 use Rattle.study_board.specs.Symmetry.{image, admits}
 use Rattle.study_material.specs.declared.class.Class.{Class}
 use Rattle.study_material.specs.Needs.{IsNeeded, NeedsClass}
 use Rattle.study_zugzwang.specs.Zugzwang.{handed_on}
 use Rattle.study_search.specs.Faults.{NeedsNoMore}
-use Rattle.study_search.specs.Laws.{colours_swapped}
+use Rattle.study_search.specs.Laws.{colours_swapped, image_for, with_white_to_move}
 use Rattle.study_search.specs.Pairs.{counterpart}
 use Rattle.study_search.proofs.Faults.{needs-image, needs-across}
 use Rattle.study_listing.specs.declared.filters.Placed.{Placed}
 use Rattle.study_listing.specs.declared.filters.Selection.{Selection}
 use Rattle.study_listing.specs.Filters.{no_filters, are_placed, turned_by, turns, or_else, image_placed, first_placed, HasImagePlaced}
-use Rattle.study_listing.specs.Lists.{is_paired, second_placed, listed_image}
+use Rattle.study_listing.specs.Lists.{is_paired, second_placed, hero_image, listed_image}
 use Rattle.study_listing.specs.Laws.{HasImageShown, IsShownRightly, ImagesAreShown}
 
 -- ---- wanted men
@@ -139,6 +142,18 @@ first-alone p b valid = go (not (list_any is_pawn p.men)) ∙ ap (λ (q : Positi
     go true = refl
     go false = refl
 
+-- the colour image is valid
+admits-swapped : (p : Position) → admits p colours_swapped ≡ true
+admits-swapped p = go (not (list_any is_pawn p.men))
+  where
+    go : (x : Bool) → (x || true) ≡ true
+    go true = refl
+    go false = refl
+
+white-valid : (p : Position) (side : Side) → IsValid p → IsValid (image_for side p)
+white-valid p White valid = valid
+white-valid p Black valid = valid_image colours_swapped p valid (admits-swapped p)
+
 module _ (s : Selection) (p : Position) where
   second-has : (b : Bool) → is_some (if b then first_placed s.filters.men (counterpart p) turns else None) ≡ true
       → (b ≡ true) × HasImagePlaced s.filters.men (counterpart p)
@@ -156,27 +171,33 @@ module _ (s : Selection) (p : Position) where
   second-is false q e = absurd (none-there q e)
 
   some-shown : is_some (listed_image s p) ≡ true → HasImageShown s p
-  some-shown e = elim (either (first_placed s.filters.men p turns) (second_placed s p) e) [
-    | inl here ↦ inl (shown-has s.filters.men p here)
+  some-shown e = elim (either (first_placed s.filters.men (hero_image s p) turns) (second_placed s p) e) [
+    | inl here ↦ inl (shown-has s.filters.men (hero_image s p) here)
     | inr other ↦ inr (second-has (is_paired s.search) other)
   ]
 
   shown-some : HasImageShown s p → is_some (listed_image s p) ≡ true
-  shown-some (inl h) = first-there (first_placed s.filters.men p turns) (second_placed s p) (has-shown s.filters.men p h)
-  shown-some (inr h) = second-there (first_placed s.filters.men p turns) (second_placed s p) (has-second (is_paired s.search) h.0 h.1)
+  shown-some (inl h) = first-there (first_placed s.filters.men (hero_image s p) turns) (second_placed s p) (has-shown s.filters.men (hero_image s p) h)
+  shown-some (inr h) = second-there (first_placed s.filters.men (hero_image s p) turns) (second_placed s p) (has-second (is_paired s.search) h.0 h.1)
 
-  pub has-some : HasImagePlaced s.filters.men p → is_some (listed_image s p) ≡ true
-  has-some h = shown-some (inl h)
+  pub has-some : s.filters.as_white ≡ false → HasImagePlaced s.filters.men p → is_some (listed_image s p) ≡ true
+  has-some plain h = shown-some (inl (subst (λ (q : Position). HasImagePlaced s.filters.men q)
+      (sym (ap (λ (b : Bool). if b then with_white_to_move p else p) plain)) h))
 
   shown-placed : (q : Position) → listed_image s p ≡ Some q → are_placed s.filters.men q ≡ true
-  shown-placed q e = elim (either-is (first_placed s.filters.men p turns) (second_placed s p) q e) [
-    | inl here ↦ first-is s.filters.men p turns q here
+  shown-placed q e = elim (either-is (first_placed s.filters.men (hero_image s p) turns) (second_placed s p) q e) [
+    | inl here ↦ first-is s.filters.men (hero_image s p) turns q here
     | inr other ↦ second-is (is_paired s.search) q other
   ]
 
-  shown-alone : IsValid p → s.filters.men ≡ no_filters.men → listed_image s p ≡ Some p
-  shown-alone valid none = subst (λ (ws : List (Option Placed)). or_else (first_placed ws p turns) (second_placed s p) ≡ Some p) (sym none)
-      (first-alone p (second_placed s p) valid)
+  hero-valid : IsValid p → (b : Bool) → IsValid (if b then with_white_to_move p else p)
+  hero-valid valid true = white-valid p p.to_move valid
+  hero-valid valid false = valid
+
+  shown-alone : IsValid p → s.filters.men ≡ no_filters.men → listed_image s p ≡ Some (hero_image s p)
+  shown-alone valid none =
+      subst (λ (ws : List (Option Placed)). or_else (first_placed ws (hero_image s p) turns) (second_placed s p) ≡ Some (hero_image s p)) (sym none)
+      (first-alone (hero_image s p) (second_placed s p) (hero-valid valid s.filters.as_white))
 
   shown-rightly : IsShownRightly s p
   shown-rightly = record { some = (some-shown, shown-some); placed = shown-placed; alone = shown-alone }
@@ -199,6 +220,11 @@ pub placed-needs : (ws : List (Option Placed)) (p : Position) (r : Option Positi
     → IfSome r (λ q. NeedsNoMore p q)
 placed-needs ws p None gs e = tt
 placed-needs ws p (Some q) gs e = needs-of ws p q gs (sym e)
+
+-- the same of a position that needs no more
+pub further-needs : (p h : Position) (r : Option Position) → NeedsNoMore p h → IfSome r (λ q. NeedsNoMore h q) → IfSome r (λ q. NeedsNoMore p q)
+further-needs p h None less e = tt
+further-needs p h (Some q) less e = λ c n. less c (e c n)
 
 -- the same of the image of a position with the other side to move
 pub counterpart-needs : (p o q : Position) (r : Option Position) → o ≡ handed_on p → q ≡ image colours_swapped o → IfSome r (λ x. NeedsNoMore q x)

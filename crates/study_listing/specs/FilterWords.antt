@@ -142,13 +142,14 @@ abbrev pub with_feature : Theme → Behind → List ℕ → Option Feature → R
 with_feature t b word None = with_promoted t b word (promoted_parsed word)
 with_feature t b word (Some f) = with_row t b (put f b.filters.row)
 
--- `no-capture`, `no-check`, `families`, `row-offer`, `=N`, `wins`, `draws`, `white`, `black`, or the square of a man
+-- `no-capture`, `no-check`, `families`, `as-white`, `row-offer`, `=N`, `wins`, `draws`, `white`, `black`, or the square of a man
 abbrev pub with_word : Theme → Behind → List ℕ → Result Behind Unread
 with_word t b word =
     if bytes_eq word (codes "no-capture") then if_key t (record b { filters = record b.filters { no_capture = true } })
     else (if bytes_eq word (codes "no-check") then if_key t (record b { filters = record b.filters { no_check = true } })
     else (if bytes_eq word (codes "families") then if_key t (record b { filters = record b.filters { families = true } })
-    else with_feature t b word (feature_parsed word)))
+    else (if bytes_eq word (codes "as-white") then Ok (record b { filters = record b.filters { as_white = true } })
+    else with_feature t b word (feature_parsed word))))
 
 -- word by word, up to the first that is refused
 abbrev pub with_words : Theme → Result Behind Unread → List (List ℕ) → Result Behind Unread

@@ -25,6 +25,7 @@ no_filters = record {
   result = None;
   row = replicate 4 None;
   families = false;
+  as_white = false;
 }
 
 abbrev pub is_from_to : ℕ → ℕ → ℕ → Bool

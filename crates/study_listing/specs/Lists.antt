@@ -17,6 +17,7 @@ use Rattle.study_search.specs.declared.finding.Search.{Search}
 use Rattle.study_search.specs.declared.themes.Theme.{Theme}
 use Rattle.study_search.specs.declared.themes.Theme.TheVariants as theme
 use Rattle.study_search.specs.Finding.{IsLookedFor, AreFound}
+use Rattle.study_search.specs.Laws.{with_white_to_move}
 use Rattle.study_search.specs.Longest.{IsLongest}
 use Rattle.study_search.specs.Pairs.{counterpart, IsListedOfTwo}
 use Rattle.study_listing.specs.declared.filters.Selection.{Selection}
@@ -57,10 +58,14 @@ IsOneOfPair s p = is_paired s ≡ true → IsListedOfTwo p
 abbrev pub second_placed : Selection → Position → Option Position
 second_placed s p = if is_paired s.search then first_placed s.filters.men (counterpart p) turns else None
 
+-- the position, or its colour image with White to move, if White is to be the hero
+abbrev pub hero_image : Selection → Position → Position
+hero_image s p = if s.filters.as_white then with_white_to_move p else p
+
 -- The image of the position that is listed: the first, starting with the identity, that has men on the wanted squares; if there is none, and the position
 -- is one placement of a mutual zugzwang, that of the other placement.
 abbrev pub listed_image : Selection → Position → Option Position
-listed_image s p = or_else (first_placed s.filters.men p turns) (second_placed s p)
+listed_image s p = or_else (first_placed s.filters.men (hero_image s p) turns) (second_placed s p)
 
 -- the row of only moves that is shown with the listed image has what the filters want
 abbrev pub HasRowShown : Selection → Position → Type 0

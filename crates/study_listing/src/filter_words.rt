@@ -236,6 +236,17 @@ fn without_capture(behind: Behind) -> Behind
     }
 }
 
+fn as_white(behind: Behind) -> Behind
+    ensures { result ≡ record behind { filters = record behind.filters { as_white = true } } }
+{
+    let mut filters = behind.filters;
+    filters.as_white = true;
+    Behind {
+        side: behind.side,
+        filters,
+    }
+}
+
 fn by_families(behind: Behind) -> Behind
     ensures { result ≡ record behind { filters = record behind.filters { families = true } } }
 {
@@ -408,6 +419,8 @@ fn with_word(theme: Theme, behind: Behind, word: &[u8]) -> Result<Behind, Unread
         if_key(theme, without_check(behind))
     } else if word == b"families".as_slice() {
         if_key(theme, by_families(behind))
+    } else if word == b"as-white".as_slice() {
+        Ok(as_white(behind))
     } else {
         with_feature(theme, behind, word)
     }

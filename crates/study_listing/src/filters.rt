@@ -45,6 +45,8 @@ pub struct Filters {
     pub row: [Option<Feature>; 4],
     /// Of the positions that differ in the square of one man, and have the same key, the first is enough.
     pub families: bool,
+    /// A position with Black to move is shown with colours exchanged, so that White is the hero.
+    pub as_white: bool,
 }
 
 /// A search and its filters.
@@ -67,6 +69,7 @@ impl Filters {
             result: None,
             row: [None; 4],
             families: false,
+            as_white: false,
         }
     }
 }

@@ -8,10 +8,11 @@ ghost use Rattle.study_material.specs.declared.class.Class.{Class as AClass};
 ghost use Rattle.study_material.specs.Needs.{IsNeeded, NeedsClass};
 ghost use Rattle.study_search.specs.Faults.{CanReport, HasSameTables, NeedsNoMore};
 ghost use Rattle.study_search.specs.Finding.{IsFound, IsLookedFor};
+ghost use Rattle.study_search.specs.Laws.{with_white_to_move};
 ghost use Rattle.study_search.specs.Pairs.{counterpart};
 ghost use Rattle.study_zugzwang.specs.Zugzwang.{handed_on};
 ghost use Rattle.study_listing.specs.Filters.{first_placed, turns};
-ghost use Rattle.study_listing.specs.Lists.{has_like_sides, is_of_zugzwangs, is_for_white, is_paired, second_placed, listed_image};
+ghost use Rattle.study_listing.specs.Lists.{has_like_sides, is_of_zugzwangs, is_for_white, is_paired, second_placed, hero_image, listed_image};
 ghost use Rattle.study_listing.specs.Lists.{IsOneOfPair, IsListed, IsListedAt, IsTextAt};
 ghost use Rattle.study_listing.specs.LetThrough.{IsLetThrough};
 
@@ -109,13 +110,52 @@ fn second_placed(selection: &Selection, p: &Position) -> Option<Position>
     None
 }
 
+/// A position equal to this one.
+fn same(p: &Position) -> Position
+    ensures value { result ≡ p.now }
+    ensures needs { NeedsNoMore p.now result }
+{
+    p.copied()
+}
+
+/// The position, or its colour image with White to move.
+fn with_white_to_move(p: &Position) -> Position
+    ensures value { result ≡ with_white_to_move p.now }
+    ensures needs { NeedsNoMore p.now result }
+{
+    match p.to_move() {
+        Side::White => same(p),
+        Side::Black => {
+            let swapped = Symmetry {
+                files: false,
+                ranks: false,
+                diagonal: false,
+                colours: true,
+            };
+            p.turned(&swapped)
+        }
+    }
+}
+
+/// The position, or its colour image with White to move, if White is to be the hero.
+fn hero_image(selection: &Selection, p: &Position) -> Position
+    ensures value { result ≡ hero_image selection.now p.now }
+    ensures needs { NeedsNoMore p.now result }
+{
+    if selection.filters.as_white {
+        return with_white_to_move(p);
+    }
+    same(p)
+}
+
 /// The image of a position that is listed: the first with men on the wanted squares.
 fn listed_image(selection: &Selection, p: &Position) -> Option<Position>
     ensures value { (is_paired selection.now.search ≡ true → IsValid (handed_on p.now))
         → result ≡ listed_image selection.now p.now }
     ensures needs { IfSome result (λ q. NeedsNoMore p.now q) }
 {
-    match first_placed(selection.filters.men.as_slice(), p) {
+    let hero = hero_image(selection, p);
+    match first_placed(selection.filters.men.as_slice(), &hero) {
         Some(image) => Some(image),
         None => second_placed(selection, p),
     }

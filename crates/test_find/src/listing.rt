@@ -320,3 +320,26 @@ fn the_first_of_a_family_is_listed(rt: HostRuntime) {
         assert!(rt; count_found(&wanted, &mut values, &mut NoWatch) == Ok(count));
     }
 }
+
+/// The draw by stalemate with Black to move, `K7/8/P7/2k5/8/8/8/8 b - - 0 1`, with Kb6, a7 and Kc7: with colours exchanged White draws by Kb3.
+const AS_WHITE: &[u8] = b"8/8/8/8/2K5/p7/8/k7 w - - 0 1 draw Kb3\n";
+
+/// A position with Black to move is listed as its colour image.
+#[test]
+fn colours_are_exchanged(rt: HostRuntime) {
+    let alloc = rt.alloc();
+    let mut values = tables(&rt, &alloc);
+    let mut wanted = search(Theme::OnlyMoves(Outcome::Draw, 2), None);
+    wanted.filters.as_white = true;
+    let fen = "K7/8/P7/2k5/8/8/8/8 b - - 0 1";
+    assert!(rt;
+        is_said(
+            &rt,
+            &alloc,
+            &wanted,
+            Form::Lines,
+            &mut values,
+            (fen, AS_WHITE)
+        )
+    );
+}

@@ -77,8 +77,9 @@ fn filters_are_read(rt: HostRuntime) {
     want.filters.row[2] = Some(Feature::Zugzwang);
     want.filters.row[3] = Some(Feature::Underpromotion);
     want.filters.families = true;
+    want.filters.as_white = true;
     let line =
-        "win 5 Kf7 row-stalemate no-check =N row-offer pa2-h4 black families row-zugzwang wins row-underpromotion";
+        "win 5 Kf7 row-stalemate no-check =N row-offer pa2-h4 black families as-white row-zugzwang wins row-underpromotion";
     assert!(rt; read(&rt, alloc, Class::KPKP, line) == Ok(Request::Positions(want)));
 }
 
