@@ -23,7 +23,8 @@ const form = {
   squares: '',
   row: '',
   quiet: false,
-  families: false
+  families: false,
+  white: false
 };
 /**
  * @type {{spawn: () => import('./engine.js').Core, search: Search | null, going: AbortController | null, fault: string,
@@ -89,7 +90,7 @@ const field = (id, label, field, props) => h('input', {
 });
 /**
  * @param {string} id
- * @param {'quiet' | 'families'} field
+ * @param {'quiet' | 'families' | 'white'} field
  * @param {string} label
  * @param {string} title
  */
@@ -140,6 +141,7 @@ function formView() {
         value => {
           form.row = value;
         }),
+    keyed && check('findWhite', 'white', 'White as the hero', 'where Black is to move colours are exchanged'),
     keyed && check('findQuiet', 'quiet', 'begins with a quiet move', 'neither a capture nor a check'),
     keyed &&
       check('findFamilies', 'families', 'one of each family',
@@ -153,7 +155,9 @@ function find() {
     return showFinding();
   }
   const narrowed = !form.theme.startsWith('longest'), keyed = narrowed && form.theme !== 'zugzwang',
-        ofKey = keyed ? [form.quiet && 'no-capture no-check', form.row, form.families && 'families'] : [];
+        ofKey = keyed
+    ? [form.quiet && 'no-capture no-check', form.row, form.families && 'families', form.white && 'as-white']
+    : [];
   const wanted = {
     name: form.name,
     theme: form.theme.replace('N', form.n),
