@@ -3,7 +3,7 @@
 
 ghost use Rattle.std.specs.Prelude.{◌≡◌, ◌↔◌, true, false, IfOk, IfErr};
 ghost use Rattle.std.specs.List.{All};
-ghost use Rattle.study_moves.specs.Rules.{has_side, is_legal, after};
+ghost use Rattle.study_moves.specs.Rules.{has_side, is_legal};
 ghost use Rattle.study_material.specs.Needs.{NeedsClass};
 ghost use Rattle.study_search.specs.Faults.{CanReport, HasSameTables};
 ghost use Rattle.study_search.specs.Listed.{SomeLeads};

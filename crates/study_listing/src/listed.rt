@@ -1,7 +1,7 @@
 //! Which of the found positions are listed, and which image of each.
 #![tactic(auto, using(study_search::proofs::Faults::can_report, study_search::proofs::Faults::if_reported))]
 
-ghost use Rattle.std.specs.Prelude.{◌≡◌, ◌↔◌, true, Some, is_some, IfOk, IfErr, IfSome, IfNone};
+ghost use Rattle.std.specs.Prelude.{◌≡◌, ◌↔◌, true, Some, IfOk, IfErr, IfSome, IfNone};
 ghost use Rattle.study_board.specs.Position.{IsValid, Position as APosition};
 ghost use Rattle.study_index.specs.Computed.{position_numbered};
 ghost use Rattle.study_material.specs.declared.class.Class.{Class as AClass};
