@@ -35,10 +35,10 @@ export async function learnWords() {
  * @param {string[]} lines
  */
 export async function learn(lines) {
-  const unknown = unknownIn(lines);
-  if (!unknown.length) return;
-  const {text, ended} = await services.core.answer('remarks', toText(unknown), PAGES);
-  if (ended === 'done') keepRemarks(unknown, text);
+  for (const part of unknownIn(lines)) {
+    const {text, ended} = await services.core.answer('remarks', toText(part), PAGES);
+    if (ended === 'done') keepRemarks(part, text);
+  }
 }
 
 // ---- views

@@ -1,5 +1,7 @@
 // @ts-check
-// How long a text a field takes, and the sentence for a longer one, so that no text of any length stops the page.
+// How long a text a field takes and how long a script the programs read, and the sentences for longer ones, so that no
+// text of any length stops the page.
+import {MOST_LINES} from './script.js';
 import {app, say, services} from './state.js';
 import {grouped} from './words.js';
 
@@ -41,6 +43,12 @@ export function tooLong(id, text) {
       `${instead}. Nothing was changed.`
                             : '';
 }
+/**
+ * What is said of a script that has more lines than the programs read; nothing of a shorter one.
+ * @param {number} count
+ */
+export const tooManyLines = count =>
+  (count > MOST_LINES ? `it has ${grouped(count)} lines, and the programs read at most ${grouped(MOST_LINES)}` : '');
 /**
  * A text that is too long for a field is refused with a sentence; the field has its value then.
  * @param {{id: string, value: string}} field

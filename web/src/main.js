@@ -14,10 +14,11 @@ import {close as closeEarlier} from './earlier_view.js';
 import {close as closeFinding, openFinding, startFinding} from './finding_view.js';
 import {makeCore} from './engine.js';
 import {back, closeMenu, forth, listenToKeys, goBeside} from './keys.js';
+import {tooManyLines} from './limits.js';
 import {saveReport} from './reporting.js';
 import {savedGames} from './saved_games.js';
 import {unreadIn} from './stamps.js';
-import {fensOf, savedScript} from './script.js';
+import {fensOf, linesOf, savedScript} from './script.js';
 import {begin, judgeDraft, openSetup} from './setup.js';
 import {bytesOf} from './packed.js';
 import {clearPaper, layOut} from './paper.js';
@@ -137,7 +138,10 @@ on('openTables', () => $('tableFiles').click());
 on('saveTables', saveTables);
 on('saveScript', () => work(async () => {
   const classes = await services.tables.classesOf(fensOf(doc().lines)).catch(() => []);
-  download(fileName('.script'), savedScript(doc(), classes));
+  const text = savedScript(doc(), classes), many = tooManyLines(linesOf(text).length);
+  download(fileName('.script'), text);
+  if (many) say('board', `The script is saved, for this page alone: ${many}.`, true);
+  show();
 }));
 /**
  * Studies with a refused line are saved as far as they were read.

@@ -20,77 +20,88 @@ const FIELDS = /** @type {Record<string, string[]>} */ ({
   'original': ['name', 'said'],
   'latin-1': ['name'],
   'letters': ['said'],
-  'total': ['games', 'studies'],
-  'other': ['said']
+  'total': ['games', 'studies']
 });
 const NUMBERS = new Set(['game', 'line', 'column', 'games', 'studies']);
+/** @type {Remark} */
+const NONE = {
+  kind: '',
+  game: 0,
+  line: 0,
+  column: 0,
+  author: '',
+  name: '',
+  said: '',
+  games: 0,
+  studies: 0
+};
 /**
- * A row without the number of its line.
- * @param {string[]} row
+ * A remark of a kind, with the texts of its fields.
+ * @param {string} kind
+ * @param {string[]} texts
  * @returns {Remark}
  */
-function remarkIn([kind, ...rest]) {
+function remarkIn(kind, texts) {
   const names = FIELDS[kind] || [], last = names.length - 1;
   const values = names.map((name, i) => {
-    const text = i < last ? rest[i] : rest.slice(i).join('\t');
+    const text = i < last ? texts[i] : texts.slice(i).join('\t');
     return [name, NUMBERS.has(name) ? Number(text) : text];
   });
-  return {
-    kind,
-    game: 0,
-    line: 0,
-    column: 0,
-    author: '',
-    name: '',
-    said: '',
-    games: 0,
-    studies: 0,
-    ...Object.fromEntries(values)
-  };
+  return {...NONE, kind, ...Object.fromEntries(values)};
 }
+/** Of most lines the program says no more than that they are of no import: their words are those of the line. */
+const OTHER = 'other';
 /**
- * What the program read in lines, or that they have no remark.
- * @type {Map<string, Remark | null>}
+ * What the program read in lines.
+ * @type {Map<string, Remark | typeof OTHER>}
  */
 export const known = new Map();
-const MOST = 200000;
+/** So many lines are kept; they are read in parts, since a request has at most 100,000 lines. */
+const MOST = 1000000, PART = 20000;
 /**
- * The lines that may be remarks and that the program has not read yet.
+ * The lines that are remarks or comments and that the program has not read yet, in parts.
  * @param {string[]} lines
  */
-export const unknownIn = lines => [...new Set(lines)].filter(line => line.startsWith('#') && !known.has(line));
+export function unknownIn(lines) {
+  if (known.size > MOST) known.clear();
+  const unknown = [...new Set(lines.filter(line => /^#!? /.test(line) && !known.has(line)))];
+  return Array.from({length: Math.ceil(unknown.length / PART)}, (_, i) => unknown.slice(i * PART, (i + 1) * PART));
+}
 /**
  * Keeps what the program answers for lines.
  * @param {string[]} lines
  * @param {string} answer
  */
 export function keepRemarks(lines, answer) {
-  if (known.size > MOST) known.clear();
-  for (const line of lines) known.set(line, null);
   for (const row of answer.split('\n')) {
-    const [number, ...fields] = row.split('\t');
-    if (number) known.set(lines[Number(number) - 1], remarkIn(fields));
+    const [number, kind, ...texts] = row.split('\t');
+    if (number) known.set(lines[Number(number) - 1], kind === OTHER ? OTHER : remarkIn(kind, texts));
   }
 }
 /**
  * The remark in a line, as far as the program has read it.
  * @param {string | undefined} line
  */
-export const remarkOf = line => known.get(line || '') || null;
+export function remarkOf(line = '') {
+  const found = known.get(line);
+  return found === OTHER ? {...NONE, kind: OTHER, said: cutAt(line, ' ')[1]} : found || null;
+}
 /**
  * The remarks of one kind in lines.
  * @param {string[]} lines
  * @param {string} kind
  */
-export const remarksOfKind = (lines, kind) =>
-  /** @type {Remark[]} */ (lines.map(remarkOf).filter(remark => remark && remark.kind === kind));
+export const remarksOfKind = (lines, kind) => lines.flatMap(line => {
+  const found = known.get(line);
+  return found && found !== OTHER && found.kind === kind ? [found] : [];
+});
 /**
  * Whether an import wrote a line, so that a report may print it.
  * @param {string} line
  */
 export function isOfImport(line) {
-  const remark = remarkOf(line);
-  return remark !== null && remark.kind !== 'other';
+  const found = known.get(line);
+  return found !== undefined && found !== OTHER;
 }
 
 // ---- the page's own remarks
@@ -108,6 +119,6 @@ export function cutAt(text, separator) {
  * @param {string} line
  */
 export function ownRemark(line) {
-  const remark = remarkOf(line), [word, rest] = cutAt(remark && remark.kind === 'other' ? remark.said : '', ' ');
+  const [word, rest] = cutAt(known.get(line) === OTHER ? cutAt(line, ' ')[1] : '', ' ');
   return {word, rest};
 }

@@ -4,6 +4,7 @@
 import {shownText} from './comments.js';
 import {download} from './dom.js';
 import {Stopped} from './engine.js';
+import {tooManyLines} from './limits.js';
 import {AT_MOVES, plain, short} from './notes.js';
 import {refusalIn} from './parse_answers.js';
 import {cutAt, ownRemark} from './remarks.js';
@@ -87,9 +88,14 @@ function printedLines(d) {
  * @returns {Promise<boolean>} whether it was saved
  */
 async function write(d, name) {
+  const lines = printedLines(d), many = tooManyLines(lines.length);
+  if (many) {
+    say('board', `No report: ${many}. Save the PGN, and open a file of fewer of its games.`);
+    return false;
+  }
   const worker = await workerFor(fensOf(d.lines)), pages = d.studies.filter(({aim}) => aim).length;
   tell(`The report is being written: ${counted(pages, 'study', 'studies')}`);
-  const {bytes, ended} = await worker.ask('report', toText(printedLines(d)), PAGES);
+  const {bytes, ended} = await worker.ask('report', toText(lines), PAGES);
   if (ended === 'done') {
     download(name, bytes);
     return true;

@@ -10,12 +10,11 @@ import {acceptedReply} from './assumed.js';
 import {CLASSES} from './core_host.js';
 import {Stopped} from './engine.js';
 import {
+  MOST_LINES,
   applyReply,
   fensOf,
   isGame,
   isPosition,
-  isSilent,
-  isTableLine,
   overLimit,
   readScript,
   repliesOf,
@@ -30,6 +29,8 @@ import {aimWords, endedReason} from './words.js';
 /** @typedef {{needs: string, replies: string[]}} Known      `needs`: what of the studies before it mattered */
 
 const KINGS = '4k3/8/8/8/8/8/8/4K3 w - - 0 1', AT_A_TIME = 50, MANY = 150, MOST_LETTERS = 3e7;
+/** Studies with more lines are not run together, so that no run has more than the program reads. */
+const LINES_AT_A_TIME = 20000;
 /**
  * The blocks of a script. The first block may lack a position.
  * @param {Sent[]} sent
@@ -66,7 +67,7 @@ export function ownOf(block, replies) {
   const own = new Set();
   let read = false, game = false;
   block.forEach(({text}, i) => {
-    if (isSilent(text) || (replies[i] || 'error').startsWith('error ')) return;
+    if ((replies[i] || 'error').startsWith('error ')) return;
     const [command, name] = wordsOf(text);
     if (command === 'tag' && !game) own.add(name);
     else if (command === 'stipulate' && !read) own.add('aim');
@@ -143,12 +144,12 @@ export const lastRunTime = () => lastRun;
  * @param {string[]} texts
  */
 async function repliesTo(texts) {
+  if (texts.length > MOST_LINES) throw notRun('TooManyLines');
   const text = toText(texts), there = running.get(text), began = performance.now(),
         answer = there || services.core.answer('run', text, PAGES);
   running.set(text, answer);
   try {
     const {text: replies, ended} = await answer;
-    if (ended === 'TooManyLines') throw notRun(ended);
     if (ended !== 'done') throw new Error(endedReason(ended));
     return repliesOf(texts, replies);
   } finally {
@@ -157,14 +158,19 @@ async function repliesTo(texts) {
   }
 }
 /**
- * The blocks that are run together: from one on, as far as they are not known.
+ * The place behind the blocks that are run together from one on.
  * @param {Sent[][]} blocks
  * @param {number} from
+ * @param {(block: Sent[]) => boolean} isWanted
  */
-function nextBlocks(blocks, from) {
-  let end = from + 1;
-  while (end < blocks.length && end - from < AT_A_TIME && !known.has(textOf(blocks[end]))) end++;
-  return blocks.slice(from, end);
+function endOfRun(blocks, from, isWanted = () => true) {
+  let end = from + 1, count = blocks[from].length;
+  while (end < blocks.length && end - from < AT_A_TIME && isWanted(blocks[end])) {
+    count += blocks[end].length;
+    if (count > LINES_AT_A_TIME) break;
+    end++;
+  }
+  return end;
 }
 /** @param {Sent[][]} blocks */
 const linesOf = blocks => blocks.flatMap(block => block.map(({text}) => text));
@@ -202,8 +208,9 @@ async function runByTables(blocks, report) {
   const rank = (/** @type {string} */ key) => CLASSES.indexOf(key.slice(key.lastIndexOf(' ') + 1));
   for (const key of [...groups.keys()].sort((x, y) => rank(y) - rank(x))) {
     const list = groups.get(key) || [];
-    for (let at = 0; at < list.length; at += AT_A_TIME) {
-      const some = list.slice(at, at + AT_A_TIME);
+    for (let at = 0; at < list.length;) {
+      const some = list.slice(at, endOfRun(list.map(({block}) => block), at));
+      at += some.length;
       await runApart(key.split(' ').filter(Boolean), some);
       done += some.length;
       report(done);
@@ -226,16 +233,12 @@ async function runApart(names, some) {
   }
 }
 /**
- * The replies to each line of a script, as studybench gives them.
+ * The lines of a script that are run, and the reply to each, as studybench gives it.
  * @param {string[]} lines
  * @param {(done: number, of: number) => void} [report]
  */
 export async function repliesFor(lines, report = () => {}) {
   const sent = toRun(lines), replies = /** @type {string[]} */ ([]);
-  if (lines.some(isTableLine)) {
-    const loads = await loadsOf(await services.tables.classesOf(fensOf(lines)));
-    return {sent, replies: (await repliesTo([...loads, ...sent.map(({text}) => text)])).slice(loads.length)};
-  }
   const blocks = blocksOf(sent), names = await services.tables.classesOf(fensOf(linesOf(blocks.filter(isFresh))));
   const headless = blocks[0] && !isPosition(blocks[0][0].text) ? 1 : 0,
         told = (/** @type {number} */ done) => report(done - headless, blocks.length - headless);
@@ -251,7 +254,8 @@ export async function repliesFor(lines, report = () => {}) {
       take(blocks[at++], there);
       continue;
     }
-    const some = nextBlocks(blocks, at), loads = await loadsOf(await services.tables.classesOf(fensOf(linesOf(some)))),
+    const some = blocks.slice(at, endOfRun(blocks, at, isFresh)),
+          loads = await loadsOf(await services.tables.classesOf(fensOf(linesOf(some)))),
           head = [...loads, ...before(carried)],
           all = (await repliesTo([...head, ...linesOf(some)])).slice(head.length);
     let from = 0;
@@ -269,7 +273,7 @@ export async function repliesFor(lines, report = () => {}) {
 /** @param {string} ended */
 const notRun = ended => new Stopped(`Refused: ${endedReason(ended)}. Nothing was changed`);
 /**
- * A script that studybench would not read to its end is not taken.
+ * A script with a line that no program reads is not taken.
  * @param {string[]} lines
  */
 export function readable(lines) {

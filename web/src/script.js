@@ -44,8 +44,8 @@ export const fensOf =
 /** @param {string} line */
 export const isGame = line => /^ *pgn *$/.test(line);
 /**
- * All lines of a script, as they are saved, with one more `pgn` at the end of each study that has none after its last
- * edit.
+ * The lines of a script that are run, with one more `pgn` at the end of each study that has none after its last edit:
+ * not its remarks, and not its lines of tables, since the page loads those that are needed.
  * @param {string[]} lines
  * @returns {Sent[]}
  */
@@ -53,6 +53,7 @@ export function toRun(lines) {
   const sent = /** @type {Sent[]} */ ([]);
   let begun = false, open = false;
   lines.forEach((text, line) => {
+    if (isSilent(text) || isTableLine(text)) return;
     const position = wordsOf(text)[0] === 'position';
     if (position && open) sent.push({text: 'pgn', line: -1});
     begun = begun || position;
@@ -63,19 +64,21 @@ export function toRun(lines) {
   if (open) sent.push({text: 'pgn', line: -1});
   return sent;
 }
-const MOST_BYTES = 1024, MOST_LINES = 100000;
+const MOST_BYTES = 1024;
+/** The programs read no more lines of a script; the page, which runs it study by study, has no such limit. */
+export const MOST_LINES = 100000;
 /**
- * Why studybench would not read a script to its end, as its run would say it; else nothing.
+ * Which line no program reads, as its run would say it; else nothing.
  * @param {string[]} lines
  */
 export function overLimit(lines) {
   const long =
     lines.findIndex(line => line.length > MOST_BYTES / 3 && new TextEncoder().encode(line).length > MOST_BYTES);
-  return long >= 0 ? `LineTooLong ${long + 1}` : lines.length > MOST_LINES ? 'TooManyLines' : '';
+  return long >= 0 ? `LineTooLong ${long + 1}` : '';
 }
 
 /**
- * One reply for each line: none for a remark, the whole text for a `pgn` that was accepted.
+ * One reply for each line that is run: the whole text for a `pgn` that was accepted.
  * @param {string[]} lines
  * @param {string} text
  */
@@ -83,7 +86,6 @@ export function repliesOf(lines, text) {
   const rows = text.split('\n');
   let at = 0;
   return lines.map(line => {
-    if (isSilent(line)) return '';
     if (wordsOf(line)[0] !== 'pgn' || (rows[at] || '').startsWith('error ')) return rows[at++] || '';
     const from = at;
     for (let empty = 0; empty < 2 && at < rows.length;)
@@ -101,9 +103,7 @@ export function repliesOf(lines, text) {
 export function readScript(lines, sent, replies) {
   const script = /** @type {Script} */ ({lines, studies: [], refused: []});
   const carried = /** @type {Carried} */ ({aim: null, tags: {}});
-  sent.forEach((s, i) => {
-    if (!isSilent(s.text) && !isTableLine(s.text)) applyReply(script, carried, s, replies[i] || 'error NoReply');
-  });
+  sent.forEach((one, i) => applyReply(script, carried, one, replies[i] || 'error NoReply'));
   for (const study of script.studies) withRemarks(lines, study);
   script.studies.forEach((study, i) => {
     study.end = endOf(script, study, script.studies[i + 1] ? script.studies[i + 1].head : lines.length);
@@ -264,19 +264,23 @@ export function savedScript(script, classes) {
  * @param {Script} script
  */
 export const gamesOf = script => script.studies.flatMap(study => study.games).join('');
+/** @param {string} line */
+const isPrinted = line => !isSilent(line) || isOfImport(line) || /^#! (comment:|tail) /.test(line);
 /**
  * The lines that are reported, each at its place in the script, so that refused ones have the numbers that they have on
- * the board. The `pgn` that a study lacks comes in place of an empty line or a remark behind it, if there is one.
+ * the board. The `pgn` that a study lacks comes in place of an empty line or a remark behind it, if there is one. A
+ * script with more lines than the program reads is reported without those that it does not print.
  * @param {Script} script
  */
-export function reportedLines(script) {
-  const lines = [...script.lines];
-  for (const {aim, last, end} of [...script.studies].reverse()) {
-    if (!aim || lines.slice(last + 1, end).some(isGame)) continue;
-    const free = lines.findIndex((line, at) => at > last && at < end && isSilent(line) && !isOfImport(line));
-    lines.splice(free < 0 ? last + 1 : free, free < 0 ? 0 : 1, 'pgn');
+export function reportedLines({lines, studies}) {
+  const games = /** @type {Map<number, string[]>} */ (new Map());
+  for (const {aim, last, end} of studies) {
+    const behind = lines.slice(last + 1, end), free = behind.findIndex(line => isSilent(line) && !isOfImport(line));
+    if (!aim || behind.some(isGame)) continue;
+    games.set(free < 0 ? last : last + 1 + free, free < 0 ? [lines[last], 'pgn'] : ['pgn']);
   }
-  return lines;
+  const all = lines.flatMap((line, at) => games.get(at) || [line]);
+  return all.length > MOST_LINES ? all.filter(isPrinted) : all;
 }
 /**
  * Remarks and questions of a study that is written anew: the last `pgn` is enough.

@@ -238,6 +238,6 @@ export function reason(reply) {
 export function endedReason(ended) {
   const [name, line] = ended.split(' ');
   if (name === 'LineTooLong') return `line ${line} has more than 1024 characters`;
-  if (name === 'TooManyLines') return 'more than 100,000 lines';
+  if (name === 'TooManyLines') return 'a study has more than 100,000 lines';
   return name === 'OutOfMemory' ? refusalReason(name) : ended;
 }

@@ -14,7 +14,7 @@ test('the stand-in for the program reads remarks as it does', () => {
 });
 test('the fields of a remark', () => {
   known.clear();
-  assert.deepEqual(unknownIn([...LINES, LINES[0]]), LINES.filter(line => line.startsWith('#')));
+  assert.deepEqual(unknownIn([...LINES, LINES[0]]), [LINES.filter(line => /^#!? /.test(line))]);
   keepRemarks(LINES, ROWS);
   assert.deepEqual(unknownIn(LINES), []);
   const none = {game: 0, line: 0, column: 0, author: '', name: '', said: '', games: 0, studies: 0};
@@ -27,6 +27,11 @@ test('the fields of a remark', () => {
   assert.deepEqual(ownRemark(LINES[18]), {word: 'note', rest: 'Kg3: good'});
   assert.deepEqual(ownRemark(LINES[0]), {word: '', rest: ''});
   assert.deepEqual([0, 11, 15, 18, 19].map(at => isOfImport(LINES[at])), [true, true, false, false, false]);
+});
+test('remarks of a long script are read in parts, which a request has room for', () => {
+  const lines = [...Array(100001).keys()].map(n => `#! note Kb${n}: good`), parts = unknownIn([...lines, '#> tag A B']);
+  assert.deepEqual(parts.flat(), lines);
+  assert.ok(parts.every(part => part.length <= 100000));
 });
 test('the words of the program', () => {
   assert.equal(refusalReason('BadByte'), 'a letter outside plain ASCII');

@@ -63,6 +63,16 @@ test('a change of one study among many runs that one alone', async () => {
   assert.deepEqual((await repliesFor(next)).replies, whole(next));
   assert.ok(requests.length === 1 && requests[0] < 14, `${requests}`);
 });
+test('no run has more lines than the program reads, and remarks and tables are not run', async () => {
+  begin();
+  const studies = [...Array(60).keys()].flatMap(n => study(n + 400, ...Array(3000).fill('insert root Kd1'))),
+        lines = ['build KK', ...studies.flatMap(line => (line.startsWith('position') ? ['# A', line] : [line]))];
+  assert.deepEqual((await repliesFor(lines)).replies, whole(lines));
+  assert.ok(requests.length > 1 && requests.every(count => count <= 100000), `${requests}`);
+  requests = [];
+  await repliesFor(lines.map(line => (line === '# A' ? '# B' : line)));
+  assert.deepEqual(requests, []);
+});
 test('a study that takes over what changed is run too', async () => {
   begin();
   const lines = [

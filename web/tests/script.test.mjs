@@ -5,8 +5,10 @@ import assert from 'node:assert/strict';
 import {readFileSync} from 'node:fs';
 import * as edits from '../src/edits.js';
 import {advance, begin, redo, undo} from '../src/history.js';
+import {tooManyLines} from '../src/limits.js';
 import {readView} from '../src/parse_answers.js';
 import {assumeAccepted} from '../src/assumed.js';
+import {remarkOf} from '../src/remarks.js';
 import {
   editsTo,
   fensOf,
@@ -71,12 +73,13 @@ test('studies, verdicts and refused lines', () => {
   assert.equal(gallery('knnk_no_forced_mate').script.refused.length, 7);
   assert.ok(games('saavedra_1895') >= 1);
 });
-test('what is run is the script as it is saved, with a game behind each study', () => {
+test('what is run is the script as it is saved, without its remarks and tables, with a game behind each study', () => {
   const lines = [
     'build KK', 'position A', '', 'stipulate white win', '# note', 'pgn', 'mark root', 'position B', 'insert root Kb2',
     'mark 0'
   ];
-  assert.deepEqual(toRun(lines).map(s => s.text), [...lines, 'pgn']);
+  const run = lines.filter(line => line && !/^(#|build)/.test(line));
+  assert.deepEqual(toRun(lines).map(s => s.text), [...run, 'pgn']);
   assert.deepEqual(toRun(['position A', 'stipulate white win', 'position B']).map(s => s.text),
     ['position A', 'stipulate white win', 'pgn', 'position B', 'pgn']);
   assert.deepEqual(fensOf([' position  8/8 w', 'shift 7/8 b', 'tag Event position 1']), ['8/8 w', '7/8 b']);
@@ -89,7 +92,7 @@ test('a remark has no reply, and a question that is refused is listed', () => {
   assert.deepEqual(script.refused, [{line: 4, text: 'mark 0', reply: 'error NoSuchNode'}]);
   assert.deepEqual([script.studies[0].last, script.studies[0].verdict], [5, 'sound']);
 });
-test('what studybench would not read to its end', () => {
+test('a line that no program reads', () => {
   const bytes = n => '#' +
     'a'.repeat(n - 1);
   assert.equal(overLimit(['position A', bytes(1024), '']), '');
@@ -101,8 +104,20 @@ test('what studybench would not read to its end', () => {
       'é'.repeat(512)
   ]),
     'LineTooLong 2');
-  assert.equal(overLimit(Array(100000).fill('#')), '');
-  assert.equal(overLimit(Array(100001).fill('#')), 'TooManyLines');
+  assert.equal(overLimit(Array(100001).fill('#')), '');
+});
+test('a script with more lines than the programs read is reported without the remarks that are not printed', () => {
+  const kept = ['#! tail 1 of 2 of game 1, node 0, after 1. Kb2', '#! comment: 1. Kb2: good', '#! games 1, studies 1'],
+        lines =
+          [
+            '#! tag Source a book', '#> position A', ...kept, 'position A', 'stipulate white win', 'insert root Kb2', ''
+          ],
+        many = [...lines, ...Array(100000).fill('#> tag Round ?')], studies = [{aim: {}, last: 7, end: 9}];
+  remarkOf(kept[2]);
+  assert.equal(reportedLines({lines: many.slice(0, 100000), studies}).length, 100000);
+  assert.deepEqual(reportedLines({lines: many, studies}), [...kept, ...lines.slice(5, 8), 'pgn']);
+  assert.equal(tooManyLines(100000), '');
+  assert.equal(tooManyLines(100001), 'it has 100,001 lines, and the programs read at most 100,000');
 });
 test('a script whose lines are all accepted is as it was assumed to be', () => {
   for (const name of ['saavedra_1895', 'reti_1921']) {

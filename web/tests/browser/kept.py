@@ -240,12 +240,32 @@ def test_studybench_takes_what_is_saved(user):
     assert re.findall(r"^error.*", answer, re.M) == ["error NoSuchNode", "error NotSan"]
     assert re.findall(r"^\[Event [\s\S]*?\n\n[\s\S]*?\n\n", answer, re.M) == [user.promise("studyboard.pgn()")]
     before = script(user)
-    long, many = f"{text}{remark}x\n", text + "#\n" * 100000
-    for bad, words in ((long, "line 10 has more than 1024 characters"), (many, "more than 100,000 lines")):
+    long, many = f"{text}{remark}x\n", text + "mark 0\n" * 100000
+    for bad, words in ((long, "line 10 has more than 1024 characters"), (many, "a study has more than 100,000 lines")):
         user.promise("studyboard.open(a[0])", bad)
         assert words in user.text("sayBoard") and script(user) == before
         if os.access(NATIVE, os.X_OK):
             assert replies(bad)[1] == 3
+
+
+def test_a_script_with_more_lines_than_the_programs_read(user):
+    user.open_tables(TABLES, SMALL)
+    study = f"position {FEN}\nstipulate white win\ninsert root Kg3\n"
+    user.promise("studyboard.open(a[0])", "#! comment: good\n" * 100000 + study + "\n" + study)
+    user.until("document.getElementById('stamp')")
+    user.settle()
+    _, saved = user.download("saveScript")
+    count = f"it has {saved.count(chr(10)):,} lines, and the programs read at most 100,000."
+    assert saved.startswith("build KK\n")
+    assert user.text("sayBoard") == "The script is saved, for this page alone: " + count
+    user.click("saveReport")
+    user.until("document.getElementById('sayBoard').textContent.startsWith('No report: it has 100,00')")
+    assert user.download("savePgn")[1].count("[FEN ") == 2
+    user.promise("studyboard.open(a[0])", saved)
+    user.until("document.querySelectorAll('#studies option').length === 2")
+    user.promise("studyboard.open(a[0])", "#> a line of a whole game\n" * 100000 + study)
+    user.until("document.querySelectorAll('#studies option').length === 1")
+    assert "White to win" in user.download("saveReport")[1]
 
 
 def test_what_a_pgn_says_beside_its_moves_is_kept(user):
