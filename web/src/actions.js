@@ -6,6 +6,7 @@ import {advance, begin, redo as redone, replace, undo as undone} from './history
 import {evaluate, readable} from './running.js';
 import {editsTo, fensOf, toText, wordsOf} from './script.js';
 import {nodeAt} from './parse_answers.js';
+import {pauseIfLong} from './pauses.js';
 import {cancelPrefetch, prefetchNeighbours, prefetchView} from './prefetch.js';
 import {Stopped} from './engine.js';
 import {freshId} from './keep.js';
@@ -148,7 +149,7 @@ const after = next => (next.id === doc().id ? advance(app.history, next) : begin
 function docAfter(now, wanted, script, judged) {
   const at = Math.max(0, Math.min(wanted.at === undefined ? now.at : wanted.at, script.studies.length - 1)),
         made = script.studies[at] && script.studies[at].made;
-  const path = wanted.path === 'made' ? (made ? made.path : 'root')
+  const path = wanted.path === 'made' ? (made ? wordsOf(made.reply)[1] : 'root')
     : wanted.path === undefined       ? now.path
                                       : wanted.path;
   const {name = now.name, note = now.note, id = now.id || freshId()} = wanted;
@@ -264,6 +265,7 @@ export async function arrive(wanted, note = null) {
   const stamp = ++app.stamp;
   let next = await read(wanted);
   const s = next.now.studies[next.now.at], text = s ? toText(editsTo(next.now.lines, s)) : '', judged = next.now.judged;
+  await pauseIfLong(next.now.lines);
   let view = s && judged ? await viewOf(text, next.now.path) : null;
   if (typeof view === 'string' && next.now.path !== 'root') {
     next = replace(next, {...next.now, path: 'root'});
@@ -285,6 +287,7 @@ export async function arrive(wanted, note = null) {
   cancelPrefetch();
   if (app.view && s && s.aim) reviewOf(text, s.fen, stamp);
   services.keep();
+  await pauseIfLong(next.now.lines);
   services.show();
   if (app.view) prefetchNeighbours(text, stamp);
   if (!judged && !app.noView) judgeLater(next.now);

@@ -148,14 +148,14 @@ export function makeCore(module, most = 2 ** 32 - PAGE) {
   }
   /**
    * An answer over the tables, read by pages or whole (0). Where the text was longer than its room the request is made
-   * once more.
+   * once more. A long PGN has a script twice as long.
    * @param {string} request
    * @param {string | Uint8Array} script
    * @param {number} pages
    */
   function answer(request, script, pages) {
     const words = encode(request), text = typeof script === 'string' ? encode(script) : script;
-    const first = Math.max(1 << 18, 16 * text.length);
+    const first = Math.max(1 << 18, (request.startsWith('import') ? 4 : 16) * text.length);
     let done = once(words, text, pages, first);
     if (done.length > first) done = once(words, text, pages, done.length);
     if (!done.length) throw new Error('no memory is left');

@@ -55,7 +55,7 @@ export const insertMoves = (lines, study, root, path, sans) => insertLines(lines
  * @returns {Change}
  */
 export function removeNode(lines, study, node) {
-  const newest = study.made && study.made.line === study.last && study.made.path === node.path &&
+  const newest = study.made && study.made.line === study.last && wordsOf(study.made.reply)[1] === node.path &&
     wordsOf(lines[study.last])[0] === 'insert';
   return {
     lines: newest ? splice(lines, study.last, 1) : append(lines, study, 'delete ' + node.path),

@@ -62,7 +62,7 @@ export function notKept(lines) {
     const at = count.lastIndexOf(' '), name = count.slice(0, at);
     if (GONE[name]) sums.set(name, (sums.get(name) || 0) + Number(count.slice(at)));
   }
-  const atNull = lines.map(ownRemark).filter(isAtNullMove).length,
+  const atNull = lines.filter(line => line.startsWith('#! note ')).map(ownRemark).filter(isAtNullMove).length,
         behind = remarksOfKind(lines, 'behind-result').length;
   const list = [...sums].map(([name, n]) => counted(n, ...GONE[name]));
   if (atNull) list.push(counted(atNull, 'comment or NAG there', 'comments and NAGs there'));
@@ -134,7 +134,7 @@ export function noteAfter(note, before, after) {
 export const studiesIn = lines => lines.filter(line => line.startsWith('position ')).length;
 
 /** @param {string} line */
-const isTotal = line => remarksOfKind([line], 'total').length > 0;
+const isTotal = line => line.startsWith('#! games ') && remarksOfKind([line], 'total').length > 0;
 /**
  * The lines of an import as a document: without the counts at its end, which the next change would make wrong.
  * @param {string[]} lines
@@ -246,7 +246,8 @@ export const againstText = against => AGAINST[against] || against;
  * @param {string[]} lines
  */
 export const mostGames = lines => lines.reduce((most, line) => {
-  const remark = remarkOf(line), game = remark ? remark.game || (stipulatedBy(line) || {game: 0}).game : 0;
+  const remark = line.startsWith('#! game ') ? remarkOf(line) : null,
+        game = remark ? remark.game || (stipulatedBy(line) || {game: 0}).game : 0;
   return Math.max(most, game);
 }, 0);
 /**

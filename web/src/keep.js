@@ -5,6 +5,7 @@
 // A document is written by the page that opened it last. Where another page has taken it over, this one goes on at a
 // new place, so that two never write into one. Any page of file:// can write here, so what is read is only ever text.
 import {headOf, nextVersion, readHead} from './heads.js';
+import {once} from './once.js';
 /** @typedef {import('./types.js').Doc} Doc @typedef {import('./types.js').KeptDraft} KeptDraft */
 /** @typedef {import('./types.js').Review} Review @typedef {import('./heads.js').Head} Head */
 /** @typedef {import('./history.js').History<Doc>} History */
@@ -13,6 +14,8 @@ import {headOf, nextVersion, readHead} from './heads.js';
  * @typedef {{at: number, path: string, from: number, gone: number, lines: string[]}} Step
  */
 const HEAD = 'studyboard.head.', BODY = 'studyboard.body.', STEPS = 300, LETTERS = 300000;
+/** No browser keeps more letters of a page. */
+const MOST_LETTERS = 5 * 2 ** 20;
 /** A new place, or a new page. */
 export const freshId = () => Date.now().toString(36) + Math.random().toString(36).slice(2, 8);
 
@@ -28,6 +31,8 @@ export function difference(old, next) {
   while (end < least - from && old[old.length - 1 - end] === next[next.length - 1 - end]) end++;
   return {from, gone: old.length - from - end, lines: next.slice(from, next.length - end)};
 }
+/** How many letters a script has. */
+export const lettersIn = once((/** @type {string[]} */ lines) => lines.reduce((sum, line) => sum + line.length + 1, 0));
 /** @type {WeakMap<string[], {old: string[], change: ReturnType<typeof difference>}>} */
 const differences = new WeakMap();
 /**
@@ -162,7 +167,7 @@ export function makeKeeper({local, page, now = Date.now, factsOf = () => ({revie
     placeOf,
     /**
      * Keeps a document as it is now; a draft that has no document yet is kept with an empty script. Whether the browser
-     * took it.
+     * took it: one for which there was no room is tried again once it has changed, or another one is removed.
      * @param {History} history
      * @param {KeptDraft | null} draft
      * @param {string[]} tables
@@ -170,6 +175,7 @@ export function makeKeeper({local, page, now = Date.now, factsOf = () => ({revie
     keep(history, draft, tables) {
       const doc = history.now, before = last.get(doc.id), place = placeOf(doc.id), old = headAt(place);
       const same = before && before[0] === doc.lines && before[1] === history.past && before[2] === history.future;
+      if ((same && !before[3]) || lettersIn(doc.lines) > MOST_LETTERS) return false;
       const body = same ? '' : JSON.stringify({
         script: doc.lines.join('\n'),
         past: toSteps(doc, [...history.past].reverse()),
@@ -186,7 +192,7 @@ export function makeKeeper({local, page, now = Date.now, factsOf = () => ({revie
         draft
       };
       const taken = (!changed || write(BODY + place, body)) && write(HEAD + place, JSON.stringify(head));
-      if (taken) last.set(doc.id, [doc.lines, history.past, history.future]);
+      last.set(doc.id, [doc.lines, history.past, history.future, taken]);
       return taken;
     },
     /**
@@ -245,6 +251,8 @@ export function makeKeeper({local, page, now = Date.now, factsOf = () => ({revie
         for (const key of [HEAD + id, BODY + id]) local.removeItem(key);
       } catch { /* it was not kept */
       }
+      for (const [other, [, , , taken]] of last)
+        if (!taken) last.delete(other);
     },
     /** @param {string} id */
     forget(id) { last.delete(id); },

@@ -7,6 +7,7 @@ import {documentOf, noteAfter, studiesIn} from './imported.js';
 import {freshId} from './keep.js';
 import {NO_POSITION, canBeCut, isCutLine, leftOut, leftOutBy, whyLeftOut, withoutCut} from './left_out.js';
 import {refuseLong} from './limits.js';
+import {once} from './once.js';
 import {checkedName, importPgn, withRemarks} from './opening.js';
 import {app, doc, say, services, study} from './state.js';
 import {aimWords} from './words.js';
@@ -23,7 +24,7 @@ import {aimWords} from './words.js';
 async function read(text, {game, line}, aim, upToFaults = false) {
   const bytes = new TextEncoder().encode(text), lines = await importPgn(bytes, aim, upToFaults),
         [out = null] = leftOut(lines);
-  return {lines: asGame(withRemarks(documentOf(lines), bytes), game, line), out};
+  return {lines: asGame(await withRemarks(documentOf(lines), bytes), game, line), out};
 }
 /**
  * The lines of a game up to its bad move; or why it has none. A game that is left out for this move all the same has
@@ -191,10 +192,11 @@ const withoutAim = lines => lines
                               })
                               .reverse();
 /** How many of them the document has, and whether it has the texts of all. */
-export function gamesWithoutAim() {
-  const {lines} = doc(), games = withoutAim(lines);
+export const gamesWithoutAim = () => countsWithoutAim(doc().lines);
+const countsWithoutAim = once((/** @type {string[]} */ lines) => {
+  const games = withoutAim(lines);
   return {count: games.length, kept: games.every(line => leftOutText(lines, line).cut)};
-}
+});
 /**
  * The games that state no stipulation are read with this one; all else stays as it is.
  * @param {string} aim

@@ -128,7 +128,8 @@ export function gamesIn(text, starts = []) {
  * A line of a script has at most 1,024 bytes.
  * @param {string} line
  */
-export const short = line => line.slice(0, new TextEncoder().encode(line).length > MOST ? MOST / 3 : MOST);
+export const short = line =>
+  line.length * 3 <= MOST ? line : line.slice(0, new TextEncoder().encode(line).length > MOST ? MOST / 3 : MOST);
 /**
  * A long comment in parts, between words, so that nothing of it is cut off.
  * @param {string} text

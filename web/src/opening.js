@@ -17,6 +17,8 @@ import {remarkOf} from './remarks.js';
 import {savedGames} from './saved_games.js';
 import {isCommand, isSilent, linesOf} from './script.js';
 import {tailIn, wayTo} from './tails.js';
+import {pauses} from './pauses.js';
+import {once} from './once.js';
 import {setUpText} from './setup.js';
 import {underWay} from './under_way.js';
 import {aimText, counted, endedReason, readAim} from './words.js';
@@ -37,26 +39,23 @@ export function lastOpened() {
 }
 /**
  * Where the games of a document are the PGN that was opened, but for verdicts and the ends of lines, nothing of it was
- * lost. They are compared some at a time, up to the first that differs.
+ * lost. They are compared one after the other, up to the first that differs.
  */
 export async function checkWhole() {
   const d = doc(), from = source, text = from && from.id === d.id && d.note && d.judged && decode(from.bytes);
   if (!from || !text) return;
-  const whole = withoutVerdicts(text);
-  let at = 0;
+  const games = gamesIn(text), rest = pauses();
+  if (games.length !== d.studies.length) return;
   for (const [i, study] of d.studies.entries()) {
-    const games = withoutVerdicts(savedGames({...d, studies: [study]}));
-    if (!whole.startsWith(games, at)) return;
-    at += games.length;
-    if (i % SOME === SOME - 1) await new Promise(on => setTimeout(on));
+    const saved = savedGames({...d, studies: [study]});
+    if (withoutVerdicts(saved).trim() !== withoutVerdicts(games[i]).trim()) return;
+    if (rest.isDue()) await rest.pause();
     if (doc() !== d) return;
   }
-  if (at !== whole.length) return;
   app.history = replace(app.history, {...d, note: '', name: from.name.replace(/\.\w+$/, '')});
   services.keep();
   services.show();
 }
-const SOME = 50;
 /**
  * The lines of a file.
  * @param {Uint8Array} bytes
@@ -71,6 +70,17 @@ export function rawLines(bytes) {
   return lines;
 }
 /**
+ * The lines of a file as texts.
+ * @param {Uint8Array} bytes
+ */
+function textLines(bytes) {
+  try {
+    const lines = new TextDecoder('utf-8', {fatal: true}).decode(bytes).split('\n');
+    if (lines[lines.length - 1] === '') lines.pop();
+    return lines;
+  } catch { return rawLines(bytes).map(decode); }
+}
+/**
  * The lines that the program makes of a PGN.
  * @param {Uint8Array} bytes
  * @param {string} aim      words of a stipulation for games that say none, or nothing
@@ -80,7 +90,7 @@ export async function importPgn(bytes, aim, upToFaults = false) {
   const request = upToFaults ? 'import-up-to-faults' : 'import',
         answer = await services.core.ask(`${request} ${aim}`.trim(), bytes, 0);
   if (answer.ended !== 'done') throw new Error(endedReason(answer.ended));
-  const lines = rawLines(answer.bytes).map(decode);
+  const lines = textLines(answer.bytes);
   await learn(lines);
   return lines;
 }
@@ -99,10 +109,10 @@ const lettersIn = raw => (/** @type {number} */ count) => {
  * @param {Uint8Array} bytes
  * @param {number[]} [starts]      where each game comes to begin
  */
-export function withRemarks(lines, bytes, starts = []) {
-  const raw = rawLines(bytes), games = gamesIn(raw.map(decode).join('\n'), starts);
+export async function withRemarks(lines, bytes, starts = []) {
+  const games = gamesIn(textLines(bytes).join('\n'), starts), raw = once(rawLines), rest = pauses();
   let game = 0, first = 0, way = /** @type {string[]} */ ([]), room = MOST_KEPT;
-  return lines.flatMap((line, at) => {
+  const said = (/** @type {string} */ line, /** @type {number} */ at) => {
     const remark = remarkOf(line), out = leftOutBy(line), tail = tailIn(line);
     if (remark && remark.game) [game, first, way] = [remark.game, at, []];
     if (tail) way = wayTo(lines.slice(first, at), tail.node);
@@ -112,9 +122,15 @@ export function withRemarks(lines, bytes, starts = []) {
     if (!out) return stillGone(line);
     if (!canBeMended(out) || room <= 0) return [line, ...namesOf(source)];
     room -= source.split('\n').length;
-    const cut = cutOf(source, starts[game - 1], out, lettersIn(raw[out.line - 1] || bytes.subarray(0, 0)));
+    const cut = cutOf(source, starts[game - 1], out, lettersIn(raw(bytes)[out.line - 1] || bytes.subarray(0, 0)));
     return [line, ...namesOf(source), ...textRemarks(cut)];
-  });
+  };
+  const all = /** @type {string[]} */ ([]);
+  for (const [at, line] of lines.entries()) {
+    all.push(...said(line, at));
+    if (rest.isDue()) await rest.pause();
+  }
+  return all;
 }
 /** A position for a game that only has a tag. */
 const KINGS = '4k3/8/8/8/8/8/8/4K3 w - - 0 1';
@@ -151,8 +167,8 @@ export async function openPgn(bytes, where, name, how = {
     lines = await importPgn(read, how.aim);
   }, where);
   if (!lines.length) return;
-  const held = withRemarks(documentOf(lines), read, starts), waiting = withoutAim(lines), came = importNote(lines),
-        latin = /\ufffd/.test(new TextDecoder().decode(bytes)),
+  const held = await withRemarks(documentOf(lines), read, starts), waiting = withoutAim(lines),
+        came = importNote(lines), latin = /\ufffd/.test(new TextDecoder().decode(bytes)),
         foreign = latin ? foreignGames(rawLines(bytes), starts) : [],
         letters = foreignText(foreign, how.code) || (latin && !how.code && LATIN),
         said = [came, letters, notKept(lines)].filter(Boolean).join(' ');

@@ -22,11 +22,12 @@ import {
   toText,
   wordsOf
 } from './script.js';
+import {pauseIfLong, pauses} from './pauses.js';
 import {PAGES, services} from './state.js';
 import {aimWords, endedReason} from './words.js';
 /** @typedef {import('./script.js').Sent} Sent @typedef {import('./script.js').Carried} Carried */
 /** @typedef {import('./types.js').Answer} Answer @typedef {import('./types.js').Script} Script */
-/** @typedef {{needs: string, replies: string[]}} Known      `needs`: what of the studies before it mattered */
+/** @typedef {{needs: string, replies: string}} Known      `needs`: what of the studies before it mattered */
 
 const KINGS = '4k3/8/8/8/8/8/8/4K3 w - - 0 1', AT_A_TIME = 50, MANY = 150, MOST_LETTERS = 3e7;
 /** Studies with more lines are not run together, so that no run has more than the program reads. */
@@ -95,12 +96,13 @@ export const before = ({aim, tags}) => {
 
 const known = /** @type {Map<string, (Known & {own: Set<string>})[]>} */ (new Map());
 let letters = 0;
+/** Stands between the replies to a block, which are kept as one text. */
+const BETWEEN = '\0';
 /**
  * @param {string} text
- * @param {{replies: string[]}[]} list
+ * @param {{replies: string}[]} list
  */
-const sizeOf = (text, list) =>
-  text.length + list.reduce((sum, {replies}) => sum + replies.reduce((all, reply) => all + reply.length, 0), 0);
+const sizeOf = (text, list) => list.reduce((sum, {replies}) => sum + replies.length, text.length);
 /** @param {Sent[]} block */
 const textOf = block => block.map(({text}) => text).join('\n');
 /**
@@ -112,18 +114,20 @@ function find(text, carried) {
   if (!list || !found) return null;
   known.delete(text);
   known.set(text, list);
-  return found.replies;
+  return found.replies.split(BETWEEN);
 }
 /**
+ * The replies, as parts of the text by which they are kept, so that of the answer that they came with nothing is held.
  * Replies that wait for a table are not kept.
  * @param {Sent[]} block
  * @param {string[]} replies
  * @param {Carried} carried
  */
 function keep(block, replies, carried) {
-  if (replies.some(reply => /^error \w*(Table|OutOfMemory|NoReply)/.test(reply))) return;
+  if (replies.some(reply => /^error \w*(Table|OutOfMemory|NoReply)/.test(reply))) return replies;
   const text = textOf(block), own = ownOf(block, replies), needs = needsOf(carried, own), old = known.get(text) || [],
-        list = [...old.filter(one => one.needs !== needs).slice(-3), {own, needs, replies}];
+        all = replies.join(BETWEEN),
+        list = [...old.filter(one => one.needs !== needs).slice(-3), {own, needs, replies: all}];
   letters += sizeOf(text, list) - (old.length ? sizeOf(text, old) : 0);
   known.delete(text);
   known.set(text, list);
@@ -132,6 +136,7 @@ function keep(block, replies, carried) {
     letters -= sizeOf(key, gone);
     known.delete(key);
   }
+  return all.split(BETWEEN);
 }
 
 // ---- runs
@@ -243,6 +248,7 @@ export async function repliesFor(lines, report = () => {}) {
   const headless = blocks[0] && !isPosition(blocks[0][0].text) ? 1 : 0,
         told = (/** @type {number} */ done) => report(done - headless, blocks.length - headless);
   if (services.tables.isTooMuch(names)) await runByTables(blocks, told);
+  const rest = pauses();
   let carried = /** @type {Carried} */ ({aim: null, tags: {}});
   const take = (/** @type {Sent[]} */ block, /** @type {string[]} */ own) => {
     replies.push(...own);
@@ -252,6 +258,7 @@ export async function repliesFor(lines, report = () => {}) {
     const there = find(textOf(blocks[at]), carried);
     if (there) {
       take(blocks[at++], there);
+      if (rest.isDue()) await rest.pause();
       continue;
     }
     const some = blocks.slice(at, endOfRun(blocks, at, isFresh)),
@@ -259,11 +266,7 @@ export async function repliesFor(lines, report = () => {}) {
           head = [...loads, ...before(carried)],
           all = (await repliesTo([...head, ...linesOf(some)])).slice(head.length);
     let from = 0;
-    for (const block of some) {
-      const own = all.slice(from, from += block.length);
-      keep(block, own, carried);
-      take(block, own);
-    }
+    for (const block of some) { take(block, keep(block, all.slice(from, from += block.length), carried)); }
     at += some.length;
     if (blocks.length > MANY) told(at);
   }
@@ -289,6 +292,7 @@ export async function evaluate(lines) {
   readable(lines);
   try {
     const [{sent, replies}] = await Promise.all([repliesFor(lines, services.reading), learn(lines)]);
+    await pauseIfLong(lines);
     return readScript(lines, sent, replies);
   } finally { services.reading(0, 0); }
 }

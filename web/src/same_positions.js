@@ -64,7 +64,9 @@ export function positionsReached(fens, mainLines) {
     for (const [i, form] of formsOf(fen).forms.entries()) {
       if (known.has(form)) continue;
       known.add(form);
-      starts.set(form, [...(starts.get(form) || []), {start, how: FORMS[i][0]}]);
+      const list = starts.get(form) || [];
+      list.push({start, how: FORMS[i][0]});
+      starts.set(form, list);
     }
   });
   for (const [at, line] of mainLines.entries())

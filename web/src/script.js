@@ -1,6 +1,6 @@
 // @ts-check
 // The script is the document: lines of edits, run from the first to the last. Here its replies become studies.
-import {lineKind} from './wording.js';
+import {commandOf, lineKind} from './wording.js';
 import {aimWords} from './words.js';
 import {headOf, withRefusedTags, withWholeGame} from './imported.js';
 import {leftOutBy} from './left_out.js';
@@ -29,7 +29,7 @@ export const isCommand = line => lineKind(line) !== '';
 /** @param {string} line */
 export const isPosition = line => /^ *position( |$)/.test(line);
 /** @param {string} line */
-export const isEdit = line => !isSilent(line) && !isTableLine(line) && !isQuestion(line);
+export const isEdit = line => !isSilent(line) && !/^(table|question)$/.test(lineKind(line));
 /** @param {string} text */
 export const linesOf = text => {
   const lines = text.replace(/^\ufeff/, '').split(/\r?\n/);
@@ -53,11 +53,12 @@ export function toRun(lines) {
   const sent = /** @type {Sent[]} */ ([]);
   let begun = false, open = false;
   lines.forEach((text, line) => {
-    if (isSilent(text) || isTableLine(text)) return;
-    const position = wordsOf(text)[0] === 'position';
+    const kind = lineKind(text);
+    if (isSilent(text) || kind === 'table') return;
+    const position = isPosition(text);
     if (position && open) sent.push({text: 'pgn', line: -1});
     begun = begun || position;
-    if (isEdit(text)) open = begun;
+    if (kind !== 'question') open = begun;
     else if (isGame(text)) open = false;
     sent.push({text, line});
   });
@@ -86,7 +87,7 @@ export function repliesOf(lines, text) {
   const rows = text.split('\n');
   let at = 0;
   return lines.map(line => {
-    if (wordsOf(line)[0] !== 'pgn' || (rows[at] || '').startsWith('error ')) return rows[at++] || '';
+    if (commandOf(line) !== 'pgn' || (rows[at] || '').startsWith('error ')) return rows[at++] || '';
     const from = at;
     for (let empty = 0; empty < 2 && at < rows.length;)
       if (rows[at++] === '') empty++;
@@ -144,7 +145,7 @@ function withRemarks(lines, study) {
  * @param {string} reply
  */
 export function applyReply(script, carried, {text, line}, reply) {
-  const [command, name] = wordsOf(text), study = script.studies[script.studies.length - 1];
+  const command = commandOf(text), study = script.studies[script.studies.length - 1];
   if (reply.startsWith('error ')) {
     if (line >= 0) script.refused.push({line, text, reply});
     if (command === 'position') Object.assign(carried, {aim: null, tags: {}});
@@ -156,10 +157,10 @@ export function applyReply(script, carried, {text, line}, reply) {
     Object.assign(study, {pgn: reply, verdict, start, ended: true});
   } else if (isEdit(text)) {
     if (study) Object.assign(study, {ended: false, last: Math.max(line, study.last)});
-    if (command === 'tag') carry(carried, study, name, text.trim().replace(/^tag +\w+ +/, ''), line);
+    if (command === 'tag') carry(carried, study, wordsOf(text)[1], text.trim().replace(/^tag +\w+ +/, ''), line);
     else if (command === 'stipulate') setAim(carried, study, reply, line);
     else if (study && command === 'shift') study.fen = reply.slice(6);
-    else if (study && (command === 'insert' || command === 'promote')) study.made = {line, path: wordsOf(reply)[1]};
+    else if (study && (command === 'insert' || command === 'promote')) study.made = {line, reply};
   }
 }
 /**

@@ -93,7 +93,7 @@ function focused() {
   return {
     id: focus.id,
     place: by ? `[${by}="${focus.getAttribute(by)}"]` : focus.tagName,
-    name: by ? null : nameIn(focus),
+    name: by || focus === document.body ? null : nameIn(focus),
     typed: typedNow()
   };
 }
@@ -220,6 +220,17 @@ function drawJudged() {
 export const showJudged = () => lately(drawJudged);
 /** A study of the menu by its place; an entry that was left out by its line. */
 const menuValue = (/** @type {import('./entries.js').Entry} */ {at, line}) => (at < 0 ? `line ${line}` : `${at}`);
+/** Of more entries the menu has so many, those around the study that is shown: each line of it takes 5 kB. */
+const MOST_IN_MENU = 1000;
+/**
+ * @param {import('./entries.js').Entry[]} entries
+ * @param {number} at
+ */
+function menuOf(entries, at) {
+  const half = MOST_IN_MENU / 2, here = entries.findIndex(entry => entry.at === at),
+        from = Math.min(Math.floor((here - half / 2) / half) * half, entries.length - MOST_IN_MENU);
+  return entries.length > MOST_IN_MENU ? entries.slice(Math.max(0, from), Math.max(0, from) + MOST_IN_MENU) : entries;
+}
 let menu = /** @type {import('./entries.js').Entry[]} */ ([]);
 /**
  * The lines of the menu, those alone that are others than before.
@@ -242,7 +253,7 @@ function showBar() {
   $('walk').hidden = !many;
   $('before').disabled = studyBeside(-1) === undefined;
   $('after').disabled = studyBeside(1) === undefined;
-  drawMenu(entries);
+  drawMenu(menuOf(entries, d.at));
   $('studies').value = d.at;
   $('more').disabled = !d.studies.length;
   for (const id of ['saveScript', 'savePgn', 'savePlain', 'saveReport', 'print']) $(id).disabled = !d.lines.length;

@@ -29,11 +29,19 @@ export function hasSolution(lines, s, review) {
   if (review) return !review.empty;
   const known = solved.get(s.pgn || '');
   if (s.aim === null || known !== undefined) return Boolean(known);
-  const has = hasHeroMove(bareTree(lines.slice(s.from, s.end)), s.fen, s.aim);
+  const own = lines.slice(s.from, s.end), has = isSolved(own, s.fen, s.aim) || hasHeroMove(bareTree(own), s.fen, s.aim);
   if (solved.size > 20000) solved.clear();
   if (s.pgn) solved.set(s.pgn, has);
   return has;
 }
+/**
+ * Whether a study's lines say by themselves that it has a move of the hero: one at the start, which none deletes.
+ * @param {string[]} lines
+ * @param {string} fen
+ * @param {Aim} aim
+ */
+const isSolved = (lines, fen, aim) => sideOf(fen) === aim.hero && lines.some(line => /^insert root \S+$/.test(line)) &&
+  !lines.slice(1).some(line => /^ *(delete|position) /.test(line));
 /** The same by the game, which has stipulation and moves. */
 const solved = /** @type {Map<string, boolean>} */ (new Map());
 /**

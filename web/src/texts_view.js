@@ -14,7 +14,7 @@ import {diagramView} from './diagram.js';
 import {isCutLine, whyLeftOut} from './left_out.js';
 import {openText} from './opening.js';
 import {counted, reason} from './words.js';
-import {once} from './once.js';
+import {lettersIn} from './keep.js';
 /** @typedef {import('./types.js').Study} Study @typedef {import('./types.js').Refused} Refused */
 
 const open = {
@@ -39,7 +39,6 @@ const pgnView = s => h('details', {
   }
 },
   h('summary', {}, 'PGN'), h('textarea', {id: 'pgn', readonly: true, 'aria-label': 'The game as PGN'}, s.pgn));
-const textOf = once((/** @type {string[]} */ lines) => lines.join('\n'));
 /** A script with more letters is put into its field once that is opened. */
 const LONG = 100000;
 /** @param {Study | undefined} s */
@@ -52,12 +51,12 @@ function scriptView(s) {
       unrun = {text: script.value, lines: doc().lines};
     }
   });
-  const kept = unrun && unrun.lines === doc().lines ? unrun.text : textOf(doc().lines);
+  const {lines} = doc(), kept = unrun && unrun.lines === lines ? unrun.text : null;
   const fill = () => {
-    script.value = app.say && app.say.field === 'script' ? app.say.typed : kept;
+    script.value = app.say && app.say.field === 'script' ? app.say.typed : kept ?? lines.join('\n');
   };
   const isOpen = open.script || doc().refused.length > 0 || (app.say && app.say.where === 'script');
-  if (isOpen || kept.length < LONG) fill();
+  if (isOpen || lettersIn(lines) < LONG) fill();
   return h('details', {id: 'scriptBox', open: isOpen},
     h('summary', {
       onclick: (/** @type {any} */ e) => {

@@ -71,7 +71,7 @@
  * @property {import('./imported.js').Origin} origin      where it comes from, as the remarks above its position say
  * @property {Record<string, number>} place      the line of each tag, and of `aim`, that the study has itself
  * @property {string[]} carried    what it takes over from earlier studies, as lines
- * @property {{line: number, path: string} | null} made      the node that the last `insert` or `promote` made
+ * @property {{line: number, reply: string} | null} made      the last `insert` or `promote`, whose reply has its node
  * @property {string} pgn          its game after its last edit
  * @property {string} verdict      as in its game
  * @property {string} start        the value of its start, in words

@@ -29,13 +29,18 @@ export const gameFaults = () => [...groups['left-out'].keys()];
  */
 export const commandKind = word => groups.command.get(word) || '';
 /**
+ * The first word of a line.
+ * @param {string} line
+ */
+export function commandOf(line) {
+  const text = line.charCodeAt(0) > 32 ? line : line.trimStart(), end = text.indexOf(' ');
+  return end < 0 ? text.trimEnd() : text.slice(0, end);
+}
+/**
  * What the command of a line is for.
  * @param {string} line
  */
-export function lineKind(line) {
-  const text = line.charCodeAt(0) > 32 ? line : line.trimStart(), end = text.indexOf(' ');
-  return commandKind(end < 0 ? text : text.slice(0, end));
-}
+export const lineKind = line => commandKind(commandOf(line));
 /** @param {string} name */
 export const wordOf = name => groups.word.get(name) || '';
 /**

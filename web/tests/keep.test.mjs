@@ -51,6 +51,34 @@ test('a document is kept with its undo and its redo', () => {
   assert.deepEqual([texts(back.past), back.now.lines, texts(back.future)], [['p'], ['p', 'q'], ['p q r']]);
   assert.deepEqual([head.time, head.tables, head.verdict], [5, ['KK'], 'not judged']);
 });
+test('a document that no browser has room for costs no other its undo, and one that has none is not tried at each walk',
+  () => {
+    let tried = 0;
+    const local = made(2000), keeper = makeKeeper({
+      local: {
+        ...local,
+        getItem: key => local.getItem(key),
+        get length() { return local.length; },
+        setItem: (key, text) => {
+          tried++;
+          local.setItem(key, text);
+        }
+      },
+      page: '1'
+    }),
+          small = history('A', ['p'], ['p', 'q']);
+    keeper.keep(small, null, []);
+    assert.equal(keeper.keep(history('B', ['x'.repeat(6e6)]), null, []), false);
+    assert.equal(keeper.open('A', false).history.past.length, 1);
+    const large = history('C', ['x'.repeat(3000)]);
+    assert.equal(keeper.keep(large, null, []), false);
+    tried = 0;
+    assert.equal(keeper.keep({...large, now: {...large.now, path: '0'}}, null, []), false);
+    assert.equal(tried, 0);
+    keeper.remove('A');
+    keeper.keep(large, null, []);
+    assert.ok(tried > 0);
+  });
 test('each document has a place of its own, the one seen last is first, and a walk does not count as a change', () => {
   let clock = 0;
   const local = made(), keeper = makeKeeper({local, page: '1', now: () => ++clock}), a = history('A', ['p']);

@@ -193,7 +193,7 @@ const study = {
   tags: {White: 'A'},
   place: {aim: 1, White: 2},
   carried: [],
-  made: {line: 4, path: '1'},
+  made: {line: 4, reply: 'insert 1 Kb2'},
   pgn: '',
   verdict: ''
 };
