@@ -60,9 +60,9 @@ export const NONE = {
 const keyOf = n => (n.parent ? `${keyOf(n.parent)} ${plain(n.san)}`.trim() : '');
 /**
  * @param {TreeNode} root
- * @returns {{key: string, path: string}[]}
+ * @returns {{key: string, path: string, mark: string}[]}
  */
-const placesIn = root => allNodes(root).map(n => ({key: keyOf(n), path: n.path}));
+const placesIn = root => allNodes(root).map(n => ({key: keyOf(n), path: n.path, mark: n.mark}));
 /** @type {WeakMap<TreeNode, {lines: string[], words: Map<string, Words>}>} */
 const found = new WeakMap();
 /**
@@ -74,12 +74,13 @@ const found = new WeakMap();
 export function wordsIn(lines, study, root) {
   const known = found.get(root);
   if (known && known.lines === lines) return known.words;
-  const remarks = lines.slice(study.head, study.from).filter(isNote), words = new Map();
+  const remarks = lines.slice(study.head, study.from).filter(line => isNote(line) || isMark(line)), words = new Map();
   if (remarks.length) {
     const places = placesIn(root), notes = notesAt(remarks, places);
-    for (const {key, path} of places) {
-      const note = notes.get(key);
-      if (note) words.set(path, note);
+    for (const {key, path, mark} of places) {
+      const {comments, glyphs, marks} = notes.get(key) || {...NONE, marks: []},
+                               own = [...glyphs, ...marks.filter(glyph => glyph !== OURS[mark])];
+      if (comments.length || own.length) words.set(path, {comments, glyphs: own});
     }
   }
   found.set(root, {lines, words});
@@ -87,6 +88,13 @@ export function wordsIn(lines, study, root) {
 }
 /** @param {string} line */
 const isNote = line => /^note\+?$/.test(ownRemark(line).word);
+/** @param {string} line */
+const isMark = line => ownRemark(line).word === 'mark';
+/**
+ * The program's glyphs in a game by its marks. A game of our own has one sign at a move: where the program gives it
+ * none, or another one, it is the author's.
+ */
+const OURS = /** @type {Record<string, string>} */ ({only: '$1', mistake: '$4'});
 /**
  * The lines of a script with other words at a node, in place of those that stand there.
  * @param {string[]} lines
@@ -103,7 +111,9 @@ export function withWords(lines, study, root, n, {comment, glyphs}) {
   // A comment that states the stipulation does so no more, once other words stand in its place.
   const isStated = n.parent || before.join('\n') === own.join('\n'),
         head = lines.slice(study.head, study.from).map(line => (isStated ? line : byHand(line, 'comment')));
-  const isHere = head.map(line => isNote(line) && notesAt([line], places).has(key)), first = isHere.indexOf(true),
+  const isWord = (/** @type {string} */ line) =>
+    isNote(line) || (isMark(line) && !ownRemark(line).rest.endsWith(`: ${OURS[n.mark]}`));
+  const isHere = head.map(line => isWord(line) && notesAt([line], places).has(key)), first = isHere.indexOf(true),
         at = first < 0 ? head.length : first;
   const kept = (/** @type {number} */ from, /** @type {number} */ to) =>
     head.slice(from, to).filter((_, i) => !isHere[from + i]);

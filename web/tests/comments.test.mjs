@@ -8,9 +8,11 @@ import {remarksOf} from '../src/notes.js';
 import {withNotes} from '../src/saved_games.js';
 
 const FEN = '8/8/8/6k1/8/8/1P5K/8 w - - 0 1';
-const ROWS = [['root', '-', '-'], ['0', 'Kg3', 'h2g3'], ['0.0', 'Kf5', 'g5f5'], ['1', 'b4', 'b2b4']];
-const {root} = readView(
-  `study ${FEN}\n${ROWS.map(([path, san, to]) => `node ${path} ${san} ${to} draw reply 0 0 ${FEN}\n`).join('')}`);
+const ROWS = [
+  ['root', '-', '-', '-'], ['0', 'Kg3', 'h2g3', 'only'], ['0.0', 'Kf5', 'g5f5', 'reply'], ['1', 'b4', 'b2b4', 'mistake']
+];
+const NODES = ROWS.map(([path, san, to, mark]) => `node ${path} ${san} ${to} draw ${mark} 0 0 ${FEN}\n`);
+const {root} = readView(`study ${FEN}\n${NODES.join('')}`);
 const LINES = [
   '#! game 1, line 1: stipulated by its tag Result', '#! note -: For practice', '#! note Kg3: $1',
   '#! note Kg3: The only move', '#! note+ Kg3: of all', '#! mark Kg3: $1', `position ${FEN}`, 'insert root Kg3'
@@ -27,6 +29,13 @@ test('the words of remarks are at their nodes', () => {
   assert.deepEqual(words.get('0').comments, ['The only move of all']);
   assert.equal(glyphOf(words.get('0'), 0), '$1');
   assert.ok(!words.has('0.0') && !words.has('1'));
+});
+test('a sign in a game of our own that the program does not give is the author\'s, and can be taken back', () => {
+  const lines = ['#! mark Kg3: $1', '#! mark b4: $1', '#! mark Kg3 Kf5: $4', ...LINES.slice(6)],
+        study = {head: 0, from: 3, end: 5}, words = wordsIn(lines, study, root);
+  assert.deepEqual([...words].map(([path, {glyphs}]) => [path, glyphs]), [['0.0', ['$4']], ['1', ['$1']]]);
+  const change = withWords(lines, study, root, nodeAt(root, '1'), {comment: '', glyphs: []});
+  assert.deepEqual(change.lines, [lines[0], ...lines.slice(2)]);
 });
 test('words are written in place of those that stand there', () => {
   const {lines} = withWords(LINES, STUDY, root, nodeAt(root, '0'), {comment: 'Ruhig {so}\n', glyphs: ['$3']});
