@@ -4,6 +4,8 @@
 import {shownText} from './comments.js';
 import {download} from './dom.js';
 import {Stopped} from './engine.js';
+import {numbersOf} from './entries.js';
+import {leftOutBy} from './left_out.js';
 import {tooManyLines} from './limits.js';
 import {AT_MOVES, plain, short} from './notes.js';
 import {refusalIn} from './parse_answers.js';
@@ -71,11 +73,30 @@ export function printedRemark(line, fen, ways) {
   return words ? short(`#! comment: ${words}`) : line;
 }
 /**
+ * The lines of a script, with the game of each study of which the report has another number, in the place of the empty
+ * line before it: the report counts entries, and a game with more than four men has an entry for each part, whose
+ * heading names the game.
+ * @param {import('./types.js').Doc} d
+ */
+export function withGames(d) {
+  const lines = [...d.lines], numbers = numbersOf(d),
+        file = d.name ? `${d.name.replace(/\.checked$/, '')}.pgn` : 'the PGN';
+  let at = 0, entry = 1;
+  for (const [i, {head, from, aim, games, origin}] of d.studies.entries()) {
+    for (; at < from; at++)
+      if (leftOutBy(lines[at])) entry++;
+    if (origin.game && !origin.tail && numbers[i] !== `${entry}` && lines[head - 1] === '')
+      lines[head - 1] = short(`#! comment: Game ${numbers[i]} of ${file}`);
+    entry += aim ? Math.max(games.length, 1) : 0;
+  }
+  return lines;
+}
+/**
  * The lines of the document, each remark that is printed in its place.
  * @param {import('./types.js').Doc} d
  */
 function printedLines(d) {
-  const lines = [...d.lines];
+  const lines = withGames(d);
   for (const {head, from, end, fen} of d.studies) {
     const ways = head < from ? waysIn(bareTree(d.lines.slice(from, end))) : undefined;
     for (let at = head; at < from; at++) lines[at] = printedRemark(lines[at], fen, ways);

@@ -276,7 +276,7 @@ const isPrinted = line => !isSilent(line) || isOfImport(line) || /^#! (comment:|
 export function reportedLines({lines, studies}) {
   const games = /** @type {Map<number, string[]>} */ (new Map());
   for (const {aim, last, end} of studies) {
-    const behind = lines.slice(last + 1, end), free = behind.findIndex(line => isSilent(line) && !isOfImport(line));
+    const behind = lines.slice(last + 1, end), free = behind.findIndex(line => !isPrinted(line));
     if (!aim || behind.some(isGame)) continue;
     games.set(free < 0 ? last : last + 1 + free, free < 0 ? [lines[last], 'pgn'] : ['pgn']);
   }

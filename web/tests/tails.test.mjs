@@ -6,6 +6,7 @@ import {saidInTail} from '../src/notes.js';
 import {assumeAccepted} from '../src/assumed.js';
 import {entriesOf} from '../src/entries.js';
 import {savedGames} from '../src/saved_games.js';
+import {withGames} from '../src/reporting.js';
 import {tailIn, tailText, wayTo} from '../src/tails.js';
 
 const HEADING = '#! tail 2 of 3 of game 4, node 0.1.0, after 5. cxb8=Q, beside the solution';
@@ -70,4 +71,15 @@ test('parts that begin after moves of one name are told apart by the moves befor
     'Tail 2 of game 7, after 3... Kxb2, beside the solution: a try, which should fail.' +
       `${rest}: 1. Rd4 Kc3 2. Rd8 Kb3 3. Rd7 Kxb2.`);
   assert.equal(tailText([], d.studies[0]), `Tail 1 of game 7, after 3... Kxb2.${rest}.`);
+});
+test('the report says the game of an entry that has another number there, once', () => {
+  const position = 'position 8/8/8/8/8/8/1k6/K2R4 w - - 0 4',
+        game = n => [`#! game ${n}, line ${50 * n}: stipulated by its comment`, position, 'stipulate white win',
+          'insert root Rd2', 'pgn', ''];
+  const lines =
+          [...game(1), '#! game 2, line 60, column 3: NoSuchMove at Kb6', '', ...game(3), ...CZECH, '', ...game(8)],
+        said = withGames({...assumeAccepted(lines), name: 'jury.checked', at: 0});
+  assert.deepEqual(said.flatMap((line, at) => (line === lines[at] ? [] : [line])), ['#! comment: Game 8 of jury.pgn']);
+  assert.equal(said.length, lines.length);
+  assert.equal(lines[said.indexOf('#! comment: Game 8 of jury.pgn') + 1], game(8)[0]);
 });
