@@ -21,15 +21,25 @@ const ui = {
   folded: false,
   filter: '',
   find: '',
-  order: {by: '', back: false}
+  order: {by: '', back: false},
+  id: ''
 };
+/** What is filtered and sought in one document is not so in another. */
+function beginList() {
+  if (ui.id === doc().id) return;
+  Object.assign(ui, {filter: '', find: '', id: doc().id});
+  if ($('findEntry')) $('findEntry').value = '';
+}
 /** @param {string} kind */
 function toggleFilter(kind) {
   ui.filter = ui.filter === kind ? '' : kind;
   services.show();
 }
 /** All that the list is drawn from, but for the study that is looked at. */
-export const listFrom = () => [knownEntries(doc()), ui.filter, ui.order];
+export function listFrom() {
+  beginList();
+  return [knownEntries(doc()), ui.filter, ui.order];
+}
 /** Marks the study that is looked at in the list as it is drawn. */
 export const markShown = () => markAt(doc().id, doc().at);
 const REMEDIES = {
@@ -107,6 +117,7 @@ function numberButton(entry) {
 let wanted = /** @type {{by: any[], entries: Entry[]}} */ ({by: [], entries: []});
 /** The entries that are wanted, in their order: the same list as long as nothing has changed. */
 function shownEntries() {
+  beginList();
   const all = knownEntries(doc()), by = [all, ui.filter, ui.find, ui.order];
   if (by.some((thing, i) => thing !== wanted.by[i])) {
     const kind = all.filter(entry => !ui.filter || isOfKind(entry, ui.filter));
@@ -216,7 +227,7 @@ function foldList() {
 }
 let drawnBy = '';
 function drawRows() {
-  const by = JSON.stringify([ui, doc().id]);
+  const by = JSON.stringify(ui);
   drawnAgain(() => put('rows', rowsView()), drawnBy === by);
   drawnBy = by;
 }
@@ -229,11 +240,19 @@ export function drawList() {
   put('findAll', findAllView());
   drawRows();
 }
-/** All entries, for paper: where it is printed before all facts are found, that they lack. */
+/** What the entries that are shown have been chosen by, if these are not all. */
+function chosenView() {
+  const by =
+          [ui.filter && kindWords(ui.filter), ui.find.trim() && `with “${ui.find.trim()}” in title, author or number`],
+        all = knownEntries(doc()).length, shown = shownEntries().length;
+  return shown < all &&
+    h('p', {class: 'note'}, `${shown} of ${counted(all, 'entry', 'entries')}: ${by.filter(Boolean).join(', ')}.`);
+}
+/** The entries that are shown, for paper: where it is printed before all facts are found, that they lack. */
 export function paperList() {
-  const entries = knownEntries(doc()), {known, of} = howManyKnown(doc()), open = entries.some(entry => entry.open);
-  return entries.length > 1 && [
-    h('h2', {}, wordOf('list')),
+  const entries = shownEntries(), {known, of} = howManyKnown(doc()), open = entries.some(entry => entry.open);
+  return knownEntries(doc()).length > 1 && [
+    h('h2', {}, wordOf('list')), chosenView(),
     open &&
       h('p', {class: 'note'},
         `Printed before all faults were found: those of ${known} of ${

@@ -61,6 +61,29 @@ def test_facts_on_their_way(user):
         assert user.text("stamp") == stamp, (user.text("stamp"), stamp)
 
 
+def test_what_is_filtered_and_sought_is_of_one_document(user):
+    """The list on paper has the rows that are shown, and says by what they are chosen; another file is listed whole."""
+    user.open_tables(TABLES, SMALL)
+    opened(user, FAULTY)
+    user.until(FOUND, 60)
+    words = user.js("return document.querySelector('#kinds [data-kind]').innerText")
+    user.press_on("#kinds [data-kind]")
+    user.js(
+        "const e = document.getElementById('findEntry'); e.value = 'o'; e.dispatchEvent(new Event('input'))"
+    )
+    rows = [row[0] for row in user.js(STAMPS)]
+    assert 0 < len(rows) < 4, rows
+    user.js("dispatchEvent(new Event('beforeprint'))")
+    paper = user.js("return document.querySelector('#paper .listed').innerText")
+    listed = user.js("return document.querySelectorAll('#paper .listed tbody tr').length")
+    user.js("dispatchEvent(new Event('afterprint'))")
+    said = f"{len(rows)} of 4 entries: {words.split(' ', 1)[1]}, with “o” in title, author or number."
+    assert said in paper and listed == len(rows), (said, paper)
+    opened(user, games(("Five", FEN, "1. Kg3 Kf5"), ("Six", FEN, "1. b4 Kf6")), "other.pgn")
+    assert [row[0] for row in user.js(STAMPS)] == ["Five", "Six"]
+    assert user.js("return document.getElementById('findEntry').value") == ""
+
+
 def test_the_study_that_is_shown(user):
     """Its row takes the words that stand beside it, before the facts of the others are found."""
     user.open_tables(TABLES, SMALL)
