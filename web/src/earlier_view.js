@@ -10,7 +10,7 @@ import {control, other, sideOf, squareName} from './fen.js';
 import {notesMoved, plain} from './notes.js';
 import {bareOf, insertions} from './turning.js';
 import {hearNew} from './voice.js';
-import {counted, markSign} from './words.js';
+import {clockText, counted, markSign} from './words.js';
 /** @typedef {import('./earlier.js').Before} Before */
 
 /** The moves chosen so far, the last one first; and those to choose from, or none while they are looked for. */
@@ -59,7 +59,7 @@ function longestView(s) {
         looked = counted(intro ? intro.looked : 0, 'position');
   const end = going ? '' : intro && intro.ended ? ', all there are' : '; stopped there';
   const words = `${best.length ? `${counted(own, 'only move')} in front` : 'No only move in front'}${
-    going ? ' so far' : ''}; ${looked} looked at in ${seconds} s${end}.`;
+    going ? ' so far' : ''}; ${looked} looked at in ${clockText(seconds)}${end}.`;
   const take = () => {
     chosen = best;
     begin();

@@ -48,6 +48,12 @@ export const counted = (n, one, many = one + 's') => `${n} ${n === 1 ? one : man
  * @param {number} n
  */
 export const grouped = n => n.toLocaleString('en-US');
+/**
+ * A time as on a clock: `45 s`, `3:05 minutes`.
+ * @param {number} seconds
+ */
+export const clockText = seconds =>
+  (seconds < 60 ? `${seconds} s` : `${Math.floor(seconds / 60)}:${`${seconds % 60}`.padStart(2, '0')} minutes`);
 /** @param {Aim} aim */
 export const aimWords = aim => `${aim.hero.toLowerCase()} ${aim.goal}${aim.goal === 'mate' ? ' ' + aim.k : ''}`;
 /** @param {Aim} aim */

@@ -2,7 +2,7 @@
 import './stand_in.mjs';
 import test from 'node:test';
 import assert from 'node:assert/strict';
-import {answersText, keepText, lateBy, moveName, valueText, zugzwangText} from '../src/words.js';
+import {answersText, clockText, keepText, lateBy, moveName, valueText, zugzwangText} from '../src/words.js';
 
 const value = (kind, n) => ({kind, n});
 test('values', () => {
@@ -13,6 +13,9 @@ test('values', () => {
   assert.equal(moveName({parent: null}), 'the start');
   assert.deepEqual(
     [answersText(0), answersText(3), keepText(4, 7)], ['stalemate', '3 answers', '4 of 7 moves keep the draw: ']);
+});
+test('a time as on a clock', () => {
+  assert.deepEqual([0, 59, 60, 185].map(clockText), ['0 s', '59 s', '1:00 minutes', '3:05 minutes']);
 });
 test('zugzwangs', () => {
   assert.equal(zugzwangText('full'), 'full point; White to move: Black wins; Black to move: White wins');
