@@ -32,43 +32,6 @@ export function plainBytes(bytes) {
 /** @param {import('./left_out.js').LeftOut} game */
 const placeOf = ({game, line, column, author}) =>
   `game ${game}${author && ` (${author})`}, line ${line}${column ? `, column ${column}` : ''}`;
-const GONE = /** @type {Record<string, [string, string]>} */ ({
-  repeated: ['repeated move', 'repeated moves'],
-  'null moves': ['null move', 'null moves'],
-  'moves behind': ['move behind a null move', 'moves behind null moves'],
-  words: ['word among the moves', 'words among the moves'],
-  'wrong signs': ['wrong sign of check or mate', 'wrong signs of check or mate']
-});
-/**
- * The remark that counts what is not taken over, without comments, NAGs and tags, which the page keeps as remarks; none
- * where nothing else is counted.
- * @param {string} line
- */
-export function stillGone(line) {
-  const [remark] = remarksOfKind([line], 'not-taken-over');
-  if (!remark) return [line];
-  const gone = remark.said.split(', ').filter(count => GONE[count.slice(0, count.lastIndexOf(' '))]);
-  return gone.length ? [`#! not taken over: ${gone.join(', ')}`] : [];
-}
-/** @param {{word: string, rest: string}} remark */
-const isAtNullMove = ({word, rest}) => word === 'note' && cutAt(rest, ': ')[0].split(' ').includes('--');
-/**
- * What of a PGN is not in the script, in no form: its comments, NAGs and other tags are kept as remarks.
- * @param {string[]} lines
- */
-export function notKept(lines) {
-  const sums = /** @type {Map<string, number>} */ (new Map());
-  for (const count of remarksOfKind(lines, 'not-taken-over').flatMap(({said}) => said.split(', '))) {
-    const at = count.lastIndexOf(' '), name = count.slice(0, at);
-    if (GONE[name]) sums.set(name, (sums.get(name) || 0) + Number(count.slice(at)));
-  }
-  const atNull = lines.filter(line => line.startsWith('#! note ')).map(ownRemark).filter(isAtNullMove).length,
-        behind = remarksOfKind(lines, 'behind-result').length;
-  const list = [...sums].map(([name, n]) => counted(n, ...GONE[name]));
-  if (atNull) list.push(counted(atNull, 'comment or NAG there', 'comments and NAGs there'));
-  if (behind) list.push(behind === 1 ? 'text behind a result' : `text behind ${behind} results`);
-  return list.length ? `Not kept of this PGN: ${list.join(', ')}.` : '';
-}
 /**
  * The games of an import that only lack a stipulation.
  * @param {string[]} lines

@@ -8,12 +8,11 @@ import {
   importNote,
   looksLikePgn,
   noteAfter,
-  notKept,
   originalsIn,
   plainBytes,
-  stillGone,
   withoutAim
 } from '../src/imported.js';
+import {notKept, stillGone} from '../src/not_kept.js';
 import {leftOut, whyLeftOut} from '../src/left_out.js';
 import {copyStudy, dropStudy} from '../src/study_edits.js';
 import {savedGames} from '../src/saved_games.js';
@@ -101,8 +100,11 @@ test('each reason says what to write instead', () => {
     'the side that is not to move is in check: write the other side to move, or correct the men');
   for (const name of gameFaults()) assert.match(why(name), /: \S/, name);
 });
-test('what a script has no place for', () => {
-  assert.equal(notKept(LINES), 'Not kept of this PGN: 1 repeated move, 2 moves behind null moves.');
+test('what a script has no place for, with the games where these are few', () => {
+  assert.equal(notKept(LINES), 'Not kept of this PGN: 1 repeated move (game 1), 2 moves behind null moves (game 1).');
+  const gone = n => [`#! game ${n}, line ${n}: stipulated by its result`, '#! not taken over: repeated 1'];
+  assert.equal(notKept([2, 3].flatMap(gone)), 'Not kept of this PGN: 2 repeated moves (games 2, 3).');
+  assert.equal(notKept([1, 2, 3, 4, 5, 6].flatMap(gone)), 'Not kept of this PGN: 6 repeated moves.');
   assert.equal(notKept(['#! game 1, line 1: stipulated by its result']), '');
   const beside =
     ['#! behind the result: line 14, column 715', '#! note Kg3 --: threat', '#! note -- Kf6: $6', '#! note Kg3: --'];

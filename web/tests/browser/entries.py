@@ -153,7 +153,7 @@ def test_ten_entries_are_ten_rows(user):
     assert user.js("return document.getElementById('studies').selectedIndex") == 9
     note = user.text("import")
     assert (
-        "10 games, 6 studies. Left out: 4 games" in note and "Not kept of this PGN: 1 null move." in note
+        "10 games, 6 studies. Left out: 4 games" in note and "Not kept of this PGN: 1 null move (game " in note
     ), note
     user.size(1366, 625)
     top = user.js("return document.querySelector('#list tbody tr').getBoundingClientRect().top")
