@@ -5,7 +5,7 @@ import {noteLines, plain} from './notes.js';
 import {allNodes} from './parse_answers.js';
 import {byHand} from './imported.js';
 import {ownRemark} from './remarks.js';
-import {notesAt} from './saved_games.js';
+import {notesAt, statesAim} from './saved_games.js';
 /** @typedef {import('./types.js').Study} Study @typedef {import('./types.js').TreeNode} TreeNode */
 /** @typedef {{comments: string[], glyphs: string[]}} Words */
 
@@ -108,9 +108,10 @@ export function withWords(lines, study, root, n, {comment, glyphs}) {
   const places = placesIn(root), key = keyOf(n),
         own = [...glyphs, comment].flatMap(text => noteLines(key || '-', text)),
         before = lines.slice(study.head, study.from).filter(isNote).filter(line => notesAt([line], places).has(key));
-  // A comment that states the stipulation does so no more, once other words stand in its place.
-  const isStated = n.parent || before.join('\n') === own.join('\n'),
-        head = lines.slice(study.head, study.from).map(line => (isStated ? line : byHand(line, 'comment')));
+  // A comment that states the stipulation does so no more, once words that do not stand in its place.
+  const said = notesAt(before, places).get(key),
+        isGone = !n.parent && said && statesAim(said) && !statesAim({comments: [comment]}),
+        head = lines.slice(study.head, study.from).map(line => (isGone ? byHand(line, 'comment') : line));
   const isWord = (/** @type {string} */ line) =>
     isNote(line) || (isMark(line) && !ownRemark(line).rest.endsWith(`: ${OURS[n.mark]}`));
   const isHere = head.map(line => isWord(line) && notesAt([line], places).has(key)), first = isHere.indexOf(true),

@@ -216,6 +216,11 @@ const STATED =
       'draw\\b|#\\d|[+=](?=[\\s:.,;!)]|$))',
     'i');
 /**
+ * Whether the words before the first move state what is to be done.
+ * @param {{comments: string[]}} words
+ */
+export const statesAim = ({comments}) => comments.some(text => STATED.test(text.trim()));
+/**
  * Whether the author's own tags and comments say what is to be done. Those of a game that was saved with marks do not,
  * since the program's words stood in its comment.
  * @param {Study} study
@@ -224,7 +229,7 @@ const STATED =
 function isStated({origin, aim}, remarks) {
   const first = remarks.filter(line => line.startsWith('#! note -: ')).map(line => line.slice('#! note -: '.length));
   if (aim && first.some(text => text.startsWith(aimText(aim)))) return true;
-  return origin && isOfFile(origin) && (origin.source !== 'comment' || first.some(text => STATED.test(text)));
+  return origin && isOfFile(origin) && (origin.source !== 'comment' || statesAim({comments: first}));
 }
 /**
  * A study's games as they are saved, the last with the page's verdict. A part of a game says which it is; without the

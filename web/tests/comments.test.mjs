@@ -48,6 +48,16 @@ test('words are written in place of those that stand there', () => {
     '#! note Kg3 Kf5: then');
   assert.equal(withWords(LINES, STUDY, root, root, {comment: 'Anew', glyphs: []}).lines[1], '#! note -: Anew');
 });
+test('a stipulation is from the comment as long as that states it, and from words that do not state it', () => {
+  const at = (said, comment) => withWords(['#! game 1, line 1: stipulated by its comment', ...said, ...LINES.slice(6)],
+    {head: 0, from: 1 + said.length, end: 3 + said.length}, root, root,
+    {comment, glyphs: []}).lines[0];
+  const stated = ['#! note -: White wins by zugzwang'], other = ['#! note -: For practice'];
+  assert.match(at(stated, 'White wins by zugzwang. A new idea'), /: stipulated by its comment$/);
+  assert.match(at(other, 'A new idea'), /: stipulated by its comment$/);
+  assert.match(at([], 'A new idea'), /: stipulated by its comment$/);
+  assert.match(at(stated, 'A new idea'), /: stipulated by hand$/);
+});
 test('a long comment is kept whole, in lines of at most 1,024 bytes', () => {
   const comment = 'längere Bemerkung '.repeat(110).trim(),
         {lines} = withWords(LINES, STUDY, root, nodeAt(root, '1'), {comment, glyphs: []});
