@@ -73,6 +73,8 @@ def test_what_is_filtered_and_sought_is_of_one_document(user):
     )
     rows = [row[0] for row in user.js(STAMPS)]
     assert 0 < len(rows) < 4, rows
+    wide = user.js("return ['thead', 'tbody'].map(e => document.querySelector('#list ' + e).offsetWidth)")
+    assert wide[0] == wide[1], wide
     user.js("dispatchEvent(new Event('beforeprint'))")
     paper = user.js("return document.querySelector('#paper .listed').innerText")
     listed = user.js("return document.querySelectorAll('#paper .listed tbody tr').length")
@@ -284,13 +286,12 @@ def test_one_game_that_was_left_out_is_mended(user):
 
 
 def test_words_in_place_of_a_stipulation(user):
-    """Where a comment states the stipulation and is written anew, the saved game states it before the new words."""
+    """Where a comment states the stipulation and words are added, the saved game states it before them."""
     user.open_tables(TABLES, SMALL)
     opened(user, games(("One", FEN, "{White to mate in 30} 1. Kg3")))
-    assert user.text("source") == "(from its comment)"
     user.fill("note", "First prize.")
     user.settle()
-    assert not user.has("source")
+    assert user.text("source") == "(from its comment)"
     saved = user.download("savePlain")[1]
     assert "{White to mate in 30. First prize.} 1. Kg3" in saved, saved
     user.click("new")

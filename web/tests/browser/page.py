@@ -515,6 +515,8 @@ def test_phone(user):
     user.press("g3")
     user.settle()
     assert user.text("value").startswith("After 1. Kg3")
+    tops = user.js("return ['nav', 'verdict', 'here'].map(id => document.getElementById(id).getBoundingClientRect().top)")
+    assert tops == sorted(tops), tops
     user.picture("phone")
     user.click("setUp")
     user.settle()
