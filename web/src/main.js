@@ -16,7 +16,7 @@ import {makeCore} from './engine.js';
 import {back, closeMenu, forth, listenToKeys, goBeside} from './keys.js';
 import {tooManyLines} from './limits.js';
 import {saveReport} from './reporting.js';
-import {savedGames} from './saved_games.js';
+import {savedInParts} from './saved_games.js';
 import {unreadIn} from './stamps.js';
 import {fensOf, linesOf, savedScript} from './script.js';
 import {begin, judgeDraft, openSetup} from './setup.js';
@@ -152,14 +152,16 @@ function sayUnread(how) {
   if (n) say('board', `${counted(n, 'study', 'studies')} not read to the end: what was read is saved, ${how}.`);
   services.show();
 }
-on('savePgn', () => {
-  download(fileName('.pgn'), savedGames(doc(), true, knownFacts(doc()).reviews));
+/**
+ * @param {string} name
+ * @param {boolean} marks
+ */
+const savePgn = (name, marks) => track((async () => {
+  download(name, await savedInParts(doc(), marks, marks ? knownFacts(doc()).reviews : []));
   sayUnread('and its game says so');
-});
-on('savePlain', () => {
-  download(fileName('').replace(/\.checked$/, '') + '.unmarked.pgn', savedGames(doc(), false));
-  sayUnread('and its game says so');
-});
+})());
+on('savePgn', () => savePgn(fileName('.pgn'), true));
+on('savePlain', () => savePgn(fileName('').replace(/\.checked$/, '') + '.unmarked.pgn', false));
 addEventListener('beforeprint', layOut);
 addEventListener('afterprint', clearPaper);
 on('print', () => track(factsToPrint().then(() => window.print())));

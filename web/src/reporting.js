@@ -11,7 +11,7 @@ import {AT_MOVES, plain, short} from './notes.js';
 import {refusalIn} from './parse_answers.js';
 import {cutAt, ownRemark} from './remarks.js';
 import {squaresOf} from './saved_games.js';
-import {fensOf, reportedLines, toText} from './script.js';
+import {fensOf, isPrinted, reportedLines, toText} from './script.js';
 import {bareTree} from './unmarked.js';
 import {PAGES, app, clearMessage, doc, say, services} from './state.js';
 import {counted, numberedLast, reason} from './words.js';
@@ -109,7 +109,8 @@ function printedLines(d) {
  * @returns {Promise<boolean>} whether it was saved
  */
 async function write(d, name) {
-  const lines = printedLines(d), many = tooManyLines(lines.length);
+  const least = d.lines.filter(isPrinted).length, lines = tooManyLines(least) ? [] : printedLines(d),
+        many = tooManyLines(Math.max(least, lines.length));
   if (many) {
     say('board', `No report: ${many}. Save the PGN, and open a file of fewer of its games.`);
     return false;

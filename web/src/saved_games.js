@@ -5,6 +5,7 @@ import {stampOf, unreadIn} from './stamps.js';
 import {AT_MOVES, RESULT, TOKEN, isMoveText, looseMove, oneLine, plain} from './notes.js';
 import {cutAt, ownRemark} from './remarks.js';
 import {isOfFile} from './imported.js';
+import {pauses} from './pauses.js';
 import {tailName} from './tails.js';
 import {aimText} from './words.js';
 /** @typedef {import('./types.js').Study} Study @typedef {import('./types.js').Script} Script */
@@ -255,6 +256,20 @@ function gamesOfStudy(script, study, marks, review) {
  */
 export const savedGames = (script, marks = true, reviews = []) =>
   script.studies.flatMap((study, i) => gamesOfStudy(script, study, marks, reviews[i] || null)).join('');
+/**
+ * The same, with pauses between the games of a long script.
+ * @param {Script} script
+ * @param {boolean} marks
+ * @param {(import('./types.js').Review | null)[]} [reviews]
+ */
+export async function savedInParts(script, marks, reviews = []) {
+  const rest = pauses(), games = /** @type {string[]} */ ([]);
+  for (const [i, study] of script.studies.entries()) {
+    games.push(...gamesOfStudy(script, study, marks, reviews[i] || null));
+    if (rest.isDue()) await rest.pause();
+  }
+  return games.join('');
+}
 /**
  * A game with the texts of its tags in their own letters.
  * @param {Study} study

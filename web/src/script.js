@@ -265,8 +265,11 @@ export function savedScript(script, classes) {
  * @param {Script} script
  */
 export const gamesOf = script => script.studies.flatMap(study => study.games).join('');
-/** @param {string} line */
-const isPrinted = line => !isSilent(line) || isOfImport(line) || /^#! (comment:|tail) /.test(line);
+/**
+ * Whether the report may print a line, or what it does.
+ * @param {string} line
+ */
+export const isPrinted = line => !isSilent(line) || isOfImport(line) || /^#! (comment:|tail) /.test(line);
 /**
  * The lines that are reported, each at its place in the script, so that refused ones have the numbers that they have on
  * the board. The `pgn` that a study lacks comes in place of an empty line or a remark behind it, if there is one. A

@@ -12,8 +12,9 @@ import {table} from './table.js';
 import {messageAt} from './head_view.js';
 import {diagramView} from './diagram.js';
 import {isCutLine, whyLeftOut} from './left_out.js';
+import {limitOf} from './limits.js';
 import {openText} from './opening.js';
-import {counted, reason} from './words.js';
+import {counted, grouped, reason} from './words.js';
 import {lettersIn} from './keep.js';
 /** @typedef {import('./types.js').Study} Study @typedef {import('./types.js').Refused} Refused */
 
@@ -41,43 +42,58 @@ const pgnView = s => h('details', {
   h('summary', {}, 'PGN'), h('textarea', {id: 'pgn', readonly: true, 'aria-label': 'The game as PGN'}, s.pgn));
 /** A script with more letters is put into its field once that is opened. */
 const LONG = 100000;
+/**
+ * What the field has: the script, or of one that is too long for it the lines of the study that is shown.
+ * @param {Study | undefined} s
+ */
+function fieldText(s) {
+  const {lines} = doc(), most = limitOf('script').most, letters = lettersIn(lines), isLong = letters > most;
+  const note = isLong
+    ? `The script has ${grouped(letters)} letters, and this field takes ${grouped(most)}: these are the lines of the ` +
+      'study that is shown. Save script writes all of them.'
+    : 'The script is the study: what you do writes its lines. It can be changed or pasted here, a PGN too.';
+  return {
+    isLong,
+    note,
+    isLate: letters > LONG,
+    text: () => (isLong && s ? lines.slice(s.from, s.end) : lines).join('\n')
+  };
+}
 /** @param {Study | undefined} s */
 function scriptView(s) {
+  const {isLong, isLate, note, text} = fieldText(s);
   const script = h('textarea', {
     id: 'script',
     spellcheck: 'false',
+    readonly: isLong,
     'aria-label': 'The script',
     oninput: () => {
       unrun = {text: script.value, lines: doc().lines};
     }
   });
-  const {lines} = doc(), kept = unrun && unrun.lines === lines ? unrun.text : null;
   const fill = () => {
-    script.value = app.say && app.say.field === 'script' ? app.say.typed : kept ?? lines.join('\n');
+    const kept = unrun && unrun.lines === doc().lines ? unrun.text : null;
+    script.value = app.say && app.say.field === 'script' ? app.say.typed : kept ?? text();
   };
   const isOpen = open.script || doc().refused.length > 0 || (app.say && app.say.where === 'script');
-  if (isOpen || lettersIn(lines) < LONG) fill();
-  return h('details', {id: 'scriptBox', open: isOpen},
-    h('summary', {
-      onclick: (/** @type {any} */ e) => {
-        open.script = !e.target.parentNode.open;
-        if (open.script && !script.value) fill();
-      }
-    },
-      'Script'),
-    h('p', {class: 'note'},
-      'The script is the study: what you do writes its lines. It can be changed or pasted here, a PGN too.'),
-    script, messageAt('script'),
+  if (isOpen || !isLate) fill();
+  const toggle = (/** @type {any} */ e) => {
+    open.script = !e.target.parentNode.open;
+    if (open.script && !script.value) fill();
+  };
+  return h('details', {id: 'scriptBox', open: isOpen}, h('summary', {onclick: toggle}, 'Script'),
+    h('p', {class: 'note'}, note), script, messageAt('script'),
     h('div', {class: 'row'},
-      button('Run the script', 'take the text as it stands', () => openText(script.value), {id: 'runScript'}),
-      s && app.view &&
-        button(unreadIn(doc(), s) ? 'Tidy, without the refused lines' : 'Tidy',
-          'write this study anew in its shortest form',
-          () => change(
-            now => (app.view && now.studies[now.at] ? tidy(now.lines, now.studies[now.at], app.view.root) : null),
-            'script'),
-          {id: 'tidy'})));
+      button('Run the script', 'take the text as it stands', () => openText(script.value),
+        {id: 'runScript', disabled: isLong}),
+      s && app.view && tidyButton(s)));
 }
+/** @param {Study} s */
+const tidyButton = s =>
+  button(unreadIn(doc(), s) ? 'Tidy, without the refused lines' : 'Tidy', 'write this study anew in its shortest form',
+    () => change(
+      now => (app.view && now.studies[now.at] ? tidy(now.lines, now.studies[now.at], app.view.root) : null), 'script'),
+    {id: 'tidy'});
 const copy = () => change(now => copyStudy(now.lines, now.studies, now.at), 'script');
 /** What is done with the study as a whole. */
 const studyButtons = () => [smallButton('Copy link', 'a link that opens this study', copyLink, {id: 'copyLink'}),

@@ -261,6 +261,11 @@ def test_a_script_with_more_lines_than_the_programs_read(user):
     user.click("saveReport")
     user.until("document.getElementById('sayBoard').textContent.startsWith('No report: it has 100,00')")
     assert user.download("savePgn")[1].count("[FEN ") == 2
+    script_box = "document.getElementById('script')"
+    assert user.js(f"return {script_box}.readOnly && document.getElementById('runScript').disabled")
+    user.js("document.querySelector('#scriptBox summary').click()")
+    assert user.js(f"return {script_box}.value").strip() == study.strip()
+    user.js("document.querySelector('#scriptBox summary').click()")
     user.promise("studyboard.open(a[0])", saved)
     user.until("document.querySelectorAll('#studies option').length === 2")
     user.promise("studyboard.open(a[0])", "#> a line of a whole game\n" * 100000 + study)
