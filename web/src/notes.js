@@ -199,7 +199,7 @@ const VALUE = '(draw|mate|(White|Black) mates in \\d+)',
       WORDS = '(wrong|sound|unsound|does not|fails at|cook|\\d+ duals?|correct|not read|refuted|a second)\\b[^{}]*?',
       VERDICT = `(White|Black) to (win|draw|mate in \\d+): ${WORDS}, ${VALUE}`,
       OPENING = new RegExp(`^${VERDICT}(\\. |$)`), SAID = new RegExp(`\\{${VERDICT}(?=[.}])`, 'g'),
-      OURS = new RegExp(`(^|(?<=[.!?:;,\\])]) )${VALUE}(; dual \\d+(; accepted)?)?$`);
+      OURS = new RegExp(`(^|; |(?<=[.!?:,\\])]) )${VALUE}(; dual \\d+(; accepted)?)?$`);
 const ACCEPTED = new RegExp(`${VALUE}; dual \\d+; accepted$`);
 /** What is to be done, as this page writes it: it is written again, whatever the author says behind it. */
 const AIM = /^(White|Black) to (win|draw|mate in \d+)(\. |$)/;

@@ -46,11 +46,12 @@ function itemsOf(movetext) {
   return {items, result};
 }
 /**
- * Texts as one: a full stop comes between two where the first has no sign at its end.
+ * Texts as one: a sign comes between two where the first has none at its end.
  * @param {string[]} texts
+ * @param {string} [sign]
  */
-export const joined = texts =>
-  texts.filter(Boolean).reduce((all, text) => (all ? all + (/[.!?:;,\])]$/.test(all) ? ' ' : '. ') + text : text), '');
+export const joined = (texts, sign = '.') => texts.filter(Boolean).reduce(
+  (all, text) => (all ? all + (/[.!?:;,\])]$/.test(all) ? ' ' : `${sign} `) + text : text), '');
 /**
  * The moves of a path without what only some notations say.
  * @param {string} path
@@ -116,6 +117,8 @@ function glyphsOf(item, note, marks) {
  */
 const ourComments = ({comments}, {accepted}) =>
   (accepted ? comments.map(text => text.replace(/dual \d+$/, '$&; accepted')) : comments);
+/** Between the author's words at a move and the program's: it goes with these once the game is read again. */
+const BEFORE_OURS = ';';
 /**
  * The words of a game. A number of Black's move only stands where something stands between it and White's.
  * @param {Item[]} items
@@ -127,7 +130,8 @@ function wordsOfGame(items, notes, marks, said) {
   let follows = false;
   return items.flatMap(item => {
     const note = notes.get(item.key) || noNote(), ours = marks ? ourComments(item, note) : [],
-          comment = joined(item.san ? [...note.comments, ...ours] : [...ours, ...said, ...note.comments]),
+          comment = item.san ? joined([joined(note.comments), ...ours], BEFORE_OURS)
+                             : joined([...ours, ...said, ...note.comments]),
           number = follows && !item.opens && /\.\.\.$/.test(item.number) ? '' : item.number;
     follows = Boolean(item.san && !comment && !item.closes);
     const words =

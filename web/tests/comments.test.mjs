@@ -79,9 +79,9 @@ test('what is written comes back from the saved game, with one sign at a move', 
     `[Event "?"]\n[FEN "${FEN}"]\n\n{White to win: sound, White mates in 28} 1. Kg3 $1 {White mates in 28} ` +
     '(1. b4 $4 {draw}) 1... Kf5 {White mates in 27} 1-0\n\n';
   const {lines} =
-    withWords(LINES.slice(6), {head: 0, from: 0, end: 2}, root, nodeAt(root, '0'), {comment: 'Leise.', glyphs: ['$3']}),
+    withWords(LINES.slice(6), {head: 0, from: 0, end: 2}, root, nodeAt(root, '0'), {comment: 'Leise', glyphs: ['$3']}),
         saved = withNotes(game, lines);
-  assert.match(saved.replace(/\s+/g, ' '), /1\. Kg3 \$3 \{Leise\. White mates in 28\} \(1\. b4 \$4/);
+  assert.match(saved.replace(/\s+/g, ' '), /1\. Kg3 \$3 \{Leise; White mates in 28\} \(1\. b4 \$4/);
   assert.deepEqual(
-    remarksOf(saved).filter(line => line.startsWith('#! note')), ['#! note Kg3: $3', '#! note Kg3: Leise.']);
+    remarksOf(saved).filter(line => line.startsWith('#! note')), ['#! note Kg3: $3', '#! note Kg3: Leise']);
 });

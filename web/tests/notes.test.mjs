@@ -66,7 +66,7 @@ test('at a move there is one comment, the author\'s words first, and one glyph t
   const text = withNotes(OURS, remarksOf(GAME));
   assert.match(text, /\[SetUp "1"\]\n\[Annotator "an editor"\]\n\n/);
   assert.equal(movesOf(text),
-    '{White to win: sound, White mates in 28. A study for practice.} 1. Kg3 $1 {The only move. White mates in 28} ' +
+    '{White to win: sound, White mates in 28. A study for practice.} 1. Kg3 $1 {The only move; White mates in 28} ' +
       '(1. b4 $2 {draw} Kf6 {draws [%cal Gg5f6] draw}) 1... Kf5 {White mates in 27} 2. Kf3 $1 {White mates in 27} 1-0');
   assert.equal(withNotes(OURS, []), OURS);
   assert.equal(withNotes(OURS, ['#! note Kh1: gone']).replace(/\s+/g, ' '), OURS.replace(/\s+/g, ' '));
@@ -88,7 +88,7 @@ test('comments at moves in letters of another language', () => {
     ours =
       '[FEN "8/8/8/8/8/8/8/8 w - - 0 1"]\n\n1. Qg2+ {White mates in 2} Kf8 {White mates in 1} 2. Rh8# {mate} 1-0\n\n',
     text = withNotes(ours, ['#! note Dg2: good', '#! note Dg2 Kf8 Th8: matt']);
-  assert.equal(movesOf(text), '1. Qg2+ {good. White mates in 2} Kf8 {White mates in 1} 2. Rh8# {matt. mate} 1-0');
+  assert.equal(movesOf(text), '1. Qg2+ {good; White mates in 2} Kf8 {White mates in 1} 2. Rh8# {matt; mate} 1-0');
 });
 /** Saavedra's study as its second entry in a tourney: the program calls 1... Rd1 in the try no mistake. */
 const ROOK = `[Event "?"]
@@ -108,8 +108,8 @@ test('comments and glyphs of an author and of the program do not run into one an
   const saved = withNotes(ROOK, remarksOf(author));
   assert.equal(movesOf(saved),
     '{White to win: unsound 3, White mates in 26. Gewinn} 1. c7 $1 {White mates in 26} 1... Rd6+ {White mates in 25} ' +
-      '2. Kb5 $3 $14 {White mates in 25} (2. Kc5 $2 {draw} 2... Rd1 $1 {und ...Rc1. draw} 3. c8=Q {draw} 3... Rc1+ ' +
-      '{so. patt. draw}) 2... Rd5+ {Ende? White mates in 24} 1-0');
+      '2. Kb5 $3 $14 {White mates in 25} (2. Kc5 $2 {draw} 2... Rd1 $1 {und ...Rc1; draw} 3. c8=Q {draw} 3... Rc1+ ' +
+      '{so. patt; draw}) 2... Rd5+ {Ende? White mates in 24} 1-0');
   assert.equal(withNotes(ROOK, remarksOf(saved)), saved);
   assert.equal(movesOf(withNotes(ROOK, remarksOf(author), false)),
     '{Gewinn} 1. c7 $1 Rd6+ 2. Kb5 $3 $14 (2. Kc5 $2 Rd1 $1 {und ...Rc1} 3. c8=Q Rc1+ {so. patt}) 2... Rd5+ {Ende?} ' +
@@ -154,7 +154,7 @@ test('a long comment is one comment again', () => {
     const long = Array(90).fill(word).join(' '), lines = remarksOf(GAME.replace('The only move', long));
     assert.ok(lines.length > 8 && lines.every(line => new TextEncoder().encode(line).length < 1024), lines);
     const text = withNotes(OURS, lines).replace(/\s+/g, ' ');
-    assert.ok(text.includes(`{${long}. White mates in 28}`), text);
+    assert.ok(text.includes(`{${long}; White mates in 28}`), text);
   }
 });
 test('what is written is read and written again the same', () => {

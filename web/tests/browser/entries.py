@@ -177,7 +177,7 @@ def test_ten_entries_are_ten_rows(user):
     assert table[7][5].startswith("fails at 1. b4: 1... K") and int(table[7][6]) + 1 >= 1 and int(table[1][8]) > 0
     name, saved = user.download("savePgn")
     assert name == "entries.checked.pgn" and '[White "Троицкий"]' in saved and '[Annotator "an editor"]' in saved
-    assert "{The only move. White mates in" in saved.replace("\n", " ")
+    assert "{The only move; White mates in" in saved.replace("\n", " ")
     user.press_on('[data-import="white draw"]')
     user.settle()
     stamp = rows(user)[7][4]
@@ -407,7 +407,7 @@ def test_names_in_a_code_page(user):
     user.settle()
     assert [row[2] for row in rows(user)][:2] == ["Réti", "Троицкий"] and "tag White Troickij" in script(user)
     saved = user.download("savePgn")[1]
-    assert '[White "Троицкий"]' in saved and "{Конец. White mates in" in saved.replace("\n", " "), saved
+    assert '[White "Троицкий"]' in saved and "{Конец; White mates in" in saved.replace("\n", " "), saved
     user.press_on('[data-code="windows-1250"]')
     user.until("document.querySelector('[data-code=\"windows-1250\"]').classList.contains('on')", 60)
     user.settle()
@@ -452,9 +452,9 @@ def test_a_file_goes_back_as_its_authors(user):
     name, saved = user.download("savePgn")
     words = saved.replace("\n", " ")
     assert name == "entries.checked.pgn" and words.count('[Result "1/2-1/2"]') == 1 and words.count(" 1/2-1/2 ") == 1
-    assert "Gewinn} 1. Kg3 $3 {the key. White mates in" in words, words
-    assert "Kh5 $1 {und ...Kg5. White mates in" in words, words
-    assert "Kc5 $2 {fails. White mates in" in words and not re.search(r"\} \{|\$\d \$\d", words), words
+    assert "Gewinn} 1. Kg3 $3 {the key; White mates in" in words, words
+    assert "Kh5 $1 {und ...Kg5; White mates in" in words, words
+    assert "Kc5 $2 {fails; White mates in" in words and not re.search(r"\} \{|\$\d \$\d", words), words
     name, plain = user.download("savePlain")
     assert name == "entries.unmarked.pgn" and not re.search("mates in|unsound|sound|wrong", plain), plain
     moves = [text.replace("\n", " ") for text in re.findall(r"\n\n(\S.*?)\n\n", plain, re.S)]

@@ -164,7 +164,7 @@ def test_words(user):
         assert line in lines, lines
     assert "#! note -: Quiet." not in lines
     saved = re.sub(r"\s+", " ", user.download("savePgn")[1])
-    assert ". A quiet study} 1. Kg3 $1 {The only move. White mates in 27} 1... Kf5 $5 {Black goes to the pawn." in saved
+    assert ". A quiet study} 1. Kg3 $1 {The only move; White mates in 27} 1... Kf5 $5 {Black goes to the pawn." in saved
     plain = re.sub(r"\s+", " ", user.download("savePlain")[1])
     assert "{A quiet study} 1. Kg3 $1 {The only move} 1... Kf5 $5 {Black goes to the pawn.} 1-0" in plain, plain
     for _ in range(3):

@@ -284,7 +284,7 @@ def test_what_a_pgn_says_beside_its_moves_is_kept(user):
         '[Annotator "an editor"]',
         '[Source "a book"]',
         ". A study for practice.}",
-        "{The only move. White mates in",
+        "{The only move; White mates in",
         "{draws [%cal Gg5f6] draw}",
     )
     assert name == "entries.checked.pgn" and all(words in saved.replace("\n", " ") for words in said), saved

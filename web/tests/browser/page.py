@@ -515,7 +515,8 @@ def test_phone(user):
     user.press("g3")
     user.settle()
     assert user.text("value").startswith("After 1. Kg3")
-    tops = user.js("return ['nav', 'verdict', 'here'].map(id => document.getElementById(id).getBoundingClientRect().top)")
+    top = "id => document.getElementById(id).getBoundingClientRect().top"
+    tops = user.js(f"return ['nav', 'verdict', 'here'].map({top})")
     assert tops == sorted(tops), tops
     user.picture("phone")
     user.click("setUp")
