@@ -235,14 +235,14 @@ function saidOf(doc, s, review, open) {
   return {kind, stamp: text, review: own, ...faultsOf(doc, s, own), open: open && text !== said.text};
 }
 /**
- * The entries with the facts of one more study; which others reach its position stays as it was.
+ * The entries with the facts of some more studies; which others reach their positions stays as it was.
  * @param {Entry[]} entries
  * @param {Doc} doc
- * @param {number} at
- * @param {Review | null} review
+ * @param {Set<number>} anew
+ * @param {(Review | null)[]} reviews
  */
-export const withFacts = (entries, doc, at, review) =>
-  entries.map(entry => (entry.at === at ? {...entry, ...saidOf(doc, doc.studies[at], review, false)} : entry));
+export const withFacts = (entries, doc, anew, reviews) => entries.map(
+  entry => (anew.has(entry.at) ? {...entry, ...saidOf(doc, doc.studies[entry.at], reviews[entry.at], false)} : entry));
 /**
  * The entries in the order of the script.
  * @param {Doc} doc

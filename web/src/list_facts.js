@@ -91,8 +91,8 @@ export async function reviewFor(lines, s) {
 let listed = /** @type {{from: any[], facts: Found[], entries: import('./entries.js').Entry[]}} */ (
   {from: [], facts: [], entries: []});
 /**
- * The entries of a script, with what is known of them: the same list as long as nothing has changed. Of a long list the
- * row of a study that is shown is made anew by itself.
+ * The entries of a script, with what is known of them: the same list as long as nothing has changed. Of a long list only
+ * the rows of studies whose facts were found are made anew, until all are.
  * @param {Doc} d
  */
 export function knownEntries(d) {
@@ -100,8 +100,8 @@ export function knownEntries(d) {
                          same = from.every((thing, i) => thing === listed.from[i]);
   if (same && facts === listed.facts) return listed.entries;
   const anew = same ? facts.flatMap((one, at) => (one === listed.facts[at] ? [] : [at])) : [],
-        few = same && facts.length > MOST_UNWANTED && anew.length < 5;
-  const entries = few ? anew.reduce((all, at) => withFacts(all, d, at, reviews[at]), listed.entries)
+        few = same && facts.length > MOST_UNWANTED && open.includes(true);
+  const entries = few ? withFacts(listed.entries, d, new Set(anew), reviews)
                       : entriesOf(d, reviews, facts.map(({mainLine}) => mainLine), open);
   listed = {from, facts, entries};
   return entries;

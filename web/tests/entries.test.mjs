@@ -4,7 +4,7 @@ import test from 'node:test';
 import assert from 'node:assert/strict';
 import {textRemarks} from '../src/cut_game.js';
 import {setTag} from '../src/edits.js';
-import {byCause, entriesOf, nameOf, newlyRefused, numbersOf, studyName} from '../src/entries.js';
+import {byCause, entriesOf, nameOf, newlyRefused, numbersOf, studyName, withFacts} from '../src/entries.js';
 import {hasSolution, stampOf} from '../src/stamps.js';
 import {countsOf, csvOf, isOfKind, menuText} from '../src/entry_list.js';
 import {judgedBy, readReview} from '../src/parse_answers.js';
@@ -52,6 +52,12 @@ test('each entry has a row and a stamp', () => {
   assert.equal(stampOf(d, d.studies[0], null).text, '1 fault');
   assert.deepEqual(d.studies.map(s => hasSolution(d.lines, s, null)), [true, false, false]);
   assert.equal(nameOf({...d.studies[0], originals: {White: 'Réti'}}, 'White'), 'Réti');
+});
+test('rows whose facts were found are made anew, the others stay', () => {
+  const d = doc(['unsound 1', 'sound', 'sound']), before = entriesOf(d),
+        after = withFacts(before, d, new Set([0]), [reviewed()]);
+  assert.deepEqual(after.map((row, at) => row === before[at]), [false, true, true, true, true]);
+  assert.equal(after[0].stamp, 'sound, duals waste time');
 });
 test('a game without a position is said to begin from the initial one', () => {
   const said = tags => {
