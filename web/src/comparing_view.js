@@ -16,7 +16,7 @@ import {stampOf} from './stamps.js';
 import {control} from './fen.js';
 import {table} from './table.js';
 import {editsTo, fensOf, toText} from './script.js';
-import {doc, services} from './state.js';
+import {doc, say, services} from './state.js';
 import {aimText} from './words.js';
 /** @typedef {import('./types.js').View} View */
 /** @typedef {import('./types.js').Study} Study */
@@ -83,15 +83,20 @@ export const compare = chosen => work(async () => {
  */
 function takeView({id, lines}, study) {
   const isOther = pair && id !== doc().id && pair.sides.some(side => side.id === doc().id);
-  const take = () => change(now => ({
-    lines: [
-      ...now.lines, ...(now.lines.length ? [''] : []),
-      ...aloneLines(lines, /** @type {Study} */ (study)).filter(line => !isOfGame(line))
-    ],
-    at: now.studies.length,
-    path: 'root',
-    lenient: true
-  }));
+  const take = async () => {
+    const taken = await change(now => ({
+      lines: [
+        ...now.lines, ...(now.lines.length ? [''] : []),
+        ...aloneLines(lines, /** @type {Study} */ (study)).filter(line => !isOfGame(line))
+      ],
+      at: now.studies.length,
+      path: 'root',
+      lenient: true
+    }));
+    if (!taken || !pair) return;
+    say('board', `Taken over as study ${doc().studies.length} of the open document.`, true);
+    await compare(/** @type {[string, string][]} */ (pair.sides.map(side => [side.id, side.name])));
+  };
   return isOther && study &&
     smallButton('Take over', 'one more study of the open document, behind its own', take, {'data-take': study.fen});
 }

@@ -4,7 +4,7 @@ import {onDocument} from './dom.js';
 import {refuseLong} from './limits.js';
 import {scriptIn} from './links.js';
 import {lookOf} from './looks.js';
-import {openFile, openText} from './opening.js';
+import {openFiles as openEach, openText} from './opening.js';
 import {app, doc, say, services} from './state.js';
 
 /**
@@ -63,7 +63,7 @@ export function listenToDoors(openTables) {
   const openFiles = /** @type {OpenFiles} */ (files => {
     const tables = files.filter(file => /\.dtm$/i.test(file.name));
     if (tables.length) openTables(tables);
-    else if (files.length) openFile(files[0]);
+    else openEach(files);
   });
   onDocument('paste', e => onPaste(e, openFiles));
   onDocument('dragover', e => {

@@ -172,6 +172,7 @@ function withOriginal(lines, study, name, original) {
  * @param {string[]} lines
  * @param {Study} study
  * @param {string} name
+ * A line of the study that has the tag in other letters, and so is refused, goes.
  * @param {string} text      in plain letters
  * @param {string} [original]      in its own letters, where these are others
  * @returns {Change}
@@ -182,8 +183,13 @@ export function setTag(lines, study, name, text, original = '') {
   const own = lines.findIndex(
     (line, at) => at > study.from && at < study.end && wordsOf(line).slice(0, 2).join(' ') === 'tag ' + name);
   const there = own < 0 ? study : {...study, place: {[name]: own, ...study.place}};
-  const set = setLine(lines, there, name, text ? `tag ${name} ${text}` : carried ? `tag ${name} ${unknown(name)}` : '');
-  return {lines: withOriginal(set, study, name, original)};
+  const set = setLine(lines, there, name,
+          text ? `tag ${name} ${text}`
+            : carried ? `tag ${name} ${unknown(name)}`
+                      : ''),
+        bad = set.findIndex((line, at) => at > study.from && at < study.end + set.length - lines.length &&
+            wordsOf(line).slice(0, 2).join(' ') === 'tag ' + name && /[^ -~]/.test(line));
+  return {lines: withOriginal(bad < 0 ? set : splice(set, bad, 1), study, name, original)};
 }
 
 /**

@@ -103,12 +103,6 @@ export const NO_POSITION =
   'it has no tag FEN, so it begins from the initial position: write [FEN ".."] above its moves in the PGN';
 
 /**
- * Whether another text of the game could be read: not one whose number of men is what is wrong with it.
- * @param {LeftOut | null} game
- */
-export const canBeMended = game => game !== null && !INSTEAD_OF.some(([form]) => form.test(game.why));
-
-/**
  * Where a study ends that is a game up to a bad move: the move, as `7. b6`, and why the game was left out.
  * @typedef {{move: string, game: LeftOut}} Cut
  */

@@ -28,7 +28,7 @@ import {factsToPrint, knownFacts} from './list_facts.js';
 import {showLeftOut} from './list_view.js';
 import {show, showFacts, showJudged, showProgress, watch} from './show.js';
 import {makeStore} from './store.js';
-import {openFile} from './opening.js';
+import {openFiles} from './opening.js';
 import {counted, grouped} from './words.js';
 
 // ---- the module; it stands after this script, so that tables are read while it comes
@@ -186,9 +186,9 @@ $('studies').addEventListener('change', (/** @type {any} */ e) => {
   else goStudy(Number(word));
 });
 $('file').addEventListener('change', (/** @type {any} */ e) => {
-  const [file] = e.target.files;
+  const files = [...e.target.files];
   e.target.value = '';
-  if (file) openFile(file);
+  openFiles(files);
 });
 $('tableFiles').addEventListener('change', (/** @type {any} */ e) => {
   const files = [...e.target.files];

@@ -12,7 +12,7 @@ import {gamesIn, namesOf, remarksOf, saidInTail, withoutVerdicts} from './notes.
 import {replace} from './history.js';
 import {foreignGames, foreignText, inUtf8} from './code_pages.js';
 import {cutOf, textRemarks} from './cut_game.js';
-import {canBeMended, leftOut, leftOutBy} from './left_out.js';
+import {leftOut, leftOutBy} from './left_out.js';
 import {MOST_KEPT, refuseLong} from './limits.js';
 import {remarkOf} from './remarks.js';
 import {savedGames} from './saved_games.js';
@@ -121,7 +121,7 @@ export async function withRemarks(lines, bytes, starts = []) {
     if (!source) return [line];
     if (line.startsWith('position ')) return [...saidInTail(remarksOf(source), way), line];
     if (!out) return stillGone(line);
-    if (!canBeMended(out) || room <= 0) return [line, ...namesOf(source)];
+    if (room <= 0) return [line, ...namesOf(source)];
     room -= source.split('\n').length;
     const cut = cutOf(source, starts[game - 1], out, lettersIn(raw(bytes)[out.line - 1] || bytes.subarray(0, 0)));
     return [line, ...namesOf(source), ...textRemarks(cut)];
@@ -177,7 +177,7 @@ export async function openPgn(bytes, where, name, how = {
   const before = source, open = doc();
   source = {bytes, name, id: '', waiting, beside: open.lines, said, held, how, foreign};
   if (!lines.some(line => line.startsWith('position '))) {
-    const offered = waiting || leftOut(lines).some(canBeMended) || foreign.length;
+    const offered = waiting || leftOut(lines).length || foreign.length;
     say(where, offered ? '' : `No study was found in this PGN. ${came} Nothing was changed.`);
     return services.show();
   }
@@ -227,10 +227,27 @@ async function openByLook(text, bytes, where, name) {
  * A file, in whatever letters it is written.
  * @param {File} file
  */
-export const openFile = file => track(whileReading(file.name, async () => {
+const openFile = file => whileReading(file.name, async () => {
   const bytes = plainBytes(new Uint8Array(await file.arrayBuffer()));
   await openByLook(decode(bytes), bytes, 'board', file.name);
-}));
+});
+/**
+ * Opens files, each as a document; the last one is shown. What is wrong with one of several is said with its name.
+ * @param {File[]} files
+ */
+export const openFiles = files => track((async () => {
+  const bad = /** @type {string[]} */ ([]);
+  for (const file of files) {
+    app.say = null;
+    await openFile(file);
+    const said = /** @type {import('./state.js').Say | null} */ (app.say);
+    if (said && !said.good) bad.push(`${file.name}: ${said.text}`);
+  }
+  if (files.length < 2) return;
+  const opened = files.length - bad.length;
+  say('board', [`${opened} of ${files.length} files opened, each as a document.`, ...bad].join(' '), !bad.length);
+  services.show();
+})());
 /**
  * @param {string} text
  * @param {string} where

@@ -6,7 +6,7 @@ import {asGame, badMove, cutBlock, cutOf, leftOutText, remedyOf, textIn, textRem
 import {replacePosition, stipulate, tidy, withMoves} from '../src/edits.js';
 import {entriesOf} from '../src/entries.js';
 import {stampOf, unreadIn} from '../src/stamps.js';
-import {canBeCut, canBeMended, cutIn, leftOutBy, withoutCut} from '../src/left_out.js';
+import {canBeCut, cutIn, leftOutBy, withoutCut} from '../src/left_out.js';
 import {readScript} from '../src/script.js';
 import {copyStudy} from '../src/study_edits.js';
 import {bareTree} from '../src/unmarked.js';
@@ -72,8 +72,8 @@ test('what can be done with a game that was left out', () => {
   assert.equal(remedy(bad, {text: '1. Kg3 ', rest: 'b6 *'}), 'mend');
   assert.equal(remedy('#! game 6, line 79: NoStipulation', {text: '', rest: `${tags}1. Kg3 *`}), 'mend');
   assert.equal(remedy(bad, null), '');
-  assert.ok(canBeMended(leftOutBy('#! game 6, line 79: Placement')));
-  assert.ok(!canBeMended(leftOutBy('#! game 6, line 79: left out: 7 men, never four or fewer')));
+  assert.equal(
+    remedy('#! game 6, line 79: left out: 7 men, never four or fewer', {text: '', rest: `${tags}1. Kg3 *`}), 'mend');
 });
 const GAME = leftOutBy('#! game 6, line 79, column 98: NoSuchMove at b6'), BLOCK = [
   '#! game 1, line 5, column 98: not read: NoSuchMove at b6', '#! game 1, line 1: stipulated by its tag Result',

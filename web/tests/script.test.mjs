@@ -277,6 +277,12 @@ test('a tag stands below the first stipulation of a study that has two', () => {
   assert.deepEqual(
     edits.setTag(lines, study, 'Site', 'B').lines.slice(0, 4), [lines[0], lines[1], 'tag Site B', lines[2]]);
 });
+test('a line with other letters, which is refused, goes where its tag is written in plain ones', () => {
+  const lines = ['position F', 'stipulate white win', 'tag White ?', 'insert root c7', 'tag White Łuk', 'pgn'],
+        at = {from: 0, head: 0, end: 6, place: {aim: 1, White: 2}, tags: {White: '?'}, originals: {}, carried: []};
+  assert.deepEqual(edits.setTag(lines, at, 'White', 'Luk', 'Łuk').lines,
+    ['#! White was: Łuk', 'position F', 'stipulate white win', 'tag White Luk', 'insert root c7', 'pgn']);
+});
 test('another position', () => {
   assert.deepEqual(edits.withMoves(START, study, 'F', 'white win', ['insert root c7']).lines,
     ['position F', 'stipulate white win', 'tag White A', 'insert root c7', 'pgn']);

@@ -372,6 +372,21 @@ def test_texts_from_elsewhere(user):
     assert user.promise("studyboard.script()") == script
 
 
+def test_several_files_at_once(user):
+    """Each becomes a document; one that is neither a script nor a PGN is named."""
+    script = "position 8/8/8/8/8/k7/p7/K7 w - - 0 1\nstipulate white draw\npgn\n"
+    user.js(
+        """const data = new DataTransfer();
+        for (const [name, text] of arguments[0]) data.items.add(new File([text], name));
+        document.dispatchEvent(new DragEvent('drop', {dataTransfer: data, bubbles: true, cancelable: true}))""",
+        [["one.script", script], ["bad.txt", "a letter"], ["two.script", script]],
+    )
+    user.until("document.getElementById('sayBoard').textContent.includes('2 of 3 files opened')")
+    assert "bad.txt: This is neither" in user.text("sayBoard"), user.text("sayBoard")
+    user.click("documentsButton")
+    user.until("document.querySelectorAll('#documents tbody tr').length >= 2")
+
+
 def test_a_link_to_the_study(user):
     sample(user)
     user.js(
