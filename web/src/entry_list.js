@@ -111,13 +111,14 @@ export function sortEntries(entries, by, back) {
   return [...entries].sort(back ? (x, y) => order(y, x) : order);
 }
 /**
- * An entry in a line of the menu: a study by its own names alone.
+ * An entry in a line of the menu: a study by its own names alone, a part of a game with the move after which it begins.
  * @param {import('./types.js').Study[]} studies
  * @param {Entry} entry
  */
 export function menuText(studies, {at, number, title, author, stamp}) {
-  const name = at < 0 ? [title, author].filter(Boolean).join(', ') : studyName(studies[at]);
-  return `${number && `${number}. `}${name}: ${at < 0 ? 'left out' : stamp}`;
+  const name = at < 0 ? [title, author].filter(Boolean).join(', ') : studyName(studies[at]),
+        [after = ''] = at < 0 ? [] : / \(after [^()]*\)$/.exec(title) || [];
+  return `${number && `${number}. `}${name}${after}: ${at < 0 ? 'left out' : stamp}`;
 }
 
 /**

@@ -145,6 +145,8 @@ test('an entry stays an entry: its number is its place in the file, and its stip
       'letters, as a PGN has them (line 56, column 12)');
   assert.equal(menuText(d.studies, rows[1]), '4. Entry 4, Müller, Jürgen: left out');
   assert.equal(menuText(d.studies, {...rows[2], stamp: 'sound'}), '6. Entry 6: sound');
+  assert.equal(menuText(d.studies, {...rows[2], title: 'Entry 6 (after 4. Bc8)', stamp: 'sound'}),
+    '6. Entry 6 (after 4. Bc8): sound');
   assert.deepEqual(rows.filter(row => isOfKind(row, 'differ')).map(row => row.number), ['6', '11']);
   assert.deepEqual(countsOf(rows).slice(-2), [['differ', 2], ['same', 4]]);
   assert.equal(rows[0].same, 'same position as No. 6, No. 13, No. 11');
