@@ -197,13 +197,18 @@ async function look(at, path) {
 }
 /** @param {string} path */
 export const go = path => work(() => look(undefined, path));
-/** @param {number} at */
-export const goStudy = at => work(async () => {
-  if (!doc().studies[at]) return;
+/**
+ * @param {() => number | undefined} where      asked once all that was pressed before is done
+ */
+export const goTo = where => work(async () => {
+  const at = where();
+  if (at === undefined || !doc().studies[at]) return;
   app.setup = null;
   await look(at, 'root');
   scrollTo(0, 0);
 });
+/** @param {number} at */
+export const goStudy = at => goTo(() => at);
 /** @param {(h: typeof app.history) => typeof app.history} step */
 const step = step => work(async () => {
   const next = step(app.history);

@@ -1,7 +1,7 @@
 // @ts-check
 // What keys do.
 import {$, onDocument} from './dom.js';
-import {go, goStudy, redo, undo} from './actions.js';
+import {go, goTo, redo, undo} from './actions.js';
 import {app, doc, node} from './state.js';
 import {flip, focusBoard, showBoard} from './board.js';
 import {closeChoice, setupKey} from './board_input.js';
@@ -23,10 +23,7 @@ function neighbour(d) {
  * The next study of the list as it is shown, or the one before.
  * @param {1 | -1} by
  */
-export function goBeside(by) {
-  const at = studyBeside(by);
-  if (at !== undefined) goStudy(at);
-}
+export const goBeside = by => goTo(() => studyBeside(by));
 /** Whether what is shown is one study, of those that were found. */
 const isHit = () => hitsHere() !== null && doc().studies.length < 2;
 /** @type {Record<string, (n: import('./types.js').TreeNode) => any>} */
