@@ -97,6 +97,8 @@ export async function countsOf(fen) {
 // ---- reviews
 const reviews = /** @type {Map<string, Review>} */ (new Map());
 let last = {letters: 1, ms: 0};
+/** So long, in milliseconds, a review waits for what is added to it, to be drawn once with it. */
+const SOON = 100;
 /**
  * Shows the review of a study, from a worker of its own, so that no move waits for it. A review that takes long is
  * requested once the user rests.
@@ -108,7 +110,7 @@ export async function reviewOf(text, fen, stamp) {
   const kept = reviews.get(text), expected = last.ms * Math.min(1, text.length / last.letters);
   if (kept) {
     app.review = kept;
-    addDetails(text, fen, kept, stamp).catch(() => {});
+    if (await addDetails(text, fen, kept, stamp).catch(() => false)) services.showFacts();
     return;
   }
   await pause(expected > 150 ? Math.min(1000, 2 * expected) : 30);
@@ -127,7 +129,10 @@ export async function reviewOf(text, fen, stamp) {
     if (stamp === app.stamp) app.noReview = /** @type {Error} */ (fault).message;
   }
   if (stamp !== app.stamp) return;
+  const adding = app.review ? addDetails(text, fen, app.review, stamp).catch(() => false) : Promise.resolve(false),
+        added = await Promise.race([adding, pause(SOON)]);
+  if (stamp !== app.stamp) return;
   services.showFacts();
   services.keep();
-  if (app.review) addDetails(text, fen, app.review, stamp).catch(() => {});
+  if (added === undefined && await adding) services.showFacts();
 }

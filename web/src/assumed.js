@@ -7,9 +7,9 @@ import {readScript, toRun, wordsOf} from './script.js';
  * @param {string} text
  */
 export function acceptedReply(text) {
-  const [command, hero = '', goal = '', k = ''] = wordsOf(text);
-  return command === 'stipulate' ? `stipulate ${hero === 'black' ? 'Black' : 'White'} to ${goal}${k && ' in ' + k}`
-                                 : text.trim();
+  if (!/^ *stipulate /.test(text)) return text.trim();
+  const [, hero = '', goal = '', k = ''] = wordsOf(text);
+  return `stipulate ${hero === 'black' ? 'Black' : 'White'} to ${goal}${k && ' in ' + k}`;
 }
 /** @param {string[]} lines */
 export function assumeAccepted(lines) {

@@ -124,7 +124,7 @@ export const canBeCut = game => game !== null && game.column > 0 && AMONG_MOVES.
  * @returns {Cut | null}
  */
 export function cutIn(remarks) {
-  const own = remarks.map(ownRemark).find(({word}) => word === 'up');
+  const own = remarks.filter(line => line.includes(' up to ')).map(ownRemark).find(({word}) => word === 'up');
   if (!own) return null;
   const [move, behind] = cutAt(own.rest.slice('to '.length), ', line '), [place, said] = cutAt(behind, ': ');
   const [line, column] = place.split(', column ').map(Number);

@@ -91,8 +91,8 @@ export async function reviewFor(lines, s) {
 let listed = /** @type {{from: any[], facts: Found[], entries: import('./entries.js').Entry[]}} */ (
   {from: [], facts: [], entries: []});
 /**
- * The entries of a script, with what is known of them: the same list as long as nothing has changed. Of a long list only
- * the rows of studies whose facts were found are made anew, until all are.
+ * The entries of a script, with what is known of them: the same list as long as nothing has changed. Of a long list
+ * only the rows of studies whose facts were found are made anew, until all are.
  * @param {Doc} d
  */
 export function knownEntries(d) {

@@ -81,6 +81,8 @@ function textLines(bytes) {
     return lines;
   } catch { return rawLines(bytes).map(decode); }
 }
+/** A worker whose memory is more than this, in bytes, is ended behind an import: it never becomes smaller. */
+const MUCH = 40e6;
 /**
  * The lines that the program makes of a PGN.
  * @param {Uint8Array} bytes
@@ -91,6 +93,7 @@ export async function importPgn(bytes, aim, upToFaults = false) {
   const request = upToFaults ? 'import-up-to-faults' : 'import',
         answer = await services.core.ask(`${request} ${aim}`.trim(), bytes, 0);
   if (answer.ended !== 'done') throw new Error(endedReason(answer.ended));
+  if (services.core.last.memory > MUCH && !services.core.waiting()) services.core.end();
   const lines = textLines(answer.bytes);
   await learn(lines);
   return lines;

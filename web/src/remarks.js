@@ -119,6 +119,11 @@ export function cutAt(text, separator) {
  * @param {string} line
  */
 export function ownRemark(line) {
-  const [word, rest] = cutAt(known.get(line) === OTHER ? cutAt(line, ' ')[1] : '', ' ');
+  if (known.get(line) !== OTHER) return NO_WORDS;
+  const [word, rest] = cutAt(cutAt(line, ' ')[1], ' ');
   return {word, rest};
 }
+const NO_WORDS = {
+  word: '',
+  rest: ''
+};

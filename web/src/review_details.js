@@ -44,23 +44,23 @@ function pathsOf(review) {
   return [...new Set([...tries.filter((path, i) => tries[i - 1] === path), ...review.missing.map(d => d.path)])];
 }
 /**
- * Adds it to a review that is shown without, and has it drawn; if the user goes on, it is left to the next time.
+ * Adds it to a review, and says whether there was any; if the user goes on, it is left to the next time.
  * @param {string} text
  * @param {string} fen
  * @param {Review} review
  * @param {number} stamp
  */
 export async function addDetails(text, fen, review, stamp) {
-  if (review.details) return;
+  if (review.details) return false;
   const details = /** @type {import('./types.js').ReviewDetails} */ ({replies: {}, elsewhere: {}});
   const worker = await services.tables.factsFor([fen]), paths = pathsOf(review).slice(0, MOST);
   for (const path of paths) {
-    if (stamp !== app.stamp) return;
+    if (stamp !== app.stamp) return false;
     const view = readView((await worker.answer('view ' + path, text, PAGES)).text);
     if (!view) continue;
     details.replies[path] = view.moves.length;
     details.elsewhere[path] = Object.fromEntries(movesElsewhere(view));
   }
   review.details = details;
-  if (paths.length && stamp === app.stamp) services.showFacts();
+  return paths.length > 0 && stamp === app.stamp;
 }

@@ -8,7 +8,7 @@
  * In bytes: one worker has room for what any position needs, both together for little more than twice as much, and
  * beside a long script for a little more.
  */
-const MOST = 176e6, TOGETHER = 340e6, BESIDE_MUCH = 220e6, SPARE = 40e6, PATIENCE = 20;
+const MOST = 176e6, TOGETHER = 340e6, BESIDE_MUCH = 165e6, SPARE = 40e6, PATIENCE = 20;
 const pause = () => new Promise(on => setTimeout(on, 50));
 /**
  * @param {Core[]} workers      the permanent ones, that of moves first: nobody waits for the others

@@ -22,6 +22,7 @@ const TAIL = /^(\d+) of \d+ of game (\d+), node ([^,]*), after ([^,]*)(, beside 
  * @returns {Tail | null}
  */
 export function tailIn(line) {
+  if (!line.includes(' tail ')) return null;
   const {word, rest} = ownRemark(line), found = word === 'tail' && TAIL.exec(rest);
   if (!found) return null;
   const [, number, game, node, after, beside] = found;

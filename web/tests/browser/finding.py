@@ -107,7 +107,7 @@ def test_rows_with_a_feature(user):
 
 
 def test_one_of_each_family(user):
-    """By an independent program: eleven of the 15 wins differ from no earlier one in the square of one man alone, with the same key."""
+    """Counted by an independent program: eleven of the 15 wins are the first of their family."""
     find(user, "win N", "6")
     user.click("findFamilies")
     user.click("findGo")
