@@ -68,7 +68,10 @@ export function acceptedStamp(text, accepted, faults, named) {
   if (!accepted) return null;
   if (named && accepted < faults)
     return {kind: 'duals', text: `${text} (accepted); ${counted(faults - accepted, 'dual')} not accepted`};
-  return accepted === faults
-    ? {kind: 'accepted', text: `sound but for ${accepted} accepted ${accepted === 1 ? 'dual' : 'duals'}`}
-    : {kind: 'duals', text: `${text}, ${accepted} accepted`};
+  if (accepted < faults) return {kind: 'duals', text: `${text}, ${accepted} accepted`};
+  const [fault, ...behind] = text.split('; '), missing = behind.filter(words => words.startsWith('main defence')),
+                others = faults > 1 ? `, ${counted(faults - 1, 'dual')} accepted` : '';
+  const own =
+    named ? `${fault} (accepted)${others}` : `sound but for ${accepted} accepted ${accepted === 1 ? 'dual' : 'duals'}`;
+  return {kind: 'accepted', text: [own, ...missing].join('; ')};
 }

@@ -94,7 +94,7 @@ function takeView({id, lines}, study) {
       lenient: true
     }));
     if (!taken || !pair) return;
-    say('board', `Taken over as study ${doc().studies.length} of the open document.`, true);
+    say('board', `Taken over as No. ${numbersOf(doc()).slice(-1)[0]} of the open document.`, true);
     await compare(/** @type {[string, string][]} */ (pair.sides.map(side => [side.id, side.name])));
   };
   return isOther && study &&

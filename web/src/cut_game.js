@@ -3,7 +3,8 @@
 // that the program reports, and a line that is refused stands for the bad move.
 import {canBeCut, leftOutBy} from './left_out.js';
 import {ownRemark, remarkOf} from './remarks.js';
-import {RESULT, TOKEN, isMoveText} from './notes.js';
+import {RESULT, TOKEN, isMoveText, plain} from './notes.js';
+import {tailIn, wayTo} from './tails.js';
 /**
  * The text of a game before the bad move, and from there on.
  * @typedef {{text: string, rest: string}} CutText
@@ -94,6 +95,40 @@ export function badMove({text, rest}) {
   return `${number} ${token}`.slice(0, 40);
 }
 /**
+ * The moves that lead to the end of a text of moves, with those before them that it stands in brackets behind.
+ * @param {string} text
+ */
+function movesBefore(text) {
+  const outer = /** @type {string[][]} */ ([]), [header] = /** @type {RegExpExecArray} */ (HEADER.exec(text));
+  let way = /** @type {string[]} */ ([]);
+  for (const [, , , , bracket, , symbol = ''] of text.slice(header.length).matchAll(TOKEN)) {
+    if (bracket === '(') {
+      outer.push(way);
+      way = way.slice(0, -1);
+    } else if (bracket === ')') way = outer.pop() || way;
+    if (symbol && !RESULT.test(symbol) && isMoveText(symbol)) way = [...way, plain(symbol)];
+  }
+  return way;
+}
+/**
+ * Where the position of the part stands that the bad move is in, among the lines of a game: the part whose way leads
+ * furthest towards the move; else the first one.
+ * @param {string[]} block
+ * @param {CutText} cut
+ */
+function cutPart(block, {text}) {
+  const moves = movesBefore(text);
+  let found = {at: block.findIndex(line => line.startsWith('position ')), length: -1},
+      way = /** @type {string[]} */ ([]);
+  block.forEach((line, at) => {
+    const tail = tailIn(line);
+    if (tail) way = wayTo(block, tail.node).map(plain);
+    const isOn = way.length <= moves.length && way.every((san, i) => san === moves[i]);
+    if (line.startsWith('position ') && isOn && way.length > found.length) found = {at, length: way.length};
+  });
+  return found.at;
+}
+/**
  * The lines of a study that is a game up to a bad move. A line that no program accepts, since it has a word too many,
  * stands for the bad move.
  * @param {string[]} block      the lines of the part that was read
@@ -101,7 +136,7 @@ export function badMove({text, rest}) {
  * @param {CutText} cut
  */
 export function cutBlock(block, game, cut) {
-  const move = badMove(cut), at = block.findIndex(line => line.startsWith('position ')), end = block.lastIndexOf('pgn'),
+  const move = badMove(cut), at = cutPart(block, cut), end = block.indexOf('pgn', at),
         place = `line ${game.line}, column ${game.column}`;
   return [
     ...block.slice(0, at), `#! up to ${move}, ${place}: ${game.why}${game.text && ` at ${game.text}`}`,
@@ -152,5 +187,6 @@ export function cutOf(text, line, game, lettersIn) {
 export const asGame = (block, game, line) => block.map(text => {
   const remark = remarkOf(text),
         place = (/** @type {number} */ game, /** @type {number} */ at) => `game ${game}, line ${at}`;
+  if (tailIn(text)) return text.replace(' of game 1,', ` of game ${game},`);
   return remark && remark.game === 1 ? text.replace(place(1, remark.line), place(game, remark.line + line - 1)) : text;
 });

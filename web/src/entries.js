@@ -9,7 +9,7 @@ import {NO_POSITION, canBeCut, leftOutBy, whyLeftOut} from './left_out.js';
 import {positionsReached, reachedText, samePositions, sameText} from './same_positions.js';
 import {isCommand, isEdit, isPosition, wordsOf} from './script.js';
 import {acceptedOf, openStamp, stampOf} from './stamps.js';
-import {namesOfTails} from './tails.js';
+import {gamesWithoutPart, namesOfTails, wholeGames} from './tails.js';
 import {bareTree} from './unmarked.js';
 import {aimText, reason} from './words.js';
 /** @typedef {import('./types.js').Study} Study @typedef {import('./types.js').Doc} Doc */
@@ -275,5 +275,9 @@ export function entriesOf(doc, reviews = [], mainLines = [], open = []) {
       isKnown(White) ? White : '', reason(r.reply));
   });
   const unread = doc.lines.flatMap((text, line) => (text.startsWith('#! game ') ? leftOutAt(doc.lines, line) : []));
-  return [...studies, ...refused, ...unread].sort((x, y) => x.line - y.line);
+  const gone = gamesWithoutPart(doc.lines).map(({game, line, why, at}) => {
+    const {Event = '', White = ''} = wholeGames(doc.lines).get(game)?.tags || {};
+    return {...missing(at, Event, White, `${why} (line ${line})`), number: `${game}`};
+  });
+  return [...studies, ...refused, ...unread, ...gone].sort((x, y) => x.line - y.line);
 }

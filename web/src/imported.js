@@ -3,7 +3,7 @@
 // that says why.
 import {cutIn, leftOut, whyLeftOut} from './left_out.js';
 import {cutAt, ownRemark, remarkOf, remarksOfKind} from './remarks.js';
-import {tailIn, wholeGames} from './tails.js';
+import {gamesWithoutPart, tailIn, wholeGames} from './tails.js';
 import {counted} from './words.js';
 /**
  * Whether a text is a PGN: its first line is a tag, or some line is the tag of a position.
@@ -67,7 +67,7 @@ const doubtNote = games =>
  * @param {string[]} lines
  */
 export function importNote(lines) {
-  const [counts] = remarksOfKind(lines, 'total'), out = leftOut(lines);
+  const [counts] = remarksOfKind(lines, 'total'), out = [...leftOut(lines), ...gamesWithoutPart(lines)];
   if (!counts) return '';
   return `${counted(counts.games, 'game')}, ${counted(counts.studies, 'study', 'studies')}.` +
     outNote(out, counts.studies) + doubtNote(doubtedGames(lines));

@@ -1,6 +1,7 @@
 // @ts-check
 // Games with a bad move, opened up to there, and others that were left out: mended, and read again.
 import {change, track, work} from './actions.js';
+import {withOwnWords} from './comments.js';
 import {asGame, cutBlock, cutOf, hasPosition, leftOutText, remedyOf, textIn} from './cut_game.js';
 import {$} from './dom.js';
 import {documentOf, noteAfter, studiesIn} from './imported.js';
@@ -27,8 +28,8 @@ async function read(text, {game, line}, aim, upToFaults = false) {
   return {lines: asGame(await withRemarks(documentOf(lines), bytes), game, line), out};
 }
 /**
- * The lines of a game up to its bad move; or why it has none. A game that is left out for this move all the same has
- * no stipulation before it.
+ * The lines of a game up to its bad move; or why it has none. If it is left out for this move all the same, and not
+ * with a stipulation, it has none before the move; else no part of it begins with four men before the move.
  * @param {LeftOut} game
  * @param {import('./cut_game.js').CutText} cut
  * @param {string} aim
@@ -37,7 +38,9 @@ async function readUpTo(game, cut, aim) {
   const line = game.line - cut.text.split('\n').length + 1,
         {lines, out} = await read(`${(cut.text + cut.rest).trimEnd()}\n`, {...game, line}, aim, true);
   if (!out) return {lines: cutBlock(lines, game, cut), out};
-  return {lines: [], out: canBeCut(out) && !aim ? {...out, why: 'NoStipulation', text: ''} : out};
+  if (!canBeCut(out) || aim) return {lines: [], out};
+  const asked = await read(`${(cut.text + cut.rest).trimEnd()}\n`, {...game, line}, 'white win', true);
+  return {lines: [], out: asked.out ? out : {...out, why: 'NoStipulation', text: ''}};
 }
 /**
  * Why a game was left out, in words.
@@ -84,8 +87,7 @@ async function openAt(lines, line, more = {}, aim = chosenAim(doc().studies)) {
     return true;
   }
   if (!got.lines.length) {
-    say('board', `Game ${game.game} up to there: ${got.out ? whyLeftOut(got.out) : 'it was not read'}.`);
-    services.show();
+    mendAt(lines, line, more);
     return true;
   }
   await putIn({lines, line, end, more}, got.lines);
@@ -127,17 +129,36 @@ export function unreadText() {
   return s ? textIn(doc().lines.slice(s.head, s.from)) : null;
 }
 /**
- * Other lines take the place of the study that is looked at.
+ * The lines of a study; of a part of a game those of the whole game, as far as its parts stand together.
+ * @param {import('./types.js').Doc} d
+ * @param {Study} s
+ */
+function wholeOf({lines, studies}, s) {
+  const {tail} = s.origin || {},
+        isBeside = (/** @type {Study | undefined} */ other) =>
+          Boolean(tail && other && other.origin?.tail && other.origin.tail.game === tail.game);
+  let first = studies.indexOf(s), last = first, head = s.head;
+  while (isBeside(studies[first - 1])) first--;
+  while (isBeside(studies[last + 1])) last++;
+  if (tail) head = studies[first].head;
+  while (tail && head > 0 && (lines[head - 1] === '' || lines[head - 1].startsWith('#')) &&
+    !lines[head].startsWith('#! game '))
+    head--;
+  return {first, head, end: studies[last].end};
+}
+/**
+ * Other lines take the place of the study that is looked at, or of the game that it is a part of.
  * @param {Study} s
  * @param {string[]} block
+ * @param {boolean} [whole]
  */
-const replaceStudy = (s, block) => change(now => (now.studies[now.at] === s ? {
-  lines:
-    [...now.lines.slice(0, s.head), ...block, ...(s.end < now.lines.length ? [''] : []), ...now.lines.slice(s.end)],
-  path: 'root',
-  lenient: true
-}
-                                                                            : null));
+const replaceStudy = (s, block, whole = false) => change(now => {
+  if (now.studies[now.at] !== s) return null;
+  const {first, head, end} = whole ? wholeOf(now, s) : {first: now.at, head: s.head, end: s.end}, lines = [
+    ...now.lines.slice(0, head), ...block, ...(end < now.lines.length ? [''] : []), ...now.lines.slice(end)
+  ];
+  return {lines, at: first, note: noteAfter(now.note, now.lines, lines), path: 'root', lenient: true};
+});
 /**
  * The mended text of a game is read; where it has another bad move, up to there. What cannot be read is said.
  * @param {string} text
@@ -174,9 +195,11 @@ const isOneGame = lines => lines.filter(line => line.startsWith('position ')).le
  * @param {string} text
  */
 export const readAgain = text => track((async () => {
-  const s = study(), lines = s ? await readMended(text, s.origin, 'cut') : [];
-  if (!s || !lines.length) return;
-  if (lines.join('\n') !== doc().lines.slice(s.head, s.end).join('\n').trim()) return void await replaceStudy(s, lines);
+  const s = study(), cut = unreadText(), read = s ? await readMended(text, s.origin, 'cut') : [];
+  if (!s || !cut || !read.length) return;
+  const {head, end} = wholeOf(doc(), s), now = doc().lines.slice(head, end),
+               lines = withOwnWords(read, now, await readMended(cut.text + cut.rest, s.origin, 'cut'));
+  if (lines.join('\n').trim() !== now.join('\n').trim()) return void await replaceStudy(s, lines, true);
   say('cut', 'It was read again, and ends at the same move.', true);
   services.show();
 })());

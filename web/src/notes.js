@@ -175,7 +175,8 @@ export function remarksOf(game) {
     } else if (!first) {
       if (own && kind === 'comment' && ACCEPTED.test(text)) out.push(`#! accepted ${key}: dual`);
       const words = own && kind === 'comment' ? withoutOurs(text) : text;
-      out.push(...noteLines(key, key === '-' && kind === 'comment' ? words.replace(AIM, '') : words));
+      out.push(
+        ...noteLines(key, key === '-' && kind === 'comment' ? words.replace(AIM, '').replace(UNREAD, '') : words));
     } else if (!said.some(other => other.key === key && other.kind === 'nag' && other.place === 'comment'))
       out.push(`#! mark ${key}: ${text}`);
   }
@@ -203,6 +204,8 @@ const VALUE = '(draw|mate|(White|Black) mates in \\d+)',
 const ACCEPTED = new RegExp(`${VALUE}; dual \\d+; accepted$`);
 /** What is to be done, as this page writes it: it is written again, whatever the author says behind it. */
 const AIM = /^(White|Black) to (win|draw|mate in \d+)(\. |$)/;
+/** Where the reading ended, as this page writes it. */
+const UNREAD = /^not read: \d+\.(\.\.)? [^\s,.]+(\. |$)/;
 /** What games that were saved before say behind `sound` where there is no solution. */
 const NO_MOVE = 'holds: no move of the solution is given';
 /**
@@ -257,3 +260,12 @@ export const saidInTail = (remarks, way) => remarks.flatMap(line => {
   if (path.length === way.length && way.length && /^\$[1-9]$/.test(said)) return [];
   return [`#! ${name} ${path.slice(way.length).join(' ') || '-'}: ${said}`];
 });
+/**
+ * The line that stands for a move which was not read, as a game that this page saved says in its first comment.
+ * @param {string} game
+ */
+export function notReadIn(game) {
+  const [, said = ''] = /^\{([^}]*)\}/.exec(game.replace(/^(\s*\[[^\n]*\]\s*\n)+/, '').trim()) || [], [,
+    move = ''] = /(?:^|[.:] )not read: (\d+\.(?:\.\.)? [^\s,.]+)/.exec(said.replace(/\s+/g, ' ')) || [];
+  return move ? [`insert root ${move}`] : [];
+}

@@ -8,7 +8,7 @@ import {decode, documentOf, plainBytes, importNote, withoutAim} from './imported
 import {freshId} from './keep.js';
 import {lookOf} from './looks.js';
 import {notKept, stillGone} from './not_kept.js';
-import {gamesIn, namesOf, remarksOf, saidInTail, withoutVerdicts} from './notes.js';
+import {gamesIn, namesOf, notReadIn, remarksOf, saidInTail, withoutVerdicts} from './notes.js';
 import {replace} from './history.js';
 import {foreignGames, foreignText, inUtf8} from './code_pages.js';
 import {cutOf, textRemarks} from './cut_game.js';
@@ -123,6 +123,7 @@ export async function withRemarks(lines, bytes, starts = []) {
     const source = games[game - 1];
     if (!source) return [line];
     if (line.startsWith('position ')) return [...saidInTail(remarksOf(source), way), line];
+    if (line === 'pgn') return [...notReadIn(source), line];
     if (!out) return stillGone(line);
     if (room <= 0) return [line, ...namesOf(source)];
     room -= source.split('\n').length;

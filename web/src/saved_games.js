@@ -226,15 +226,21 @@ const STATED =
  */
 export const statesAim = ({comments}) => comments.some(text => STATED.test(text.trim()));
 /**
+ * Whether an import might take words before the first move for what is to be done.
+ * @param {string} text
+ */
+const mayState = text => STATED.test(text.trim()) || /^\S*#/.test(text.trim());
+/**
  * Whether the author's own tags and comments say what is to be done. Those of a game that was saved with marks do not,
- * since the program's words stood in its comment.
+ * since the program's words stood in its comment; nor do tags in front of words that might be read as something else.
  * @param {Study} study
  * @param {string[]} remarks
  */
 function isStated({origin, aim}, remarks) {
   const first = remarks.filter(line => line.startsWith('#! note -: ')).map(line => line.slice('#! note -: '.length));
   if (aim && first.some(text => text.startsWith(aimText(aim)))) return true;
-  return origin && isOfFile(origin) && (origin.source !== 'comment' || statesAim({comments: first}));
+  return origin && isOfFile(origin) &&
+    (origin.source === 'comment' ? statesAim({comments: first}) : !first.some(mayState));
 }
 /**
  * A study's games as they are saved, the last with the page's verdict. A part of a game says which it is; without the

@@ -64,6 +64,26 @@ export const wholeGames = once(lines => {
   }
   return games;
 });
+const TAIL_GONE = /^#! tail \d+ of \d+ of game (\d+), .*: left out: (.*)$/;
+/**
+ * The games with more than four men of which no part became a study: the line of the script that says why, and where
+ * the game begins in the file.
+ * @param {string[]} lines
+ * @returns {(import('./left_out.js').LeftOut & {at: number})[]}
+ */
+export const gamesWithoutPart = once((/** @type {string[]} */ lines) => {
+  const found = /** @type {Map<number, any>} */ (new Map());
+  let line = 0, now = 0;
+  lines.forEach((text, at) => {
+    const remark = text.startsWith('#! game ') ? remarkOf(text) : null,
+          [, game = '', why = ''] = TAIL_GONE.exec(text) || [];
+    if (remark && remark.game) [line, now] = [remark.line, remark.game];
+    if (game && !found.has(Number(game)))
+      found.set(Number(game), {game: Number(game), line, column: 0, author: '', why, text: '', at});
+    if (text.startsWith('position ') && now) found.set(now, null);
+  });
+  return [...found.values()].filter(Boolean);
+});
 /**
  * @param {Whole} game
  * @param {string} line

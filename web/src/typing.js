@@ -29,6 +29,10 @@ export function watchTyping() {
     owed.delete(field);
     if (typing === field) typing = null;
   });
+  // Words that were not handed over yet would be lost: the browser asks.
+  addEventListener('beforeunload', e => {
+    if (typing && typing.isConnected && /^(note|tag|cutText|gameText|script)/.test(typing.id)) e.preventDefault();
+  });
   onDocument('focusout', e => handOver(/** @type {Field} */ (e.target)));
   onDocument('keydown', e => {
     if (e.key === 'Enter' && e.target instanceof HTMLInputElement) setTimeout(handOver, 0, e.target);

@@ -2,12 +2,14 @@
 import './stand_in.mjs';
 import test from 'node:test';
 import assert from 'node:assert/strict';
-import {saidInTail} from '../src/notes.js';
+import {asGame, cutBlock} from '../src/cut_game.js';
+import {notReadIn, saidInTail} from '../src/notes.js';
 import {assumeAccepted} from '../src/assumed.js';
+import {withOwnWords} from '../src/comments.js';
 import {entriesOf} from '../src/entries.js';
 import {savedGames} from '../src/saved_games.js';
 import {withGames} from '../src/reporting.js';
-import {tailIn, tailText, wayTo} from '../src/tails.js';
+import {gamesWithoutPart, tailIn, tailText, wayTo} from '../src/tails.js';
 
 const HEADING = '#! tail 2 of 3 of game 4, node 0.1.0, after 5. cxb8=Q, beside the solution';
 const WHOLE = [
@@ -23,6 +25,43 @@ test('the way to a tail is that of its node', () => {
   assert.deepEqual(wayTo(WHOLE, '0.1.0'), ['Nc1', 'Rd5+', 'Nd3']);
   assert.deepEqual(wayTo(WHOLE, '0.0'), ['Nc1', 'Rxb5']);
   assert.deepEqual(wayTo(WHOLE, 'root'), []);
+});
+test('a bad move is in the part that it follows', () => {
+  const part = (number, node, after) => ['', `#! tail ${number} of 2 of game 1, node ${node}, after ${after}`,
+    'position F', 'stipulate white win', 'pgn'];
+  const block = [...WHOLE, ...part(1, '0.0', '1... Rxb5'), ...part(2, '0.1.0', '2. Nd3')],
+        game = {game: 1, line: 9, column: 1, author: '', why: 'NoSuchMove', text: 'Kh4'};
+  const cutAt = text => cutBlock(block, game, {text: `[FEN "x"]\n\n${text} `, rest: 'Kh4 *'})
+                          .filter(line => /^(#! tail|insert|#! up)/.test(line))
+                          .map(line => line.slice(0, 11));
+  assert.deepEqual(cutAt('1. Nc1 Rd5+ 2. Nd3 Rxd3 3.'), ['#! tail 1 o', '#! tail 2 o', '#! up to 3.', 'insert root']);
+  assert.deepEqual(
+    cutAt('1. Nc1 Rd5+ (1... Rxb5 2. c7 Rb8 3. '), ['#! tail 1 o', '#! up to 3.', 'insert root', '#! tail 2 o']);
+  assert.deepEqual(asGame([HEADING.replace('game 4', 'game 1')], 7, 20), [HEADING.replace('game 4', 'game 7')]);
+});
+test('a game of which no part became a study has a row with its reason', () => {
+  const lines = [
+    '#! game 2, line 8: stipulated by its comment', ...WHOLE, '',
+    '#! tail 1 of 1 of game 2, node 0.0, after 1... Rxb5: left out: the mate is due'
+  ];
+  assert.deepEqual(gamesWithoutPart(lines),
+    [{game: 2, line: 8, column: 0, author: '', why: 'the mate is due', text: '', at: lines.length - 1}]);
+  const [row] = entriesOf({lines, studies: [], refused: []});
+  assert.deepEqual([row.number, row.stamp], ['2', 'left out: the mate is due (line 8)']);
+  assert.deepEqual(gamesWithoutPart([...lines, '#! tail 2 of 2 of game 2, node 0.1.0, after x', 'position F']), []);
+});
+test('where the reading ended is known again when a saved game is opened', () => {
+  const tags = '[Event "A"]\n[FEN "x"]\n\n';
+  assert.deepEqual(
+    notReadIn(`${tags}{White to win: not read: 2. Kf3, White mates\nin 9. Fine.} 1. c7 *`), ['insert root 2. Kf3']);
+  assert.deepEqual(notReadIn(`${tags}{White to win. not read: 2... Kf3. Fine.} 1. c7 *`), ['insert root 2... Kf3']);
+  assert.deepEqual(notReadIn(`${tags}{Fine.} 1. c7 {not read: 2. Kf3} *`), []);
+});
+test('words that were written beside a game stay when it is read again', () => {
+  const then = ['#! note -: from the file', 'position F', 'pgn'],
+        now = ['#! note -: from the file', '#! note Kd3: own', ...then.slice(1)];
+  assert.deepEqual(withOwnWords(['#! note -: from the file', 'position F', 'insert root Kd3', 'pgn'], now, then),
+    ['#! note -: from the file', '#! note Kd3: own', 'position F', 'insert root Kd3', 'pgn']);
 });
 test('a tail has what its game says behind the way to it', () => {
   const remarks = [

@@ -377,7 +377,7 @@ def test_versions(user):
     user.settle()
     after = user.promise("studyboard.script()")
     assert after.startswith(before.rstrip()) and after.count("position ") == before.count("position ") + 1, after
-    user.until("document.getElementById('sayBoard').textContent.includes('Taken over as study 2')")
+    user.until("document.getElementById('sayBoard').textContent.includes('Taken over as No. ')")
     user.click("endComparing")
     user.keys(Keys.ESCAPE)
 
