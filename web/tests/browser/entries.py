@@ -149,7 +149,7 @@ def test_ten_entries_are_ten_rows(user):
     assert user.text("head").split("\n\n")[:2] == ["Ten", "No. 10 \u00b7 H"], user.text("head")
     user.js("const e = document.getElementById('studies'); e.selectedIndex = 3; e.dispatchEvent(new Event('change'))")
     user.settle()
-    assert user.text("sayBoard").startswith("4, Four, B: left out: 6 men"), user.text("sayBoard")
+    assert user.has("gameText") and "6 men" in user.text("middle"), user.text("middle")
     assert user.js("return document.getElementById('studies').selectedIndex") == 9
     note = user.text("import")
     assert (
