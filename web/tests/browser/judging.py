@@ -214,7 +214,7 @@ def test_accepted_duals(user):
         user.settle()
         user.until("document.querySelectorAll('[data-accept]').length", 60)
     words = "1 accepted dual" if duals == 1 else f"{duals} accepted duals"
-    assert user.text("stamp") == f"sound but for {words}", user.text("stamp")
+    assert user.text("stamp") == f"sound but for {words}; main defence 1... Kc5 not given", user.text("stamp")
     assert sum(line.startswith("#! accepted Kb3 ") for line in script(user)) == duals
     assert f"1 sound but for accepted duals" in user.text("list")
     user.picture("accepted", whole=False)
