@@ -73,7 +73,7 @@ export function printedRemark(line, fen, ways) {
   return words ? short(`#! comment: ${words}`) : line;
 }
 /**
- * The lines of a script, with the game of each study of which the report has another number, in the place of the empty
+ * The lines of a script, with the game of each study that has another number in the report, in the place of the empty
  * line before it: the report counts entries, and a game with more than four men has an entry for each part, whose
  * heading names the game.
  * @param {import('./types.js').Doc} d

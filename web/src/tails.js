@@ -66,8 +66,8 @@ export const wholeGames = once(lines => {
 });
 const TAIL_GONE = /^#! tail \d+ of \d+ of game (\d+), .*: left out: (.*)$/;
 /**
- * The games with more than four men of which no part became a study: the line of the script that says why, and where
- * the game begins in the file.
+ * The games with more than four men that have no part which became a study: the line of the script that says why, and
+ * where the game begins in the file.
  * @param {string[]} lines
  * @returns {(import('./left_out.js').LeftOut & {at: number})[]}
  */
