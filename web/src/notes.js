@@ -32,14 +32,27 @@ const SIGNS = /** @type {Record<string, string>} */ (
         {'!': '$1', '?': '$2', '!!': '$3', '??': '$4', '!?': '$5', '?!': '$6', '=': '$10', '+-': '$18', '-+': '$19'}),
       NULL_MOVE = /^(--|Z0|null|pass|[\u2013\u2014])$/;
 /**
- * The moves of a game, one after the other: for each token the moves from the start that lead to it. A comment before
- * the first move of a variation is one of that move.
- * @param {string} movetext
- * @param {(kind: 'comment' | 'nag' | 'move' | 'result', text: string, path: string[]) => void} visit
+ * Where a token stands: behind a move, as it is written, which stands behind others; `null` at the start.
+ * @typedef {{symbol: string, after: Place} | null} Place
  */
-export function walk(movetext, visit) {
-  const outer = /** @type {[string[], string[]][]} */ ([]);
-  let at = /** @type {string[]} */ ([]), before = at, ahead = /** @type {string[] | null} */ (null);
+/**
+ * The moves from the start that lead to a place.
+ * @param {Place} place
+ */
+function movesTo(place) {
+  const moves = [];
+  for (let one = place; one; one = one.after) moves.unshift(NULL_MOVE.test(one.symbol) ? '--' : plain(one.symbol));
+  return moves;
+}
+/**
+ * The moves of a game, one after the other: for each token where it stands. A comment before the first move of a
+ * variation is one of that move.
+ * @param {string} movetext
+ * @param {(kind: 'comment' | 'nag' | 'move' | 'result', text: string, place: Place) => void} visit
+ */
+function walk(movetext, visit) {
+  const outer = /** @type {[Place, Place][]} */ ([]);
+  let at = /** @type {Place} */ (null), before = at, ahead = /** @type {string[] | null} */ (null);
   const flush = () => {
     for (const text of ahead || []) visit('comment', text, at);
     ahead = null;
@@ -57,9 +70,9 @@ export function walk(movetext, visit) {
       else visit('comment', oneLine(brace ?? line), at);
     } else if (symbol && SIGNS[symbol]) visit('nag', SIGNS[symbol], at);
     else if (symbol && RESULT.test(symbol)) {
-      if (!outer.length) return visit('result', wholeResult(symbol), []);
+      if (!outer.length) return visit('result', wholeResult(symbol), null);
     } else if (symbol && isMoveText(symbol)) {
-      [before, at] = [at, [...at, NULL_MOVE.test(symbol) ? '--' : plain(symbol)]];
+      [before, at] = [at, {symbol, after: at}];
       visit('move', symbol, at);
       flush();
     }
@@ -98,31 +111,6 @@ export function namesOf(game) {
   return ['Event', 'White']
     .filter(name => isKnown(text(name)))
     .map(name => `#! its ${name} was: ${text(name).slice(0, 80)}`);
-}
-/**
- * The games of a PGN, cut as the program cuts them: a line of a tag begins one behind a line of moves, and a second
- * Event.
- * @param {string} text
- * @param {number[]} [starts]      where the first line of each comes, counted from 1
- */
-export function gamesIn(text, starts = []) {
-  const games = /** @type {string[][]} */ ([]);
-  let moved = true, event = false, count = 0;
-  for (const line of text.replace(/^\ufeff/gm, '').split(/\r*\n/)) {
-    count++;
-    const remark = /^[%;]/.test(line), silent = remark || /^[ \t\v\f\r]*$/.test(line),
-          tag = remark ? null : /^[ \t]*\[[ \t]*([A-Za-z]\w*)[ \t]*"/.exec(line);
-    if (!games.length && silent) continue;
-    if (!games.length || (tag && (moved || (event && tag[1] === 'Event')))) {
-      games.push([]);
-      starts.push(count);
-      moved = event = false;
-    }
-    if (tag) event = event || tag[1] === 'Event';
-    else if (!silent) moved = true;
-    games[games.length - 1].push(line);
-  }
-  return games.map(lines => lines.join('\n') + '\n');
 }
 /**
  * A line of a script has at most 1,024 bytes.
@@ -190,8 +178,8 @@ export function remarksOf(game) {
 function saidIn(movetext) {
   const said = /** @type {{kind: string, text: string, key: string, place: string}[]} */ ([]);
   let place = '';
-  walk(movetext, (kind, text, path) => {
-    if (kind !== 'move' && text) said.push({kind, text, key: path.join(' ') || '-', place});
+  walk(movetext, (kind, text, at) => {
+    if (kind !== 'move' && text) said.push({kind, text, key: movesTo(at).join(' ') || '-', place});
     place = kind === 'move' ? 'move' : kind === 'comment' || place === 'comment' ? 'comment' : '';
   });
   return said;

@@ -8,8 +8,9 @@ import {decode, documentOf, plainBytes, importNote, withoutAim} from './imported
 import {freshId} from './keep.js';
 import {lookOf} from './looks.js';
 import {notKept, stillGone} from './not_kept.js';
-import {gamesIn, namesOf, notReadIn, remarksOf, saidInTail, withoutVerdicts} from './notes.js';
+import {namesOf, notReadIn, remarksOf, saidInTail, withoutVerdicts} from './notes.js';
 import {replace} from './history.js';
+import {eachGame, gamesIn, rawLines, textLines, textOf} from './games.js';
 import {foreignGames, foreignText, inUtf8} from './code_pages.js';
 import {cutOf, textRemarks} from './cut_game.js';
 import {leftOut, leftOutBy} from './left_out.js';
@@ -45,41 +46,17 @@ export function lastOpened() {
 export async function checkWhole() {
   const d = doc(), from = source, text = from && from.id === d.id && d.note && d.judged && decode(from.bytes);
   if (!from || !text) return;
-  const games = gamesIn(text), rest = pauses();
-  if (games.length !== d.studies.length) return;
-  for (const [i, study] of d.studies.entries()) {
-    const saved = savedGames({...d, studies: [study]});
-    if (withoutVerdicts(saved).trim() !== withoutVerdicts(games[i]).trim()) return;
+  const games = eachGame(text), rest = pauses();
+  for (const study of d.studies) {
+    const {value: game} = games.next(), saved = game && savedGames({...d, studies: [study]});
+    if (!saved || withoutVerdicts(saved).trim() !== withoutVerdicts(game).trim()) return;
     if (rest.isDue()) await rest.pause();
     if (doc() !== d) return;
   }
+  if (!games.next().done) return;
   app.history = replace(app.history, {...d, note: '', name: from.name.replace(/\.\w+$/, '')});
   services.keep();
   services.show();
-}
-/**
- * The lines of a file.
- * @param {Uint8Array} bytes
- */
-export function rawLines(bytes) {
-  const lines = /** @type {Uint8Array[]} */ ([]);
-  for (let at = 0; at < bytes.length;) {
-    const end = bytes.indexOf(10, at), next = end < 0 ? bytes.length : end;
-    lines.push(bytes.subarray(at, next));
-    at = next + 1;
-  }
-  return lines;
-}
-/**
- * The lines of a file as texts.
- * @param {Uint8Array} bytes
- */
-function textLines(bytes) {
-  try {
-    const lines = new TextDecoder('utf-8', {fatal: true}).decode(bytes).split('\n');
-    if (lines[lines.length - 1] === '') lines.pop();
-    return lines;
-  } catch { return rawLines(bytes).map(decode); }
 }
 /** A worker whose memory is more than this, in bytes, is ended behind an import: it never becomes smaller. */
 const MUCH = 40e6;
@@ -114,9 +91,10 @@ const lettersIn = raw => (/** @type {number} */ count) => {
  * @param {number[]} [starts]      where each game comes to begin
  */
 export async function withRemarks(lines, bytes, starts = []) {
-  const games = gamesIn(textLines(bytes).join('\n'), starts), raw = once(rawLines), rest = pauses();
+  const games = gamesIn(textOf(bytes), starts), raw = once(rawLines), rest = pauses();
   let game = 0, first = 0, way = /** @type {string[]} */ ([]), room = MOST_KEPT;
   const said = (/** @type {string} */ line, /** @type {number} */ at) => {
+    if (!/^(#|position |pgn$)/.test(line)) return [line];
     const remark = remarkOf(line), out = leftOutBy(line), tail = tailIn(line);
     if (remark && remark.game) [game, first, way] = [remark.game, at, []];
     if (tail) way = wayTo(lines.slice(first, at), tail.node);

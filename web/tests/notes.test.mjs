@@ -4,7 +4,8 @@ import './stand_in.mjs';
 import test from 'node:test';
 import assert from 'node:assert/strict';
 import {stipulate, withMoves} from '../src/edits.js';
-import {gamesIn, namesOf, notesMoved, remarksOf} from '../src/notes.js';
+import {gamesIn} from '../src/games.js';
+import {namesOf, notesMoved, remarksOf} from '../src/notes.js';
 import {savedGames, withNotes} from '../src/saved_games.js';
 import {readScript} from '../src/script.js';
 import {wordOf} from '../src/wording.js';
@@ -224,7 +225,7 @@ test('games are cut as the program cuts them', () => {
   assert.equal(gamesIn('1. e4 *\n\ufeff[Event "b"]\n').length, 2);
   assert.deepEqual(gamesIn('; to whom\n\n [ Event  "a"]\r\n1. e4 *\r\n [FEN "x"]\n[_a "b"]\n[Event"c"]\n')
                      .map(text => text.split('\n').length - 1),
-    [2, 2, 2]);
+    [2, 2, 1]);
 });
 test('what the report prints of an author and of a judge', () => {
   const fen = '8/8/8/6k1/8/8/1P5K/8 w - - 0 1', printed = line => printedRemark(line, fen);

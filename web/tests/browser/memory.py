@@ -5,8 +5,9 @@
 TABLES has all 36; all are opened. The games, 3000 where no number is named, are those of examples/import again and
 again, or those of a file, each with a number for its title. Memory is what all processes of the browser have beside the
 pages of files (Pss_Anon and Pss_Shmem of /proc/PID/smaps_rollup; an empty page takes 160 MB of it), the largest of a
-sample each fifth of a second. Exit status 1 if it is more than 600 MB, or 500 MB if there are more than 3000 games. A
-stall is the longest time in which the page took no input; `page` is the time of a processor that its own thread took.
+sample each fifth of a second. Exit status 1 if it is more than 600 MB with up to 3000 games, or if with more games the
+process of the page, which the browser's own task manager shows for a tab, has more than 500 MB. A stall is the longest
+time in which the page took no input; `page` is the time of a processor that its own thread took.
 """
 import glob
 import os
@@ -110,7 +111,7 @@ def stage(user, watch, name, act):
         f" longest stall {stall:.2f} s",
         flush=True,
     )
-    return watch.most
+    return watch.most if MOST <= 3000 else watch.largest
 
 
 def walk(user, steps):
@@ -163,7 +164,7 @@ def main():
         rows.append(stage(user, watch, "30 more studies", lambda: walk(user, 30)))
     watch.ended = True
     user.end()
-    print(f"at most {max(rows):.0f} MB, of {LIMIT}")
+    print(f"{'the browser' if MOST <= 3000 else 'the page'}: at most {max(rows):.0f} MB, of {LIMIT}")
     sys.exit(max(rows) > LIMIT)
 
 
