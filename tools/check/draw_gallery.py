@@ -1,18 +1,18 @@
 #!/usr/bin/env python3
-"""Makes the gallery's page, docs/gallery: a diagram of each study, and why it is there.
+"""Makes the gallery's page, docs/gallery: a diagram of each study, and why it is there; and the diagrams of docs/FINDING.md, docs/finding.
 
-    tools/check/draw_gallery.py            writes docs/gallery/README.md and docs/gallery/NAME.svg
+    tools/check/draw_gallery.py            writes docs/gallery/README.md, docs/gallery/NAME.svg and docs/finding/NAME.svg
     tools/check/draw_gallery.py --check    exit status 1 if these are not what the scripts and their notes give, or a script does not say whose its study is
 
 The position and the tags are those of the script up to its first `pgn` line, the order, verdicts and words those of the table in
-crates/gallery/data/README.md. Men are drawn as on the board (web/men.svg).
+crates/gallery/data/README.md. A diagram of docs/FINDING.md shows what its alternative text names. Men are drawn as on the board (web/men.svg).
 """
 import os
 import re
 import sys
 
 TOP = os.path.abspath(os.path.join(os.path.dirname(os.path.abspath(__file__)), "..", ".."))
-DATA, PAGE = f"{TOP}/crates/gallery/data", f"{TOP}/docs/gallery"
+DATA, DOCS = f"{TOP}/crates/gallery/data", f"{TOP}/docs"
 STYLE = (".l{fill:#f0e3cc}.d8{fill:#b98d62}.w,.b{stroke:#1a1a1a;stroke-width:1.6;stroke-linejoin:round;stroke-linecap:round}"
          ".w{fill:#fff;--line:#1a1a1a}.b{fill:#2c2c2c;--line:#f0f0f0}.i{fill:none;stroke:var(--line)}.d{fill:var(--line);stroke:none}"
          "text{font:11px sans-serif;fill:#444;text-anchor:middle}")
@@ -45,14 +45,21 @@ def spoken(fen):
     return f"White {' '.join(sides[True])}; Black {' '.join(sides[False])}; {'White' if fen.split()[1] == 'w' else 'Black'} to move"
 
 
-def diagram(fen, shapes):
-    text = [f'<svg xmlns="http://www.w3.org/2000/svg" viewBox="-14 -2 376 378" width="240" height="241"><title>{spoken(fen)}</title>',
+def named(words):
+    """The men that such words name, as `men_of` gives them."""
+    for side, names in re.findall(r"(White|Black)((?: [KQRBNP][a-h][1-8])+)", words):
+        for man, file, rank in names.split():
+            yield man if side == "White" else man.lower(), "abcdefgh".index(file), 8 - int(rank)
+
+
+def diagram(words, men, shapes):
+    text = [f'<svg xmlns="http://www.w3.org/2000/svg" viewBox="-14 -2 376 378" width="240" height="241"><title>{words}</title>',
             f"<style>{STYLE}</style>"]
     text += [f'<rect class="{"l" if (file + row) % 2 == 0 else "d8"}" x="{45 * file}" y="{45 * row}" width="45" height="45"/>'
              for row in range(8) for file in range(8)]
     text += [f'<text x="{45 * file + 22}" y="373">{"abcdefgh"[file]}</text><text x="-7" y="{45 * file + 27}">{8 - file}</text>' for file in range(8)]
     text += [f'<g class="{"w" if letter.isupper() else "b"}" transform="translate({45 * file} {45 * row})">{shapes[letter.upper()]}</g>'
-             for letter, file, row in men_of(fen)]
+             for letter, file, row in men]
     return "\n".join(text + ["</svg>", ""])
 
 
@@ -89,12 +96,14 @@ def entry(name, verdicts, shows):
 
 
 def pages():
-    """Each file of the page, by its name."""
+    """Each file of the two folders, by its path."""
     shapes, made, table = symbols(), {}, []
     for name, verdicts, shows in rows():
         line, fen = entry(name, verdicts, shows)
-        made[f"{name}.svg"] = diagram(fen, shapes)
+        made[f"gallery/{name}.svg"] = diagram(spoken(fen), men_of(fen), shapes)
         table.append(line)
+    for words, path in re.findall(r"!\[([^]]*)\]\((finding/\w+\.svg)\)", read(f"{DOCS}/FINDING.md")):
+        made[path] = diagram(words, named(words), shapes)
     head = f"""# The gallery
 
 {len(table)} studies and endings with two to four men: published studies, endings of the textbooks, and positions found with the tables. Under each
@@ -107,20 +116,19 @@ explain this, how the gallery is run, and where its expected replies come from.
 | | |
 |---|---|
 """
-    made["README.md"] = head + "\n".join(table) + "\n"
+    made["gallery/README.md"] = head + "\n".join(table) + "\n"
     return made
 
 
 def main():
-    made = pages()
+    made, there = pages(), [f"{folder}/{it}" for folder in ("gallery", "finding") if os.path.isdir(f"{DOCS}/{folder}") for it in os.listdir(f"{DOCS}/{folder}")]
     if "--check" in sys.argv[1:]:
-        wrong = [it for it in made if not os.path.isfile(f"{PAGE}/{it}") or read(f"{PAGE}/{it}") != made[it]]
-        wrong += [it for it in os.listdir(PAGE) if it not in made] if os.path.isdir(PAGE) else []
-        print(f"docs/gallery: {', '.join(wrong)}: run tools/check/draw_gallery.py" if wrong else f"docs/gallery: {len(made)} files as they are to be")
+        wrong = [it for it in made if it not in there or read(f"{DOCS}/{it}") != made[it]] + [it for it in there if it not in made]
+        print(f"docs: {', '.join(wrong)}: run tools/check/draw_gallery.py" if wrong else f"docs: {len(made)} files as they are to be")
         return 1 if wrong else 0
-    os.makedirs(PAGE, exist_ok=True)
-    for name, text in made.items():
-        with open(f"{PAGE}/{name}", "w", encoding="utf8") as it:
+    for path, text in made.items():
+        os.makedirs(os.path.dirname(f"{DOCS}/{path}"), exist_ok=True)
+        with open(f"{DOCS}/{path}", "w", encoding="utf8") as it:
             it.write(text)
     return 0
 
