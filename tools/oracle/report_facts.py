@@ -601,7 +601,7 @@ class Judged:
             if counts["last"] + counts["time"] == duals:
                 self.stamp, self.words = self.stamp + missing, self.words + says
         if empty:
-            self.words += " No move of the solution is given yet."
+            self.words += " The solution is not given yet."
 
 
 def judged(study):

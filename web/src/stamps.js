@@ -109,7 +109,7 @@ export function faultyStamp({faults, stamp}) {
  */
 function tryStamp({aim, verdict}, wrong) {
   const misses = verdict === 'wrong' && aim !== null && wrong === missesText(aim);
-  return misses ? {kind: 'refuted', text: wordOf('refuted')} : {kind: 'wrong', text: wordOf('second')};
+  return misses ? {kind: 'refuted', text: wordOf('refuted')} : {kind: 'works', text: wordOf('works')};
 }
 /** @param {string} n */
 const faultsText = n => `${n} ${n === '1' ? 'fault' : 'faults'}`;

@@ -105,8 +105,9 @@ export function numberedLast(fen, sans) {
 }
 
 /** What the printed page says of a part of a game beside its solution. */
-const REFUTED = 'This line is a try, and it is refuted.',
-      SECOND = 'This line is a try, and it works: it is a second solution.';
+const REFUTED = 'This line is beside the solution, and from here it is refuted.',
+      WORKS = 'This line is beside the solution, and from here it works: a second solution, unless there is a better ' +
+  'defence before.';
 /**
  * The verdict and the value of the start: the sentences of the core.
  * @param {import('./types.js').View} view
@@ -114,7 +115,7 @@ const REFUTED = 'This line is a try, and it is refuted.',
  * @param {boolean} [beside]      whether the study is a part of a game beside its solution
  */
 export function verdictSentence(view, kind, beside = false) {
-  const own = kind === 'not read' ? wordOf('unread-sentence') : beside ? (kind === 'refuted' ? REFUTED : SECOND) : '';
+  const own = kind === 'not read' ? wordOf('unread-sentence') : beside ? (kind === 'refuted' ? REFUTED : WORKS) : '';
   return own ? `${own} ${atStart(view.start)}.` : view.sentence;
 }
 /** @param {{mark: string}} move */

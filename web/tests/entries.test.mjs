@@ -129,7 +129,7 @@ test('a part of a game with more than four men has its number in the game, and a
   const stamp = (at, verdict) => stampOf(d, {...d.studies[at], verdict, start: 'draw'}, null);
   assert.deepEqual(stamp(0, 'wrong'), {kind: 'wrong', text: 'does not win'});
   assert.deepEqual(stamp(1, 'wrong'), {kind: 'refuted', text: 'refuted'});
-  assert.deepEqual(stamp(1, 'sound'), {kind: 'wrong', text: 'a second solution'});
+  assert.deepEqual(stamp(1, 'sound'), {kind: 'works', text: 'works from here'});
 });
 test('an entry stays an entry: its number is its place in the file, and its stipulation has a source', () => {
   const d = {...assumeAccepted(ENTRIES), at: 0, path: 'root', name: '', id: 'x', note: '', judged: true},

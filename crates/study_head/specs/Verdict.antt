@@ -19,7 +19,7 @@ use Rattle.study_entry.specs.declared.entry.Standing.{Standing}
 use Rattle.study_entry.specs.declared.entry.Standing.TheVariants as standing
 use Rattle.study_head.specs.declared.mistake.NamedMove.{NamedMove}
 use Rattle.study_head.specs.declared.verdict.Stamp.{Stamp}
-use Rattle.study_head.specs.declared.verdict.Stamp.TheVariants.{Wins, Mates, Misses, Fails, Cooked, Sound, Correct, Duals, NotRead, Refuted, SecondSolution}
+use Rattle.study_head.specs.declared.verdict.Stamp.TheVariants.{Wins, Mates, Misses, Fails, Cooked, Sound, Correct, Duals, NotRead, Refuted, Works}
 use Rattle.study_head.specs.declared.verdict.Judgement.{Judgement}
 use Rattle.study_head.specs.Mistake.{IsLegalMove, move_name, first_mistake}
 use Rattle.study_head.specs.declared.solution.DualKind.{DualKind}
@@ -187,7 +187,7 @@ sound_words wastes = if wastes then codes "sound, duals waste time" else codes "
 
 -- `wrong: White wins`, `wrong: White mates in 2`, `does not win`, `fails at 1. Ka2: 1... f1=Q`, `cook: 1. Kc3`, `sound; main defence 1... Ke7 not given`,
 -- `sound, duals waste time`, `correct, no solution yet`, `3 duals, 2 waste time`, `1 dual in the last move; main defence 1... Ke7 not given`,
--- `2 duals in variations, none in the main line`, `not read: line 17`, `refuted`, `a second solution`
+-- `2 duals in variations, none in the main line`, `not read: line 17`, `refuted`, `works from here`
 abbrev pub stamp_words : Stamp → List ℕ
 stamp_words (Wins side) = wrong ++ wins_words side
 stamp_words (Mates side v) = wrong ++ value_text side v
@@ -199,7 +199,7 @@ stamp_words Correct = codes "correct, no solution yet"
 stamp_words (Duals duals counts missing) = duals_stamp duals counts ++ missing_words missing
 stamp_words (NotRead line) = unread_words line
 stamp_words Refuted = codes "refuted"
-stamp_words SecondSolution = codes "a second solution"
+stamp_words Works = codes "works from here"
 
 unfoldable pub wrong_sentence : List ℕ
 wrong_sentence = codes "The stipulation is wrong: "
@@ -248,12 +248,12 @@ stamp_sentence (Sound wastes missing) = only_moves_sentence wastes ++ missing_se
 stamp_sentence Correct = codes "The stipulation is correct."
 stamp_sentence (Duals duals counts missing) = duals_sentence duals counts ++ missing_sentence missing
 stamp_sentence (NotRead line) = codes "A line of this study could not be read, so there is no verdict."
-stamp_sentence Refuted = codes "This line is a try, and it is refuted."
-stamp_sentence SecondSolution = codes "This line is a try, and it works: it is a second solution."
+stamp_sentence Refuted = codes "This line is beside the solution, and from here it is refuted."
+stamp_sentence Works = codes "This line is beside the solution, and from here it works: a second solution, unless there is a better defence before."
 
 -- where the solution has no move of the hero
 abbrev pub no_solution_words : Bool → List ℕ
-no_solution_words e = if e then codes " No move of the solution is given yet." else []
+no_solution_words e = if e then codes " The solution is not given yet." else []
 
 unfoldable pub sentence : Bool → Stamp → List ℕ
 sentence e v = stamp_sentence v ++ no_solution_words e
@@ -277,12 +277,12 @@ judgement_of s f = record {
   value = s.tree.label.value;
 }
 
--- no verdict is given on a study of which a line was refused, and of a try it is only said whether it is refuted
+-- no verdict is given on a study of which a line was refused, and of a line beside the solution it is only said whether the goal is reached from here
 abbrev pub standing_stamp : Standing → Stamp → Stamp
 standing_stamp standing.Whole x = x
 standing_stamp (standing.NotRead line) x = NotRead line
 standing_stamp standing.BesideSolution (Misses x) = Refuted
-standing_stamp standing.BesideSolution x = SecondSolution
+standing_stamp standing.BesideSolution x = Works
 
 abbrev pub is_whole : Standing → Bool
 is_whole standing.Whole = true

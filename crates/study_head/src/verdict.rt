@@ -36,10 +36,10 @@ pub enum Stamp {
     Duals(u32, DualCounts, Option<NamedMove>),
     /// No verdict is given, since this line of the script could not be read.
     NotRead(u32),
-    /// A try that does not reach the goal.
+    /// A line beside the solution, from which the goal is not reached.
     Refuted,
-    /// A try that reaches the goal.
-    SecondSolution,
+    /// A line beside the solution, from which the goal is reached. What the other side could have done before is not known.
+    Works,
 }
 
 /// Whether the hero, who is to move or not, reaches more than he is asked for.
@@ -206,7 +206,7 @@ fn standing_stamp(standing: Standing, stamp: Stamp) -> Stamp
         Standing::NotRead(line) => Stamp::NotRead(line),
         Standing::BesideSolution => match stamp {
             Stamp::Misses(_) => Stamp::Refuted,
-            _ => Stamp::SecondSolution,
+            _ => Stamp::Works,
         },
     }
 }

@@ -305,7 +305,7 @@ fn add_sound<A: Allocator>(
 /// Adds `wrong: White wins`, `wrong: White mates in 2`, `does not win`, `fails at 1. Ka2: 1... f1=Q`, `cook: 1. Kc3`,
 /// `sound; main defence 1... Ke7 not given`, `sound, duals waste time`, `correct, no solution yet`, `3 duals, 2 waste time`,
 /// `1 dual in the last move; main defence 1... Ke7 not given`, `2 duals in variations, none in the main line`, `not read: line 17`, `refuted`,
-/// `a second solution`.
+/// `works from here`.
 pub fn add_stamp_words<A: Allocator>(
     text: &mut Text<'_, A>,
     stamp: &Stamp,
@@ -326,7 +326,7 @@ pub fn add_stamp_words<A: Allocator>(
         }
         Stamp::NotRead(line) => add_unread(text, *line),
         Stamp::Refuted => text.add(b"refuted"),
-        Stamp::SecondSolution => text.add(b"a second solution"),
+        Stamp::Works => text.add(b"works from here"),
     }
 }
 
@@ -489,10 +489,12 @@ fn add_stamp_sentence<A: Allocator>(text: &mut Text<'_, A>, stamp: &Stamp) -> Re
         Stamp::NotRead(_) => {
             text.add(b"A line of this study could not be read, so there is no verdict.")
         }
-        Stamp::Refuted => text.add(b"This line is a try, and it is refuted."),
-        Stamp::SecondSolution => {
-            text.add(b"This line is a try, and it works: it is a second solution.")
+        Stamp::Refuted => {
+            text.add(b"This line is beside the solution, and from here it is refuted.")
         }
+        Stamp::Works => text.add(
+            b"This line is beside the solution, and from here it works: a second solution, unless there is a better defence before.",
+        ),
     }
 }
 
@@ -500,7 +502,7 @@ fn no_solution_words(empty: bool) -> &'static [u8]
     ensures { result.now ≡ no_solution_words empty }
 {
     if empty {
-        b" No move of the solution is given yet."
+        b" The solution is not given yet."
     } else {
         b""
     }

@@ -1,7 +1,7 @@
 -- The part of a page with the verdict.
 use Rattle.std.specs.Prelude.{ℕ, ◌==◌, Bool, true, false, not, ◌||◌, List, [], ◌++◌, length, if◌then◌else◌}
 use Rattle.study_head.specs.declared.verdict.Stamp.{Stamp}
-use Rattle.study_head.specs.declared.verdict.Stamp.TheVariants.{Wins, Mates, Misses, Fails, Cooked, Sound, Correct, Duals, NotRead, Refuted, SecondSolution}
+use Rattle.study_head.specs.declared.verdict.Stamp.TheVariants.{Wins, Mates, Misses, Fails, Cooked, Sound, Correct, Duals, NotRead, Refuted, Works}
 use Rattle.study_head.specs.declared.verdict.Judgement.{Judgement}
 use Rattle.study_head.specs.Verdict.{stamp_words, sentence, start_words}
 use Rattle.study_html.specs.declared.element.Element.{Element}
@@ -20,7 +20,7 @@ stamp_element Correct = element.Sound
 stamp_element (Duals duals counts missing) = element.Unsound
 stamp_element (NotRead line) = element.Unsound
 stamp_element Refuted = element.Sound
-stamp_element SecondSolution = element.Wrong
+stamp_element Works = element.Unsound
 
 -- duals are shown behind a verdict, unless the stipulation is wrong or the line is a try
 abbrev pub shows_duals : Stamp → Bool
@@ -28,7 +28,7 @@ shows_duals (Wins side) = false
 shows_duals (Mates side v) = false
 shows_duals (Misses x) = false
 shows_duals Refuted = false
-shows_duals SecondSolution = false
+shows_duals Works = false
 shows_duals _ = true
 
 unfoldable pub stamp_part : Stamp → List ℕ

@@ -22,7 +22,7 @@ fn stamp_element(stamp: &Stamp) -> Element
         Stamp::Duals(_, _, _) => Element::Unsound,
         Stamp::NotRead(_) => Element::Unsound,
         Stamp::Refuted => Element::Sound,
-        Stamp::SecondSolution => Element::Wrong,
+        Stamp::Works => Element::Unsound,
     }
 }
 
@@ -35,7 +35,7 @@ pub fn shows_duals(stamp: &Stamp) -> bool
         Stamp::Mates(_, _) => false,
         Stamp::Misses(_) => false,
         Stamp::Refuted => false,
-        Stamp::SecondSolution => false,
+        Stamp::Works => false,
         _ => true,
     }
 }

@@ -15,7 +15,7 @@ use Rattle.study_pgn.specs.Values.{value_text}
 use Rattle.study_facts.specs.declared.zugzwang.Zugzwang.{Zugzwang}
 use Rattle.study_facts.specs.declared.zugzwang.Zugzwang.TheVariants.{Full, Half}
 use Rattle.study_marks.specs.declared.stipulation.Goal.TheVariants as goals
-use Rattle.study_head.specs.declared.verdict.Stamp.TheVariants.{Wins, Mates, Misses, Correct, Sound, NotRead, Refuted, SecondSolution}
+use Rattle.study_head.specs.declared.verdict.Stamp.TheVariants.{Wins, Mates, Misses, Correct, Sound, NotRead, Refuted, Works}
 use Rattle.study_head.specs.Verdict.{stamp_words, sentence, start_words}
 use Rattle.study_head.specs.Head.{title_words}
 use Rattle.study_page.specs.Page.{tries_title, zugzwangs_title, missing_title, ends_title}
@@ -95,7 +95,7 @@ wrong_lines =
 
 -- of a try
 unfoldable pub try_lines : List ℕ
-try_lines = said_line (codes "refuted") (stamp_words Refuted) ++ said_line (codes "second") (stamp_words SecondSolution)
+try_lines = said_line (codes "refuted") (stamp_words Refuted) ++ said_line (codes "works") (stamp_words Works)
 
 unfoldable pub sentence_lines : List ℕ
 sentence_lines =

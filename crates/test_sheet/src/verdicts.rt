@@ -73,13 +73,13 @@ pgn
 /// How their records end.
 const TRY_VERDICTS: &str = "does not win,
 refuted,
-a second solution,
+works from here,
 refused: NoSuchMove,
 not read: line 17,
 ";
 
 #[test]
-fn a_try_is_refuted_or_a_second_solution(rt: HostRuntime) -> Result<(), Fail> {
+fn a_try_is_refuted_or_works_from_there(rt: HostRuntime) -> Result<(), Fail> {
     let alloc = rt.alloc();
     let mut list = MemoryWriter::new(&alloc);
     let answer = write_list(

@@ -653,7 +653,7 @@ word wins wrong: White wins
 word sooner wrong: White mates in 1
 word misses does not win
 word refuted refuted
-word second a second solution
+word works works from here
 word unread-sentence A line of this study could not be read, so there is no verdict.
 word untitled Untitled
 word tries Tries and their refutations

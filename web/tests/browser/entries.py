@@ -71,7 +71,7 @@ def test_a_game_with_more_men_has_its_tails(user):
     moves = "1. Rxb2 {four are left} (1. Rc2 Kb8 2. Rcxb2 {too} Ka8 3. Rh2) 1... Kb8 2. Rbc2"
     text = game("Five", "Autor", moves, fen="k7/8/1K6/8/8/8/1p6/1RR5 w - - 0 1")
     opened(user, "five.pgn", text, "document.querySelectorAll('#list tbody tr').length === 2")
-    user.until("document.getElementById('list').innerText.includes('a second solution')", 60)
+    user.until("document.getElementById('list').innerText.includes('works from here')", 60)
     found = rows(user)
     assert [row[:2] for row in found] == [["1.1", "Five (after 1. Rxb2)"], ["1.2", "Five (after 2. Rcxb2)"]], found
     lines = script(user).split("\n")
@@ -80,7 +80,7 @@ def test_a_game_with_more_men_has_its_tails(user):
     user.js("document.querySelectorAll('#list tbody tr')[1].querySelector('a, button').click()")
     user.until("(document.getElementById('tail') || {innerText: ''}).innerText.includes('beside the solution')", 20)
     user.until("studyboard.last().reviewed", 60)
-    words = "This line is a try, and it works: it is a second solution. At the start: White mates in"
+    words = "unless there is a better defence before. At the start: White mates in"
     assert words in user.text("verdict"), user.text("verdict")
     assert "stipulation is wrong" not in user.text("middle") and "Say instead" not in user.text("middle")
 

@@ -225,7 +225,7 @@ fn add_tries<A: Allocator>(text: &mut Text<'_, A>) -> Result<(), AllocError>
     ensures { OnOk result (text.new ≡ text.old ++ try_lines) }
 {
     add_stamp_line(text, b"refuted", &Stamp::Refuted)?;
-    add_stamp_line(text, b"second", &Stamp::SecondSolution)
+    add_stamp_line(text, b"works", &Stamp::Works)
 }
 
 #[tactic(auto, unfolding(crate::specs::CoreWords::sentence_lines))]
