@@ -9,8 +9,7 @@ import {differences} from './comparing.js';
 import {headAt, linesOf} from './documents.js';
 import {numbersOf, studyName} from './entries.js';
 import {diagramOf} from './drawing.js';
-import {isOfGame} from './imported.js';
-import {aloneLines} from './study_edits.js';
+import {copiedLines} from './study_edits.js';
 import {reviewFor} from './list_facts.js';
 import {stampOf} from './stamps.js';
 import {control} from './fen.js';
@@ -85,10 +84,7 @@ function takeView({id, lines}, study) {
   const isOther = pair && id !== doc().id && pair.sides.some(side => side.id === doc().id);
   const take = async () => {
     const taken = await change(now => ({
-      lines: [
-        ...now.lines, ...(now.lines.length ? [''] : []),
-        ...aloneLines(lines, /** @type {Study} */ (study)).filter(line => !isOfGame(line))
-      ],
+      lines: [...now.lines, ...(now.lines.length ? [''] : []), ...copiedLines(lines, /** @type {Study} */ (study))],
       at: now.studies.length,
       path: 'root',
       lenient: true

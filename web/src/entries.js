@@ -9,7 +9,7 @@ import {NO_POSITION, canBeCut, leftOutBy, whyLeftOut} from './left_out.js';
 import {positionsReached, reachedText, samePositions, sameText} from './same_positions.js';
 import {isCommand, isEdit, isPosition, wordsOf} from './script.js';
 import {acceptedOf, openStamp, stampOf} from './stamps.js';
-import {gamesWithoutPart, namesOfTails, wholeGames} from './tails.js';
+import {gamesWithoutPart, namesOfTails, partHere, wholeGames} from './tails.js';
 import {bareTree} from './unmarked.js';
 import {aimText, reason} from './words.js';
 /** @typedef {import('./types.js').Study} Study @typedef {import('./types.js').Doc} Doc */
@@ -191,7 +191,8 @@ const numbered = /** @type {WeakMap<Study[], string[]>} */ (new WeakMap());
 function numbersIn(lines, studies) {
   let last = mostGames(lines);
   return studies.map(({aim, games, origin}) => {
-    if (origin && origin.game) return `${origin.game}${origin.tail ? `.${origin.tail.number}` : ''}`;
+    const part = partHere(origin);
+    if (origin && origin.game) return `${origin.game}${part ? `.${part.number}` : ''}`;
     const first = last + 1, many = aim ? Math.max(games.length, 1) : 0;
     last += many;
     return many > 1 ? `${first}\u2013${last}` : many ? `${last}` : '';

@@ -8,6 +8,7 @@ import {leftOutBy} from './left_out.js';
 import {asked, gamesWithoutAim, openHeld, readAs} from './mending.js';
 import {lastOpened, openPgn} from './opening.js';
 import {app, doc, say, services} from './state.js';
+import {partHere} from './tails.js';
 import {aimText, counted, readAim} from './words.js';
 /** @typedef {import('./opening.js').Source} Source */
 
@@ -62,7 +63,7 @@ function askView() {
 function noteView(note) {
   const file = doc().name ? `${doc().name}.pgn` : 'a file of another name';
   const without = / Left out: /.test(note) ? ', without the games that were left out' : '',
-        ends = new Set(doc().studies.filter(s => s.origin && s.origin.tail).map(s => s.origin.game));
+        ends = new Set(doc().studies.filter(s => partHere(s.origin)).map(s => s.origin.game));
   const only = ends.size > 0
     ? ` Of ${ends.size > 1 ? 'games' : 'game'} ${[...ends].join(', ')} it writes only what is ` +
       'judged, from four men without castling on: keep the file.'

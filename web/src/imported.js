@@ -3,7 +3,7 @@
 // that says why.
 import {cutIn, leftOut, whyLeftOut} from './left_out.js';
 import {cutAt, ownRemark, remarkOf, remarksOfKind} from './remarks.js';
-import {gamesWithoutPart, tailIn, wholeGames} from './tails.js';
+import {gamesWithoutPart, headingAlone, partHere, tailIn, wholeGames} from './tails.js';
 import {counted} from './words.js';
 /**
  * Whether a text is a PGN: its first line is a tag, or some line is the tag of a position.
@@ -139,8 +139,8 @@ export const isOfFile = ({source}) => source !== '' && source !== HAND && source
  * @returns {Origin}
  */
 export function originIn(remarks) {
-  const tail = remarks.map(tailIn).find(Boolean) || null,
-        found = remarks.map(stipulatedBy).find(Boolean) || {game: tail ? tail.game : 0, line: 0, source: ''},
+  const tail = remarks.map(tailIn).find(Boolean) || null, {game} = partHere({tail}) || {game: 0},
+        found = remarks.map(stipulatedBy).find(Boolean) || {game, line: 0, source: ''},
         against = remarksOfKind(remarks, 'doubted').map(({said}) => said),
         letters = remarksOfKind(remarks, 'letters').map(({said}) => said).join('');
   return {...found, against, letters, cut: cutIn(remarks), tail};
@@ -175,10 +175,29 @@ function isOfBefore(line) {
  * Whether a remark says which game of the file a study is, which a copy of it is not.
  * @param {string} line
  */
-export function isOfGame(line) {
+function isOfGame(line) {
   const remark = remarkOf(line);
-  return stipulatedBy(line) !== null || tailIn(line) !== null ||
-    (remark !== null && (remark.game > 0 || remark.kind === 'doubted'));
+  return stipulatedBy(line) !== null || (remark !== null && (remark.game > 0 || remark.kind === 'doubted'));
+}
+/**
+ * A line as a copy of its study has it, which is no game of the file; of a part of a game it still says so, and that it
+ * is a try.
+ * @param {string} line
+ */
+export function asCopied(line) {
+  const tail = tailIn(line);
+  return tail ? [headingAlone(tail)] : isOfGame(line) ? [] : [line];
+}
+/**
+ * The names of a part of a game in their own letters, which stand with its game, as remarks above its position.
+ * @param {string[]} remarks      those that stand there
+ * @param {import('./types.js').Study} study
+ */
+export function namesOfGame(remarks, {origin, originals}) {
+  const own = originalsIn(remarks);
+  return Object.entries(origin && origin.tail ? originals : {}).filter(([name]) => own[name] === undefined).map(([
+    name, text
+  ]) => `#! ${name} was: ${text}`);
 }
 const SOURCES = /** @type {Record<string, string>} */ ({
   'comment': 'from its comment',
@@ -241,7 +260,7 @@ export const headOf = remarks => ({originals: originalsIn(remarks), origin: orig
  * @param {import('./types.js').Study} study
  */
 export function withWholeGame(lines, {origin, originals, tags}) {
-  const game = origin.tail && wholeGames(lines).get(origin.tail.game);
+  const tail = partHere(origin), game = tail && wholeGames(lines).get(tail.game);
   if (!game) return;
   for (const [name, text] of Object.entries(originalsIn(game.remarks)))
     if (originals[name] === undefined && tags[name] === game.tags[name]) originals[name] = text;

@@ -11,6 +11,7 @@ import {refuseLong} from './limits.js';
 import {once} from './once.js';
 import {checkedName, importPgn, withRemarks} from './opening.js';
 import {app, doc, say, services, study} from './state.js';
+import {partHere} from './tails.js';
 import {aimWords} from './words.js';
 /** @typedef {import('./types.js').Study} Study @typedef {import('./left_out.js').LeftOut} LeftOut */
 
@@ -134,9 +135,9 @@ export function unreadText() {
  * @param {Study} s
  */
 function wholeOf({lines, studies}, s) {
-  const {tail} = s.origin || {},
+  const tail = partHere(s.origin),
         isBeside = (/** @type {Study | undefined} */ other) =>
-          Boolean(tail && other && other.origin?.tail && other.origin.tail.game === tail.game);
+          Boolean(tail && other && partHere(other.origin)?.game === tail.game);
   let first = studies.indexOf(s), last = first, head = s.head;
   while (isBeside(studies[first - 1])) first--;
   while (isBeside(studies[last + 1])) last++;

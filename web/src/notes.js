@@ -4,6 +4,7 @@
 import {isKnown} from './edits.js';
 import {cutAt, ownRemark} from './remarks.js';
 import {TAGS} from './script.js';
+import {nameIn} from './tails.js';
 /** @typedef {import('./types.js').Study} Study */
 
 const OWN_TAGS = new Set([...TAGS, 'FEN', 'SetUp']), MOST = 900;
@@ -163,12 +164,20 @@ export function remarksOf(game) {
     } else if (!first) {
       if (own && kind === 'comment' && ACCEPTED.test(text)) out.push(`#! accepted ${key}: dual`);
       const words = own && kind === 'comment' ? withoutOurs(text) : text;
-      out.push(
-        ...noteLines(key, key === '-' && kind === 'comment' ? words.replace(AIM, '').replace(UNREAD, '') : words));
+      out.push(...(key === '-' && kind === 'comment' ? openingLines(words) : noteLines(key, words)));
     } else if (!said.some(other => other.key === key && other.kind === 'nag' && other.place === 'comment'))
       out.push(`#! mark ${key}: ${text}`);
   }
   return out.map(short);
+}
+/**
+ * The remarks that keep a comment before the first move, of which the page writes some words again by itself; of a part
+ * of a game its heading.
+ * @param {string} words
+ */
+function openingLines(words) {
+  const {heading, rest} = nameIn(words.replace(AIM, ''));
+  return [...(heading ? [heading] : []), ...noteLines('-', rest.replace(UNREAD, ''))];
 }
 /**
  * What is said beside the moves, in its order: at which moves, and whether it stands right behind the move, or

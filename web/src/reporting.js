@@ -14,6 +14,7 @@ import {squaresOf} from './saved_games.js';
 import {fensOf, isPrinted, reportedLines, toText} from './script.js';
 import {bareTree} from './unmarked.js';
 import {PAGES, app, clearMessage, doc, say, services} from './state.js';
+import {partHere} from './tails.js';
 import {counted, numberedLast, reason} from './words.js';
 
 /**
@@ -85,7 +86,7 @@ export function withGames(d) {
   for (const [i, {head, from, aim, games, origin}] of d.studies.entries()) {
     for (; at < from; at++)
       if (leftOutBy(lines[at])) entry++;
-    if (origin.game && !origin.tail && numbers[i] !== `${entry}` && lines[head - 1] === '')
+    if (origin.game && !partHere(origin) && numbers[i] !== `${entry}` && lines[head - 1] === '')
       lines[head - 1] = short(`#! comment: Game ${numbers[i]} of ${file}`);
     entry += aim ? Math.max(games.length, 1) : 0;
   }

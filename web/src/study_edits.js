@@ -2,7 +2,7 @@
 // Whole studies of a script: copied, moved up and down, removed. Each is written so that it stands alone wherever it
 // comes to.
 import {isAimLine, isKnown, unknown} from './edits.js';
-import {isOfGame} from './imported.js';
+import {asCopied, namesOfGame} from './imported.js';
 import {TAGS, isEdit, isQuestion, wordsOf} from './script.js';
 import {aimWords} from './words.js';
 /** @typedef {import('./types.js').Study} Study @typedef {import('./types.js').Change} Change */
@@ -52,11 +52,27 @@ function selfContained(lines, study, names) {
   return [...lines.slice(study.head, study.from), ...withTags(own, tags)];
 }
 /**
+ * The lines of a study with the names of its game, where it is a part of one.
+ * @param {string[]} lines
+ * @param {Study} study
+ * @param {string[]} names      the tags that some study has
+ */
+function named(lines, study, names) {
+  const own = selfContained(lines, study, names), at = study.from - study.head;
+  return [...own.slice(0, at), ...namesOfGame(own.slice(0, at), study), ...own.slice(at)];
+}
+/**
  * The lines of a study that make it alone, with its remarks.
  * @param {string[]} lines
  * @param {Study} study
  */
-export const aloneLines = (lines, study) => selfContained(lines, study, TAGS.filter(name => isKnown(study.tags[name])));
+export const aloneLines = (lines, study) => named(lines, study, TAGS.filter(name => isKnown(study.tags[name])));
+/**
+ * The same as one more study of another document.
+ * @param {string[]} lines
+ * @param {Study} study
+ */
+export const copiedLines = (lines, study) => aloneLines(lines, study).flatMap(asCopied);
 /**
  * The lines of entries behind a study whose positions were refused, which go with it.
  * @param {string[]} lines
@@ -75,10 +91,10 @@ function entriesBehind(lines, studies, study) {
  */
 function inOrder(lines, studies, order) {
   const names = TAGS.filter(name => studies.some(s => isKnown(s.tags[name])));
-  const ofGame = (/** @type {Study} */ study, /** @type {number} */ i) => order.indexOf(study) === i;
-  const blocks =
-    order.map((study, i) => [...selfContained(lines, study, names).filter(line => ofGame(study, i) || !isOfGame(line)),
-                ...(order.lastIndexOf(study) === i ? entriesBehind(lines, studies, study) : [])]);
+  const own = (/** @type {Study} */ study, /** @type {number} */ i) =>
+    (order.indexOf(study) === i ? selfContained(lines, study, names) : named(lines, study, names).flatMap(asCopied));
+  const blocks = order.map(
+    (study, i) => [...own(study, i), ...(order.lastIndexOf(study) === i ? entriesBehind(lines, studies, study) : [])]);
   return [...lines.slice(0, studies[0].head), ...blocks.flatMap((block, i) => (i ? ['', ...block] : block))];
 }
 /**

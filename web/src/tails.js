@@ -8,14 +8,15 @@ import {ownRemark, remarkOf} from './remarks.js';
 import {numberedLine} from './words.js';
 /**
  * A tail: its number in the game, the node at which it begins and the move that leads there, and whether the solution
- * leads elsewhere.
- * @typedef {{game: number, number: number, node: string, after: string, beside: boolean}} Tail
+ * leads elsewhere. `alone`: it stands without its game, of whose file the number is; it is no part of a game here.
+ * @typedef {{game: number, number: number, node: string, after: string, beside: boolean, alone: boolean}} Tail
  */
 /**
  * A whole game: the remarks above it, its start, its tags, and its lines.
  * @typedef {{remarks: string[], fen: string, tags: Record<string, string>, lines: string[]}} Whole
  */
-const TAIL = /^(\d+) of \d+ of game (\d+), node ([^,]*), after ([^,]*)(, beside the solution)?/;
+const TAIL = /^(\d+) of \d+ of game (\d+), node ([^,]*), after ([^,]*)(, beside the solution)?/,
+      ALONE = /^1 of 1 by itself: tail (\d+) of game (\d+)()(?:, after ([^,]*))?(, beside the solution)?/;
 /**
  * The tail that a heading names; none for another line.
  * @param {string} line
@@ -23,11 +24,19 @@ const TAIL = /^(\d+) of \d+ of game (\d+), node ([^,]*), after ([^,]*)(, beside 
  */
 export function tailIn(line) {
   if (!line.includes(' tail ')) return null;
-  const {word, rest} = ownRemark(line), found = word === 'tail' && TAIL.exec(rest);
+  const {word, rest} = ownRemark(line), apart = word === 'tail' && ALONE.exec(rest),
+               found = apart || (word === 'tail' && TAIL.exec(rest));
   if (!found) return null;
-  const [, number, game, node, after, beside] = found;
-  return {number: Number(number), game: Number(game), node, after, beside: Boolean(beside)};
+  const [, number, game, node, after = '', beside] = found;
+  return {number: Number(number), game: Number(game), node, after, beside: Boolean(beside), alone: Boolean(apart)};
 }
+/**
+ * The heading of a tail that stands without its game: in another document, as a copy, in a saved PGN. The report reads
+ * from it whether it is a try.
+ * @param {Tail} tail
+ */
+export const headingAlone = ({number, game, after, beside}) => `#! tail 1 of 1 by itself: tail ${number} of game ${
+  game}${after && `, after ${after}`}${beside ? ', beside the solution' : ''}`;
 /**
  * The moves that lead to a node of the whole game, by its lines.
  * @param {string[]} lines
@@ -96,12 +105,17 @@ function addLine(game, line) {
 }
 /** @typedef {{origin: import('./imported.js').Origin}} Part */
 /**
+ * The tail that a study is, where its game stands in the same script.
+ * @param {{tail: Tail | null} | undefined} origin
+ */
+export const partHere = origin => (origin && origin.tail && !origin.tail.alone ? origin.tail : null);
+/**
  * The moves that lead to a part, and the start of its game; none where the script has not the whole game.
  * @param {string[]} lines
  * @param {Part} part
  */
 function wayOf(lines, {origin}) {
-  const tail = origin && origin.tail, game = tail && wholeGames(lines).get(tail.game);
+  const tail = partHere(origin), game = tail && wholeGames(lines).get(tail.game);
   return {fen: game ? game.fen : '', sans: tail && game ? wayTo(game.lines, tail.node) : []};
 }
 /**
@@ -129,7 +143,7 @@ function alike(one, two) {
 export function namesOfTails(lines, parts) {
   const names = /** @type {Map<Part, string>} */ (new Map()), groups = /** @type {Map<string, Part[]>} */ (new Map());
   for (const part of parts) {
-    const {tail} = part.origin || {}, key = tail ? `${tail.game} ${tail.after}` : '';
+    const {tail} = part.origin || {}, key = tail ? `${tail.alone} ${tail.game} ${tail.after}` : '';
     if (tail) groups.set(key, [...(groups.get(key) || []), part]);
   }
   for (const group of groups.values()) {
@@ -143,6 +157,8 @@ export function namesOfTails(lines, parts) {
   }
   return names;
 }
+const BESIDE = ', beside the solution: a try, which should fail',
+      NAME = new RegExp(`^Tail (\\d+) of game (\\d+)(?:, after (\\d+\\.(?:\\.\\.)? [^\\s,.]+))?(${BESIDE})?(?:\\. |$)`);
 /**
  * Which part of its game a study is; nothing for a whole one.
  * @param {Part} part
@@ -150,8 +166,18 @@ export function namesOfTails(lines, parts) {
 export function tailName({origin}) {
   const {tail} = origin || {};
   if (!tail) return '';
-  const beside = tail.beside ? ', beside the solution: a try, which should fail' : '';
+  const beside = tail.beside ? BESIDE : '';
   return `Tail ${tail.number} of game ${tail.game}${tail.after && `, after ${tail.after}`}${beside}`;
+}
+/**
+ * A comment that begins with such a name, as a saved PGN has it: the heading, and what else is said.
+ * @param {string} comment
+ */
+export function nameIn(comment) {
+  const [name, number, game, after = '', beside] = NAME.exec(comment) || [];
+  if (name === undefined) return {heading: '', rest: comment};
+  const tail = {number: Number(number), game: Number(game), node: '', after, beside: Boolean(beside), alone: true};
+  return {heading: headingAlone(tail), rest: comment.slice(name.length)};
 }
 /**
  * Why the moves before a part of a game are not judged.

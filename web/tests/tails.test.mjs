@@ -3,12 +3,14 @@ import './stand_in.mjs';
 import test from 'node:test';
 import assert from 'node:assert/strict';
 import {asGame, cutBlock} from '../src/cut_game.js';
-import {notReadIn, saidInTail} from '../src/notes.js';
+import {notReadIn, remarksOf, saidInTail} from '../src/notes.js';
 import {assumeAccepted} from '../src/assumed.js';
 import {withOwnWords} from '../src/comments.js';
-import {entriesOf} from '../src/entries.js';
+import {entriesOf, numbersOf} from '../src/entries.js';
 import {savedGames} from '../src/saved_games.js';
 import {withGames} from '../src/reporting.js';
+import {stampOf} from '../src/stamps.js';
+import {copiedLines, copyStudy} from '../src/study_edits.js';
 import {gamesWithoutPart, tailIn, tailText, wayTo} from '../src/tails.js';
 
 const HEADING = '#! tail 2 of 3 of game 4, node 0.1.0, after 5. cxb8=Q, beside the solution';
@@ -17,7 +19,8 @@ const WHOLE = [
   '#> insert 0.0 c7', '#> insert 0 Rd5+', '#> insert 0.1 Nd3'
 ];
 test('a heading names a tail', () => {
-  assert.deepEqual(tailIn(HEADING), {number: 2, game: 4, node: '0.1.0', after: '5. cxb8=Q', beside: true});
+  assert.deepEqual(
+    tailIn(HEADING), {number: 2, game: 4, node: '0.1.0', after: '5. cxb8=Q', beside: true, alone: false});
   assert.equal(tailIn('#! tail 1 of 1 of game 2, node root, after ').beside, false);
   assert.equal(tailIn('#! not taken over: comments 1'), null);
 });
@@ -121,4 +124,26 @@ test('the report says the game of an entry that has another number there, once',
   assert.deepEqual(said.flatMap((line, at) => (line === lines[at] ? [] : [line])), ['#! comment: Game 8 of jury.pgn']);
   assert.equal(said.length, lines.length);
   assert.equal(lines[said.indexOf('#! comment: Game 8 of jury.pgn') + 1], game(8)[0]);
+});
+/** A saved game is opened again: what stands above its position. */
+const openedAgain = game => [`#! game 1, line 1: stipulated by its comment`, ...remarksOf(game)];
+const study = (head, study) => czech([...head, ...CZECH.slice(CZECH.length - 6, CZECH.length - 1), ...study]);
+test('a try says that it is one in a copy, in another document, and when its saved game is opened', () => {
+  const d = czech(CZECH), heading = '#! tail 1 of 1 by itself: tail 3 of game 7, after 3... Kxb2, beside the solution';
+  const kept = lines => lines.filter(line => line.startsWith('#! tail ') || line.startsWith('#! White was'));
+  assert.deepEqual(kept(copiedLines(d.lines, d.studies[2])), [heading, '#! White was: Fritz, Jindřich']);
+  const copied = czech(copyStudy(d.lines, d.studies, 2).lines), [copy] = copied.studies.slice(-1);
+  assert.deepEqual([copy.origin.tail.beside, copy.originals.White, copy.origin.game], [true, 'Fritz, Jindřich', 0]);
+  assert.deepEqual(numbersOf(copied), ['7.1', '7.2', '7.3', '8']);
+  assert.equal(stampOf(copied, {...copy, verdict: 'wrong', start: 'draw'}, null).text, 'refuted');
+  const other = czech(copiedLines(d.lines, d.studies[2])), [alone] = other.studies;
+  assert.deepEqual(copiedLines(other.lines, alone), other.lines);
+  alone.games = ['[Event "Ctyri kameny"]\n[Result "1-0"]\n\n{White to win: wrong, draw} 4. Rd2 1-0\n\n'];
+  Object.assign(alone, {verdict: 'wrong', start: 'draw'});
+  for (const marks of [true, false]) {
+    const saved = savedGames(other, marks), again = study(openedAgain(saved), []).studies[0];
+    assert.match(saved.replace(/\s+/g, ' '), /Tail 3 of game 7, after 3... Kxb2, beside the solution: a try, which/);
+    assert.equal(again.origin.tail.beside, true);
+    assert.deepEqual([again.origin.game, openedAgain(saved).includes(heading)], [1, true]);
+  }
 });
