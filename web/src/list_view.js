@@ -2,15 +2,13 @@
 // The list of a script's entries with their verdicts: filtered by kind and name, sorted by each column, and as a file.
 import {$, button, download, h, put, smallButton} from './dom.js';
 import {goStudy, track} from './actions.js';
-import {remedyOf} from './cut_game.js';
-import {doc, say, services} from './state.js';
-import {countsOf, csvOf, findEntries, isOfKind, kindWords, sortEntries} from './entry_list.js';
-import {againstText} from './imported.js';
+import {doc, services} from './state.js';
+import {countsOf, csvOf, findEntries, isOfKind, kindWords} from './entry_list.js';
 import {drawnAgain, markAt} from './list_box.js';
-import {openLeftOut} from './mending.js';
+import {NONE, cellsOf, sharedOf, sharedView} from './list_rows.js';
+import {UNSORTED, besideIn, inOrder} from './list_order.js';
 import {howManyKnown, knownEntries, reviewAll} from './list_facts.js';
 import {sheetOf} from './sheet.js';
-import {verdictsBefore} from './stamps.js';
 import {sortHead, table} from './table.js';
 import {wordOf, wordsNamed} from './wording.js';
 import {counted} from './words.js';
@@ -41,72 +39,11 @@ export function listFrom() {
   return [knownEntries(doc()), ui.filter, ui.order];
 }
 /** Marks the study that is looked at in the list as it is drawn. */
-export const markShown = () => markAt(doc().id, doc().at);
-const REMEDIES = {
-  open: ['open up to there', 'the moves before the bad one, to be mended'],
-  mend: ['mend it', 'the text of the game, to be mended and read again']
-};
-/**
- * What opens a game that was left out, up to a bad move or as its text.
- * @param {Entry} entry
- */
-function remedyButton({at, line, number}) {
-  const remedy = at < 0 && remedyOf(doc().lines, line);
-  if (!remedy) return null;
-  const [words, title] = REMEDIES[remedy];
-  return [' ', smallButton(words, title, () => showLeftOut(line), {'data-upto': number})];
+export function markShown() {
+  const row = shownStudies().indexOf(doc().at);
+  if (row >= 0) stood = {at: doc().at, row, chosen: chosenBy()};
+  markAt(doc().id, doc().at);
 }
-/**
- * The verdict, its first fault, and which studies have the same position; of an entry that was left out why, and what
- * to write instead, as wide as the row has room.
- * @param {Entry} entry
- */
-function stampView(entry) {
-  const s = doc().studies[entry.at], before = s ? verdictsBefore(s) : [],
-        [, stamp, more] = /^(left out: )(.*)$/.exec(entry.stamp) || ['', entry.stamp, ''];
-  return [
-    h('b', {class: `stamped ${entry.open ? 'open' : entry.kind.replace(' ', '-')}`}, stamp),
-    more && h('span', {}, more), remedyButton(entry),
-    [entry.fault, entry.same, ...before].filter(Boolean).map(text => h('div', {class: 'note', title: text}, text))
-  ];
-}
-/** @typedef {{title: string, source: string}} Shared */
-const NONE = /** @type {Shared} */ ({title: '', source: ''});
-/**
- * A stipulation, and where it is from.
- * @param {string} aim
- */
-const aimParts = aim => aim.split(/(?= \(from )/).map(text => text.trim());
-/**
- * What several entries have all the same, so that it is said once: their title, and where their stipulations are from.
- * @param {Entry[]} entries
- * @returns {Shared}
- */
-function sharedOf(entries) {
-  const same = (/** @type {string[]} */ texts) => texts.length > 1 && new Set(texts).size === 1 ? texts[0] : '';
-  const sources = entries.filter(({aim}) => aim).map(({aim}) => aimParts(aim)[1] || '');
-  return {title: same(entries.map(({title}) => title)), source: same(sources)};
-}
-/** @param {Shared} shared */
-const sharedView = ({title, source}) => (title || source) &&
-  h('p', {class: 'note', id: 'shared'},
-    [title && `All: ${title}.`, source && `All stipulations are ${source.slice(1, -1)}.`].filter(Boolean).join(' '));
-/**
- * The stipulation, and in small letters where it is from and which sources differ.
- * @param {Entry} entry
- * @param {Shared} shared
- */
-function aimCell({aim, against}, shared) {
-  const [words, ...source] = aimParts(aim), rest = source.filter(text => text !== shared.source);
-  return [words, [...rest, ...against.map(againstText)].map(text => h('div', {class: 'note'}, text))];
-}
-/**
- * @param {Entry} entry
- * @param {any} number
- * @param {Shared} shared
- */
-const cellsOf = (entry, number, shared) => [number, shared.title ? '' : entry.title, entry.author,
-  ...(entry.aim ? [aimCell(entry, shared)] : []), stampView(entry)];
 /** @param {Entry} entry */
 function numberButton(entry) {
   const text = entry.number || '\u2013', here = entry.at === doc().at && 'true';
@@ -114,33 +51,45 @@ function numberButton(entry) {
     {class: 'link', 'aria-current': here, 'aria-label': !entry.number && `Show ${entry.title}`, 'data-at': entry.at};
   return entry.at < 0 ? text : button(text, 'show it', () => goStudy(entry.at), props);
 }
-let wanted = /** @type {{by: any[], entries: Entry[]}} */ ({by: [], entries: []});
+let wanted = /** @type {{by: any[], entries: Entry[], late: boolean}} */ ({by: [], entries: [], late: false}),
+    held = UNSORTED, stood = {at: -1, row: -1, chosen: ''};
+const chosenBy = () => `${doc().id} ${ui.filter} ${ui.find}`;
 /** The entries that are wanted, in their order: the same list as long as nothing has changed. */
 function shownEntries() {
   beginList();
   const all = knownEntries(doc()), by = [all, ui.filter, ui.find, ui.order];
   if (by.some((thing, i) => thing !== wanted.by[i])) {
-    const kind = all.filter(entry => !ui.filter || isOfKind(entry, ui.filter));
-    wanted = {by, entries: sortEntries(findEntries(kind, ui.find), ui.order.by, ui.order.back)};
+    const {entries, held: now, late} = inOrder(held, all, doc(), ui.order);
+    held = now;
+    wanted = {
+      by,
+      late,
+      entries: findEntries(entries.filter(entry => !ui.filter || isOfKind(entry, ui.filter)), ui.find)
+    };
   }
   return wanted.entries;
 }
+/** The studies among them. */
+const shownStudies = () => shownEntries().map(({at}) => at).filter(at => at >= 0);
 /**
  * The study so many rows down the list as it is shown, if there is one; where the one that is looked at is not shown,
  * the first or the last of the list.
  * @param {1 | -1} by
  * @returns {number | undefined}
  */
-export function studyBeside(by) {
-  const order = shownEntries().map(({at}) => at).filter(at => at >= 0), here = order.indexOf(doc().at);
-  return here >= 0 ? order[here + by] : order[by > 0 ? 0 : order.length - 1];
-}
+export const studyBeside = by => besideIn(shownStudies(), doc().at, by, stood, chosenBy());
 /** Why no row is shown. */
 function noneText() {
   const [, n = 0] = countsOf(knownEntries(doc())).find(([kind]) => kind === ui.filter) || [];
   return n ? `None of the ${n} ${kindWords(ui.filter)} has this name; one more press on that count shows all entries.`
            : 'No entry has this name.';
 }
+/**
+ * That rows have kept their places since the list was sorted.
+ * @param {() => any} sort
+ */
+const lateView = sort => h('p', {class: 'note', id: 'late'}, 'Sorted before your last changes. ',
+  smallButton('Sort again', 'by the same heading', sort, {id: 'sortAgain'}));
 /** The rows that are wanted, in their order. */
 function rowsView() {
   const all = knownEntries(doc()), shown = shownEntries();
@@ -152,7 +101,10 @@ function rowsView() {
     wordsNamed('list-heads').map((head, i) => sortHead(head.replace('pul', 'pu\u00adl'), COLUMNS[i], ui.order, set));
   if (!shown.length) return h('p', {class: 'note'}, noneText());
   const shared = sharedOf(all);
-  return [sharedView(shared), table(heads, shown, entry => cellsOf(entry, numberButton(entry), shared))];
+  return [
+    sharedView(shared), wanted.late && lateView(() => set({...ui.order})),
+    table(heads, shown, entry => cellsOf(entry, numberButton(entry), shared))
+  ];
 }
 /** What can be done with the list as a whole. */
 function toolsView() {
@@ -260,16 +212,6 @@ export function paperList() {
     table(wordsNamed('list-heads'), entries, entry => cellsOf(entry, entry.number || '\u2013', NONE))
   ];
 }
-/**
- * Opens a game that was left out up to its bad move, or its text, or says why it was left out.
- * @param {number} line
- */
-export const showLeftOut = line => track((async () => {
-  if (await openLeftOut(line)) return;
-  const entry = knownEntries(doc()).find(row => row.at < 0 && row.line === line);
-  if (entry) say('board', `${[entry.number, entry.title, entry.author].filter(Boolean).join(', ')}: ${entry.stamp}.`);
-  services.show();
-})());
 /** The facts of all studies are found first. Spreadsheets take the letters for UTF-8 by the mark at the front. */
 async function saveList() {
   await reviewAll(doc(), true);

@@ -25,7 +25,7 @@ import {clearPaper, layOut} from './paper.js';
 import {makeReaders} from './file_readers.js';
 import {makeTables} from './tables.js';
 import {factsToPrint, knownFacts} from './list_facts.js';
-import {showLeftOut} from './list_view.js';
+import {showLeftOut} from './list_rows.js';
 import {show, showFacts, showJudged, showProgress, watch} from './show.js';
 import {makeStore} from './store.js';
 import {openFiles} from './opening.js';

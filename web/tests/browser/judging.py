@@ -221,6 +221,33 @@ def test_accepted_duals(user):
     assert "accepted" in (pages(user, "accepted") or "accepted")
 
 
+def test_a_tick_moves_no_row(user):
+    """In a list with the worst first each row stays where it was read until the list is sorted again."""
+    five = GAME.format(event="Five", author="Novák", fen=MIRRORED, result="1-0", moves="1. Kb3 Kb6 2. Kc4")
+    opened(user, PGN + five)
+    user.until("!document.querySelector('#list .stamped.open')", 60)
+    user.press_on("[data-sort=verdict]")
+    user.settle()
+    before = user.js(ROWS)
+    assert before.index("Two") < before.index("Five"), before
+    user.press_on("[data-kind=duals]")
+    user.d.find_element(By.XPATH, "//*[@id='rows']//button[.='2']").click()
+    user.settle()
+    user.until("document.querySelector('[data-accept]')", 60)
+    for at in range(len(user.d.find_elements(By.CSS_SELECTOR, "[data-accept]"))):
+        user.d.find_elements(By.CSS_SELECTOR, "[data-accept]")[at].click()
+        user.settle()
+        user.until("document.querySelectorAll('[data-accept]').length", 60)
+    assert user.js(ROWS) == ["Five"], user.js(ROWS)
+    user.press_on("[data-kind=duals]")
+    user.settle()
+    assert user.js(ROWS) == before and "last changes" in user.text("late"), user.js(ROWS)
+    user.click("sortAgain")
+    user.settle()
+    after = user.js(ROWS)
+    assert after.index("Two") > after.index("Five") and not user.has("late"), after
+
+
 def test_what_is_heard(user):
     """One region says the move with its mark and value, and the verdict; a set-up too; and no other is live."""
     opened(user)
