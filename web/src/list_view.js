@@ -1,7 +1,7 @@
 // @ts-check
 // The list of a script's entries with their verdicts: filtered by kind and name, sorted by each column, and as a file.
 import {$, button, download, h, put, smallButton} from './dom.js';
-import {goStudy, track} from './actions.js';
+import {goStudy, goTo, track} from './actions.js';
 import {doc, services} from './state.js';
 import {countsOf, csvOf, findEntries, isOfKind, kindWords} from './entry_list.js';
 import {drawnAgain, markAt} from './list_box.js';
@@ -106,6 +106,17 @@ function rowsView() {
     table(heads, shown, entry => cellsOf(entry, numberButton(entry), shared))
   ];
 }
+/**
+ * In the field for a name Enter shows the first study that is found, Page Down and Page Up the next one and the one
+ * before. Whether the key was one of these.
+ * @param {string} key
+ */
+function stepKey(key) {
+  const by = key === 'PageDown' ? 1 : key === 'PageUp' ? -1 : 0;
+  if (!by && key !== 'Enter') return false;
+  goTo(() => (by ? studyBeside(by) : shownStudies()[0]));
+  return true;
+}
 /** What can be done with the list as a whole. */
 function toolsView() {
   const named = (/** @type {string} */ text) => {
@@ -120,6 +131,7 @@ function toolsView() {
     value: ui.find,
     oninput: (/** @type {any} */ e) => named(e.target.value),
     onkeydown: (/** @type {any} */ e) => {
+      if (stepKey(e.key)) return e.preventDefault();
       if (e.key !== 'Escape') return;
       e.target.value = '';
       named('');
