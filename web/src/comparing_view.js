@@ -7,7 +7,7 @@ import {evaluate} from './running.js';
 import {viewOf} from './answer_cache.js';
 import {differences} from './comparing.js';
 import {headAt, linesOf} from './documents.js';
-import {numbersOf, studyName} from './entries.js';
+import {studyName} from './entries.js';
 import {diagramOf} from './drawing.js';
 import {copiedLines} from './study_edits.js';
 import {reviewFor} from './list_facts.js';
@@ -17,6 +17,7 @@ import {table} from './table.js';
 import {editsTo, fensOf, toText} from './script.js';
 import {doc, say, services} from './state.js';
 import {aimText} from './words.js';
+import {numbersOf} from './numbering.js';
 /** @typedef {import('./types.js').View} View */
 /** @typedef {import('./types.js').Study} Study */
 /**

@@ -3,13 +3,14 @@
 import {isKnown} from './edits.js';
 import {control} from './fen.js';
 import {byWeight, faultText, kindsIn} from './fault_kinds.js';
-import {mostGames, originalsIn, sourceText} from './imported.js';
+import {originalsIn, sourceText} from './imported.js';
 import {hasPosition, textIn} from './cut_game.js';
 import {NO_POSITION, canBeCut, leftOutBy, whyLeftOut} from './left_out.js';
+import {numbersOf} from './numbering.js';
 import {positionsReached, reachedText, samePositions, sameText} from './same_positions.js';
 import {isCommand, isEdit, isPosition, wordsOf} from './script.js';
 import {acceptedOf, openStamp, stampOf} from './stamps.js';
-import {gamesWithoutPart, namesOfTails, partHere, wholeGames} from './tails.js';
+import {gamesWithoutPart, namesOfTails, wholeGames} from './tails.js';
 import {bareTree} from './unmarked.js';
 import {aimText, reason} from './words.js';
 /** @typedef {import('./types.js').Study} Study @typedef {import('./types.js').Doc} Doc */
@@ -171,33 +172,6 @@ const missing = (line, title, author, why) => ({
   count: 0,
   open: false
 });
-/**
- * The number of each study: that of its game in the PGN that was opened, `3.2` for its second tail, and further ones
- * for those that were added.
- * In a script by hand the number of its game in the saved PGN and of its page in the report: `3`; `3\u20134` of a study
- * with two games, and nothing without a stipulation.
- * @param {{lines: string[], studies: Study[]}} doc
- */
-export function numbersOf({lines, studies}) {
-  const known = numbered.get(studies), numbers = known || numbersIn(lines, studies);
-  if (!known) numbered.set(studies, numbers);
-  return numbers;
-}
-const numbered = /** @type {WeakMap<Study[], string[]>} */ (new WeakMap());
-/**
- * @param {string[]} lines
- * @param {Study[]} studies
- */
-function numbersIn(lines, studies) {
-  let last = mostGames(lines);
-  return studies.map(({aim, games, origin}) => {
-    const part = partHere(origin);
-    if (origin && origin.game) return `${origin.game}${part ? `.${part.number}` : ''}`;
-    const first = last + 1, many = aim ? Math.max(games.length, 1) : 0;
-    last += many;
-    return many > 1 ? `${first}\u2013${last}` : many ? `${last}` : '';
-  });
-}
 /**
  * The stipulation with where it is from, if that is not the study itself.
  * @param {Study} s

@@ -4,7 +4,7 @@ import {$, h} from './dom.js';
 import {change} from './actions.js';
 import {app, doc, services, say, study} from './state.js';
 import {isDate, isKnown, setTag, stipulate, wholeDate} from './edits.js';
-import {isAimCarried, isCarried, nameOf, numbersOf} from './entries.js';
+import {isAimCarried, isCarried, nameOf} from './entries.js';
 import {againstText, sourceText} from './imported.js';
 import {knownEntries} from './list_facts.js';
 import {refuseLong} from './limits.js';
@@ -16,6 +16,7 @@ import {TAGS} from './script.js';
 import {tailText} from './tails.js';
 import {wordOf} from './wording.js';
 import {aimWords} from './words.js';
+import {numbersOf} from './numbering.js';
 /** @typedef {import('./types.js').Study} Study @typedef {import('./types.js').Aim} Aim */
 
 const LABELS =

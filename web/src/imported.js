@@ -121,7 +121,7 @@ const BY_HAND = 'stipulated by hand', HAND = 'hand';
  * The game of a remark that says where a stipulation is from.
  * @param {string} row
  */
-function stipulatedBy(row) {
+export function stipulatedBy(row) {
   const remark = remarkOf(row);
   if (!remark) return null;
   if (remark.kind === 'stipulated') return {game: remark.game, line: remark.line, source: remark.said};

@@ -11,6 +11,7 @@ import {notKept, stillGone} from './not_kept.js';
 import {namesOf, notReadIn, remarksOf, saidInTail, withoutVerdicts} from './notes.js';
 import {replace} from './history.js';
 import {eachGame, gamesIn, rawLines, textLines, textOf} from './games.js';
+import {numberedApart} from './numbering.js';
 import {foreignGames, foreignText, inUtf8} from './code_pages.js';
 import {cutOf, textRemarks} from './cut_game.js';
 import {leftOut, leftOutBy} from './left_out.js';
@@ -242,7 +243,8 @@ async function openScript(text, where, name) {
     if (where === 'script') Object.assign(app.say || {}, {field: 'script', typed: text});
     return services.show();
   }
-  await take(lines, where, name.replace(/\.\w+$/, ''), where === 'script' ? doc().note : '');
+  await learn(lines);
+  await take(numberedApart(lines), where, name.replace(/\.\w+$/, ''), where === 'script' ? doc().note : '');
   if (app.say && app.say.where === where && !app.say.good) {
     Object.assign(app.say, {field: 'script', typed: text});
     services.show();

@@ -4,17 +4,15 @@
 import {shownText} from './comments.js';
 import {download} from './dom.js';
 import {Stopped} from './engine.js';
-import {numbersOf} from './entries.js';
-import {leftOutBy} from './left_out.js';
 import {tooManyLines} from './limits.js';
 import {AT_MOVES, plain, short} from './notes.js';
+import {reportNumbers, withNumbers} from './numbering.js';
 import {refusalIn} from './parse_answers.js';
 import {cutAt, ownRemark} from './remarks.js';
 import {squaresOf} from './saved_games.js';
 import {fensOf, isPrinted, reportedLines, toText} from './script.js';
 import {bareTree} from './unmarked.js';
 import {PAGES, app, clearMessage, doc, say, services} from './state.js';
-import {partHere} from './tails.js';
 import {counted, numberedLast, reason} from './words.js';
 
 /**
@@ -74,30 +72,11 @@ export function printedRemark(line, fen, ways) {
   return words ? short(`#! comment: ${words}`) : line;
 }
 /**
- * The lines of a script, with the game of each study that has another number in the report, in the place of the empty
- * line before it: the report counts entries, and a game with more than four men has an entry for each part, whose
- * heading names the game.
- * @param {import('./types.js').Doc} d
- */
-export function withGames(d) {
-  const lines = [...d.lines], numbers = numbersOf(d),
-        file = d.name ? `${d.name.replace(/\.checked$/, '')}.pgn` : 'the PGN';
-  let at = 0, entry = 1;
-  for (const [i, {head, from, aim, games, origin}] of d.studies.entries()) {
-    for (; at < from; at++)
-      if (leftOutBy(lines[at])) entry++;
-    if (origin.game && !partHere(origin) && numbers[i] !== `${entry}` && lines[head - 1] === '')
-      lines[head - 1] = short(`#! comment: Game ${numbers[i]} of ${file}`);
-    entry += aim ? Math.max(games.length, 1) : 0;
-  }
-  return lines;
-}
-/**
  * The lines of the document, each remark that is printed in its place.
  * @param {import('./types.js').Doc} d
  */
 function printedLines(d) {
-  const lines = withGames(d);
+  const lines = [...d.lines];
   for (const {head, from, end, fen} of d.studies) {
     const ways = head < from ? waysIn(bareTree(d.lines.slice(from, end))) : undefined;
     for (let at = head; at < from; at++) lines[at] = printedRemark(lines[at], fen, ways);
@@ -120,7 +99,7 @@ async function write(d, name) {
   tell(`The report is being written: ${counted(pages, 'study', 'studies')}`);
   const {bytes, ended} = await worker.ask('report', toText(lines), PAGES);
   if (ended === 'done') {
-    download(name, bytes);
+    download(name, withNumbers(new TextDecoder().decode(bytes), reportNumbers(d)));
     return true;
   }
   say('board', `No report: ${reason(refusalIn({text: new TextDecoder().decode(bytes), ended}))}.`);

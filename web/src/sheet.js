@@ -1,10 +1,11 @@
 // @ts-check
 // A sheet of diagrams, twelve on a page of A4, as a file that stands alone: what a judge passes round.
 import {diagramOf} from './drawing.js';
-import {numbersOf, studyName} from './entries.js';
+import {studyName} from './entries.js';
 import {sideOf} from './fen.js';
 import {h} from './dom.js';
 import {aimText} from './words.js';
+import {numbersOf} from './numbering.js';
 /** @typedef {import('./types.js').Study} Study */
 
 const STYLE =

@@ -6,7 +6,7 @@ import {copyLink} from './copying.js';
 import {app, doc} from './state.js';
 import {tidy} from './edits.js';
 import {copyStudy, dropStudy, moveStudy} from './study_edits.js';
-import {byCause, numbersOf} from './entries.js';
+import {byCause} from './entries.js';
 import {unreadIn} from './stamps.js';
 import {table} from './table.js';
 import {messageAt} from './head_view.js';
@@ -16,6 +16,8 @@ import {limitOf} from './limits.js';
 import {openText} from './opening.js';
 import {counted, grouped, reason} from './words.js';
 import {lettersIn} from './keep.js';
+import {knownEntries} from './list_facts.js';
+import {numbersOf, placeAtRow} from './numbering.js';
 /** @typedef {import('./types.js').Study} Study @typedef {import('./types.js').Refused} Refused */
 
 const open = {
@@ -105,18 +107,18 @@ const studyButtons = () => [smallButton('Copy link', 'a link that opens this stu
 const drop = () => change(now => dropStudy(now.lines, now.studies, now.at), 'script');
 /** @param {number} by */
 const move = by => change(now => moveStudy(now.lines, now.studies, now.at, by), 'script');
-/** The place of this study among those of the script, which can be written. */
+/** The row of this study in the list as the script has it, which can be written. */
 function placeField() {
-  const {at, studies} = doc();
+  const {at} = doc(), rows = knownEntries(doc());
   return h('label', {class: 'place'}, 'to place ', h('input', {
     id: 'studyPlace',
     type: 'number',
     min: 1,
-    max: studies.length,
-    value: at + 1,
-    onchange: (/** @type {any} */ e) => move(Math.round(e.target.valueAsNumber) - 1 - at)
+    max: rows.length,
+    value: rows.findIndex(row => row.at === at) + 1,
+    onchange: (/** @type {any} */ e) => move(placeAtRow(rows, at, Math.round(e.target.valueAsNumber)) - at)
   }),
-    ` of ${studies.length}`);
+    ` of ${rows.length}`);
 }
 /**
  * @param {string} text

@@ -6,9 +6,9 @@ import {asGame, cutBlock} from '../src/cut_game.js';
 import {notReadIn, remarksOf, saidInTail} from '../src/notes.js';
 import {assumeAccepted} from '../src/assumed.js';
 import {withOwnWords} from '../src/comments.js';
-import {entriesOf, numbersOf} from '../src/entries.js';
+import {entriesOf} from '../src/entries.js';
+import {numberedApart, numbersOf, placeAtRow, reportNumbers, withNumbers} from '../src/numbering.js';
 import {savedGames} from '../src/saved_games.js';
-import {withGames} from '../src/reporting.js';
 import {stampOf} from '../src/stamps.js';
 import {copiedLines, copyStudy} from '../src/study_edits.js';
 import {gamesWithoutPart, tailIn, tailText, wayTo} from '../src/tails.js';
@@ -114,16 +114,38 @@ test('parts that begin after moves of one name are told apart by the moves befor
       `${rest}: 1. Rd4 Kc3 2. Rd8 Kb3 3. Rd7 Kxb2.`);
   assert.equal(tailText([], d.studies[0]), `Tail 1 of game 7, after 3... Kxb2.${rest}.`);
 });
-test('the report says the game of an entry that has another number there, once', () => {
+test('the report has the numbers of the list, whatever was left out, moved or removed', () => {
   const position = 'position 8/8/8/8/8/8/1k6/K2R4 w - - 0 4',
         game = n => [`#! game ${n}, line ${50 * n}: stipulated by its comment`, position, 'stipulate white win',
           'insert root Rd2', 'pgn', ''];
-  const lines =
-          [...game(1), '#! game 2, line 60, column 3: NoSuchMove at Kb6', '', ...game(3), ...CZECH, '', ...game(8)],
-        said = withGames({...assumeAccepted(lines), name: 'jury.checked', at: 0});
-  assert.deepEqual(said.flatMap((line, at) => (line === lines[at] ? [] : [line])), ['#! comment: Game 8 of jury.pgn']);
-  assert.equal(said.length, lines.length);
-  assert.equal(lines[said.indexOf('#! comment: Game 8 of jury.pgn') + 1], game(8)[0]);
+  const lines = [
+    ...game(5), ...game(1), '#! game 2, line 60, column 3: NoSuchMove at Kb6', '', ...game(3), ...CZECH, '', position,
+    'stipulate white win', 'insert root Rd2', '', '#! game 8, line 90, column 3: NoSuchMove at Kb6'
+  ];
+  const d = {...assumeAccepted(lines), refused: [], at: 0}, numbers = reportNumbers(d);
+  assert.deepEqual(numbers, ['5', '1', '2', '3', '7.1', '7.2', '7.3', '9', '8']);
+  assert.deepEqual(numbers, entriesOf(d).map(({number}) => number));
+  const page = [1, 2, 4].map(n => `<article id="e${n}"><p class="note">No. ${n}</p><p>No. 1</p></article>`).join('') +
+    '<article class="sum"><tr><td>1</td><td><a href="#e1">1</a></td></tr><tr><td>4</td><td>x</td></tr></article>',
+        said = withNumbers(page, numbers);
+  assert.deepEqual([...said.matchAll(/<article id="(e\d)"><p class="note">(No. [\d.]+)</g)].map(m => `${m[1]} ${m[2]}`),
+    ['e1 No. 5', 'e2 No. 1', 'e4 No. 3']);
+  assert.ok(said.includes('<tr><td>5</td><td><a href="#e1">1</a>') && said.includes('<tr><td>3</td><td>x'), said);
+  assert.ok(said.includes('<p>No. 1</p>'));
+});
+test('of joined scripts no two games have one number', () => {
+  const game = n => [`#! game ${n}, line ${n}: stipulated by its comment`, 'position F', 'stipulate white win', ''],
+        out = ['#! game 3, line 9, column 3: NoSuchMove at Kb6', ''],
+        one = [...game(1), ...game(2), ...out, ...CZECH, ''], joined = numberedApart([...one, ...one]);
+  assert.deepEqual(entriesOf({...czech(joined)}).map(({number}) => number),
+    ['1', '2', '3', '7.1', '7.2', '7.3', '8', '9', '10', '14.1', '14.2', '14.3']);
+  assert.equal(numberedApart(one), one);
+  assert.ok(czech(joined).studies.every((s, i) => i < 7 || !s.origin.tail || s.originals.White === 'Fritz, Jindřich'));
+});
+test('a study comes to the row of the list that is typed, left-out games counted', () => {
+  const rows = [0, -1, 1, 2].map(at => ({at}));
+  assert.deepEqual(
+    [placeAtRow(rows, 0, 4), placeAtRow(rows, 2, 1), placeAtRow(rows, 2, 3), placeAtRow(rows, 1, 3)], [2, 0, 1, 1]);
 });
 /** A saved game is opened again: what stands above its position. */
 const openedAgain = game => [`#! game 1, line 1: stipulated by its comment`, ...remarksOf(game)];

@@ -262,6 +262,19 @@ def test_a_tick_moves_no_row(user):
     assert after.index("Two") > after.index("Five") and not user.has("late"), after
 
 
+def test_one_numbering(user):
+    """A study that is moved keeps its number, in the saved report too, where a game that was left out has its own."""
+    opened(user)
+    user.click("studyDown")
+    user.settle()
+    listed = user.js("return [...document.querySelectorAll('#list tbody tr')].map(row => row.cells[0].innerText)")
+    assert listed == ["2", "1", "3", "4"], listed
+    _, text = user.download("saveReport")
+    assert re.findall(r'<article id="e\d"><p class="note">No. (\d)<', text) == ["2", "1", "3"], text
+    assert re.findall(r"<tr><td>(\d)</td><td>", text[text.index('class="sum"'):]) == listed, text
+    assert "of 4" in user.text("texts"), user.text("texts")
+
+
 def test_what_is_heard(user):
     """One region says the move with its mark and value, and the verdict; a set-up too; and no other is live."""
     opened(user)
