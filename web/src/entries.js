@@ -5,14 +5,15 @@ import {control} from './fen.js';
 import {byWeight, faultText, kindsIn} from './fault_kinds.js';
 import {originalsIn, sourceText} from './imported.js';
 import {hasPosition, textIn} from './cut_game.js';
-import {NO_POSITION, canBeCut, leftOutBy, whyLeftOut} from './left_out.js';
+import {NO_POSITION, canBeCut, leftOut, leftOutBy, whyLeftOut} from './left_out.js';
 import {numbersOf} from './numbering.js';
+import {once} from './once.js';
 import {positionsReached, reachedText, samePositions, sameText} from './same_positions.js';
 import {isCommand, isEdit, isPosition, wordsOf} from './script.js';
-import {acceptedOf, openStamp, stampOf} from './stamps.js';
+import {acceptedOf, openStamp, stampOf, unreadIn} from './stamps.js';
 import {gamesWithoutPart, namesOfTails, wholeGames} from './tails.js';
 import {bareTree} from './unmarked.js';
-import {aimText, reason} from './words.js';
+import {aimText, counted, reason} from './words.js';
 /** @typedef {import('./types.js').Study} Study @typedef {import('./types.js').Doc} Doc */
 /** @typedef {import('./types.js').Review} Review */
 /** @typedef {import('./types.js').Aim} Aim */
@@ -146,6 +147,25 @@ function leftOutAt(lines, line) {
         text = textIn(lines.slice(line, end < 0 ? undefined : end)),
         why = text && canBeCut(game) && !hasPosition(text) ? NO_POSITION : whyLeftOut(game);
   return [{...missing(line, name, White || author, `${why} (${place})`), number: `${game.game}`}];
+}
+/**
+ * How many entries have no study: games that were left out, and positions that were refused.
+ * @param {import('./types.js').Script} doc
+ */
+export const howManyLeftOut = ({lines, refused}) =>
+  gamesLeftOut(lines) + refused.filter(r => isPosition(r.text)).length;
+const gamesLeftOut = once((/** @type {string[]} */ lines) => leftOut(lines).length + gamesWithoutPart(lines).length);
+/**
+ * How many games were not read, or not to their end, in words; nothing if all were.
+ * @param {import('./types.js').Script} doc
+ */
+export function unreadNote(doc) {
+  const out = howManyLeftOut(doc), cut = doc.studies.filter(s => unreadIn(doc, s)).length;
+  return [
+    out && `${counted(out, 'game was', 'games were')} not read`,
+    cut && `${counted(cut, 'game was', 'games were')} not read to ${cut > 1 ? 'their ends' : 'its end'}`
+  ].filter(Boolean)
+    .join(', and ');
 }
 /**
  * @param {number} line

@@ -1,7 +1,7 @@
 // @ts-check
 // What lists say of a kept document without its script: its name, its first position, its verdict, and which version of
 // another one it is.
-import {studyName} from './entries.js';
+import {howManyLeftOut, studyName} from './entries.js';
 import {openStamp, stampOf} from './stamps.js';
 import {countsOf, kindWords} from './entry_list.js';
 import {control} from './fen.js';
@@ -38,15 +38,18 @@ import {counted} from './words.js';
 export function summary(doc, reviews = [], open = []) {
   const {studies} = doc;
   if (last.studies === studies && last.reviews === reviews) return last.made;
-  const stamps = studies.map((s, i) => stampIn(doc, s, reviews[i] || null, Boolean(open[i])));
-  const counts =
-    countsOf(stamps).filter(([kind]) => kind !== 'not judged').map(([kind, n]) => `${n} ${kindWords(kind)}`).join(', ');
+  const stamps = studies.map((s, i) => stampIn(doc, s, reviews[i] || null, Boolean(open[i]))),
+        out = Array.from({length: howManyLeftOut(doc)}, () => ({kind: 'left out'}));
+  const counts = countsOf([...stamps, ...out])
+                   .filter(([kind]) => kind !== 'not judged')
+                   .map(([kind, n]) => `${n} ${kindWords(kind)}`)
+                   .join(', ');
   const made = {
     title: (studies[0] ? studyName(studies[0]) : '') +
       (studies.length > 1 ? ` and ${counted(studies.length - 1, 'more study', 'more studies')}` : ''),
-    verdict: (stamps.length === 1                ? stamps[0].text
-                 : counts && open.includes(true) ? `${counts} …`
-                                                 : counts) ||
+    verdict: (stamps.length + out.length === 1 && stamps.length ? stamps[0].text
+                 : counts && open.includes(true)                ? `${counts} …`
+                                                                : counts) ||
       'not judged'
   };
   if (studies.length) last = {studies, reviews, made};

@@ -6,7 +6,7 @@ import {copyLink} from './copying.js';
 import {app, doc} from './state.js';
 import {tidy} from './edits.js';
 import {copyStudy, dropStudy, moveStudy} from './study_edits.js';
-import {byCause} from './entries.js';
+import {byCause, unreadNote} from './entries.js';
 import {unreadIn} from './stamps.js';
 import {table} from './table.js';
 import {messageAt} from './head_view.js';
@@ -16,8 +16,9 @@ import {limitOf} from './limits.js';
 import {openText} from './opening.js';
 import {counted, grouped, reason} from './words.js';
 import {lettersIn} from './keep.js';
-import {knownEntries} from './list_facts.js';
+import {knownEntries, knownFacts} from './list_facts.js';
 import {numbersOf, placeAtRow} from './numbering.js';
+import {savedGames} from './saved_games.js';
 /** @typedef {import('./types.js').Study} Study @typedef {import('./types.js').Refused} Refused */
 
 const open = {
@@ -33,7 +34,10 @@ export function textsView(s) {
     s && s.pgn && pgnView(s), scriptView(s)
   ];
 }
-/** @param {Study} s */
+/**
+ * The game as it is saved, and how many games of the file it says nothing of.
+ * @param {Study} s
+ */
 const pgnView = s => h('details', {
   open: open.pgn,
   id: 'pgnBox',
@@ -41,7 +45,10 @@ const pgnView = s => h('details', {
     open.pgn = e.target.open;
   }
 },
-  h('summary', {}, 'PGN'), h('textarea', {id: 'pgn', readonly: true, 'aria-label': 'The game as PGN'}, s.pgn));
+  h('summary', {}, 'PGN'),
+  unreadNote(doc()) && h('p', {class: 'note', id: 'pgnUnread'}, `Of this document ${unreadNote(doc())}.`),
+  h('textarea', {id: 'pgn', readonly: true, 'aria-label': 'The game as PGN'},
+    savedGames({...doc(), studies: [s]}, true, [knownFacts(doc()).reviews[doc().at]])));
 /** A script with more letters is put into its field once that is opened. */
 const LONG = 100000;
 /**

@@ -4,7 +4,7 @@ import test from 'node:test';
 import assert from 'node:assert/strict';
 import {textRemarks} from '../src/cut_game.js';
 import {setTag} from '../src/edits.js';
-import {byCause, entriesOf, nameOf, newlyRefused, studyName, withFacts} from '../src/entries.js';
+import {byCause, entriesOf, nameOf, newlyRefused, studyName, unreadNote, withFacts} from '../src/entries.js';
 import {numbersOf} from '../src/numbering.js';
 import {hasSolution, stampOf} from '../src/stamps.js';
 import {countsOf, csvOf, isOfKind, menuText} from '../src/entry_list.js';
@@ -310,4 +310,12 @@ test('a position that was refused ends the study before it, and what carries ove
   const moved = moveStudy(lines, script.studies, 1, -1).lines;
   assert.equal(moved.filter(line => line === 'position 8/8 w').length, 1);
   assert.equal(copyStudy(lines, script.studies, 0).lines.filter(line => line === 'insert root Kg3').length, 1);
+});
+test('how many games of the file were not read is said in words', () => {
+  const lines = ['#! game 2, line 60, column 3: NoSuchMove at Kb6', '#! game 3, line 70: 7 men', ''],
+        study = cut => ({from: 1, end: 2, origin: {cut: cut ? {move: '7. b6'} : null}});
+  assert.equal(unreadNote({lines: [''], studies: [study(false)], refused: []}), '');
+  assert.equal(unreadNote({lines, studies: [study(false)], refused: []}), '2 games were not read');
+  assert.equal(unreadNote({lines: lines.slice(1), studies: [study(true)], refused: []}),
+    '1 game was not read, and 1 game was not read to its end');
 });

@@ -170,6 +170,9 @@ test('what a list says of a document', () => {
   assert.equal(said([study('unsound 3', 'A')], lines, [], [true]).verdict, '3 faults …');
   assert.equal(
     said([study('unsound 3', 'A'), study('sound', 'B')], lines, [], [true, false]).verdict, '1 sound, 1 with faults …');
+  const out = '#! game 2, line 60, column 3: NoSuchMove at Kb6';
+  assert.equal(said([study('sound', 'A'), study('sound', 'B')], [...lines, out]).verdict, '2 sound, 1 left out');
+  assert.equal(said([study('sound', 'A')], [...lines, out]).verdict, '1 sound, 1 left out');
 });
 test('the verdict of a script that is opened again stays until its facts are found', () => {
   const lines = ['position 8/8/1KP5/3r4/8/8/8/k7 w - - 0 1', 'insert root c7'], local = made();

@@ -230,6 +230,10 @@ def test_a_game_with_a_bad_move_is_opened_up_to_there(user):
     user.until("document.getElementById('cut')", 60)
     user.settle()
     assert user.text("stamp") == "not read: 7. b6" and user.text("head").startswith("Two\n\nNo. 2"), user.text("head")
+    user.press_on("#pgnBox > summary")
+    game_text = user.js("return document.getElementById('pgn').value").replace("\n", " ")
+    assert "{White to win: not read: 7. b6, White mates in" in game_text, game_text
+    assert user.text("pgnUnread") == "Of this document 1 game was not read to its end.", user.text("pgnUnread")
     user.click("setUp")
     user.press_on('[data-turn="mirror"]')
     user.until("!document.getElementById('start').disabled")
