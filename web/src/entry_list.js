@@ -7,7 +7,7 @@ import {wordOf} from './wording.js';
 /** @typedef {import('./entries.js').Entry} Entry */
 
 const KINDS = [
-  'sound', 'time', 'accepted', 'duals', 'faults', 'mistake', 'wrong', 'works', 'refuted', 'correct', 'not read',
+  'sound', 'time', 'accepted', 'duals', 'faults', 'mistake', 'wrong', 'works', 'refuted', 'correct', 'over', 'not read',
   'left out', 'not judged'
 ];
 /** The words of kinds, where they are others than the kind itself. */
@@ -18,7 +18,8 @@ const KIND_WORDS = /** @type {Record<string, () => string>} */ ({
   faults: () => 'with faults',
   mistake: () => 'whose own move fails',
   works: () => 'beside a solution that work from here',
-  correct: () => wordOf('correct')
+  correct: () => wordOf('correct'),
+  over: () => 'beginning in mate or stalemate'
 });
 /** @typedef {{kind: string, against?: string[], same?: string, faults?: string[], stamp?: string}} Kinds */
 /**
@@ -77,7 +78,7 @@ export function findEntries(entries, text) {
 const collator = new Intl.Collator(undefined, {numeric: true});
 const WORST_FIRST = [
   'left out', 'not read', 'not judged', 'wrong', 'mistake', 'works', 'duals', 'faults', 'time', 'accepted', 'refuted',
-  'correct', 'sound'
+  'correct', 'over', 'sound'
 ];
 /**
  * How far behind an entry comes in a list with the worst first: by its verdict, then by its worst fault, then by how

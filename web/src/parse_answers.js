@@ -199,11 +199,13 @@ export function readReview(text) {
   return found ? review : null;
 }
 /**
- * A review with what a view of the same study says of it as a judge reads it.
+ * A review with what a view of the same study says of it as a judge reads it, and whether it begins in mate or
+ * stalemate.
  * @param {Review | null} review
  * @param {View | null} view
  */
-export const judgedBy = (review, view) => review && view && {...review, stamp: view.stamp, worst: view.worst};
+export const judgedBy = (review, view) =>
+  review && view && {...review, stamp: view.stamp, worst: view.worst, over: view.path === 'root' ? view.over : ''};
 /**
  * @param {Review} review
  * @param {string[]} row

@@ -111,6 +111,16 @@ function tryStamp({aim, verdict}, wrong) {
   const misses = verdict === 'wrong' && aim !== null && wrong === missesText(aim);
   return misses ? {kind: 'refuted', text: wordOf('refuted')} : {kind: 'works', text: wordOf('works')};
 }
+/**
+ * The stamp of a correct stipulation without a solution. Mate or stalemate on the board leaves nothing to give.
+ * @param {Study} s
+ * @param {Review | null} review
+ * @returns {{kind: string, text: string}}
+ */
+function unsolved({start}, review) {
+  const over = start === wordOf('mate') ? 'mate' : review && review.over;
+  return over ? {kind: 'over', text: `begins in ${over}`} : {kind: 'correct', text: wordOf('correct')};
+}
 /** @param {string} n */
 const faultsText = n => `${n} ${n === '1' ? 'fault' : 'faults'}`;
 /**
@@ -137,8 +147,7 @@ export function stampOf(doc, s, review) {
   if (s.origin && s.origin.tail && s.origin.tail.beside) return tryStamp(s, wrong);
   if (wrong || kind === 'wrong') return {kind: 'wrong', text: wrong || kind};
   if (kind === 'sound')
-    return hasSolution(doc.lines, s, review) ? {kind, text: (review && review.stamp) || kind}
-                                             : {kind: 'correct', text: wordOf('correct')};
+    return hasSolution(doc.lines, s, review) ? {kind, text: (review && review.stamp) || kind} : unsolved(s, review);
   if (!review || !review.stamp) return {kind: 'duals', text: faultsText(n)};
   const stamp = faultyStamp(review);
   if (stamp.kind !== 'duals') return stamp;

@@ -46,9 +46,10 @@
  * @typedef {{path: string, san: string, value: Value, count: number, answer: string}} Missing
  * @typedef {{path: string, value: Value | null, keeping: number, of: number, sans: string[]}} Ending   no value: drawn
  * @typedef {{empty: boolean, waste: string, stamp: string, worst: string, faults: Fault[], also: Also[],
- *   refuted: Refutation[], missing: Missing[], ends: Ending[], details?: ReviewDetails}} Review
+ *   refuted: Refutation[], missing: Missing[], ends: Ending[], details?: ReviewDetails,
+ *   over?: '' | 'mate' | 'stalemate'}} Review
  *   `empty`: the tree has no move of the hero; `stamp` and `worst` are those of a view of the study
- *   `details`: what is added behind it, as far as it is known
+ *   `details`: what is added behind it, as far as it is known; `over`: what stands on the board at the start
  *   `waste`: the stamp by which loss of time is no dual, as `sound but for loss of time`; empty where none loses time
  *
  * @typedef {{replies: Record<string, number>, elsewhere: Record<string, Record<string, string>>}} ReviewDetails

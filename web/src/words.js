@@ -115,7 +115,10 @@ const REFUTED = 'This line is beside the solution, and from here it is refuted.'
  * @param {boolean} [beside]      whether the study is a part of a game beside its solution
  */
 export function verdictSentence(view, kind, beside = false) {
-  const own = kind === 'not read' ? wordOf('unread-sentence') : beside ? (kind === 'refuted' ? REFUTED : WORKS) : '';
+  const own = kind === 'not read' ? wordOf('unread-sentence')
+    : beside                      ? (kind === 'refuted' ? REFUTED : WORKS)
+    : kind === 'over' ? `The stipulation is correct: ${view.over || 'mate'} stands on the board, and no move is left.`
+                      : '';
   return own ? `${own} ${atStart(view.start)}.` : view.sentence;
 }
 /** @param {{mark: string}} move */

@@ -275,6 +275,27 @@ def test_one_numbering(user):
     assert "of 4" in user.text("texts"), user.text("texts")
 
 
+def test_mate_and_stalemate_on_the_board(user):
+    """A study that begins in mate or stalemate has no solution to give; its saved game is opened again without a note."""
+    user.open_tables(TABLES, SMALL)
+    mate, stalemate = "k7/1Q6/1K6/8/8/8/8/8 b - - 0 1", "k7/2K5/1Q6/8/8/8/8/8 b - - 0 1"
+    studies = ((mate, "white win"), (stalemate, "black draw"), (FEN, "white win"))
+    text = "\n".join(f"position {fen}\nstipulate {aim}\n" for fen, aim in studies)
+    user.promise("studyboard.open(a[0])", text)
+    user.until("!document.querySelector('#list .stamped.open')", 60)
+    stamps = "return [...document.querySelectorAll('#list .stamped')].map(stamp => stamp.innerText)"
+    said = ["begins in mate", "begins in stalemate", "correct, no solution yet"]
+    user.until("document.getElementById('list').innerText.includes('in stalemate')", 30)
+    assert user.js(stamps) == said, user.js(stamps)
+    assert "mate stands on the board, and no move is left" in user.text("sentence"), user.text("sentence")
+    name, saved = user.download("savePgn")
+    assert all(f": {words}, " in saved.replace("\n", " ") for words in said), saved
+    user.open_file(name, saved)
+    user.until("document.querySelectorAll('#list .stamped').length === 3 && document.getElementById('import')", 60)
+    user.settle()
+    assert "#! note" not in "\n".join(script(user)), script(user)
+
+
 def test_what_is_heard(user):
     """One region says the move with its mark and value, and the verdict; a set-up too; and no other is live."""
     opened(user)
