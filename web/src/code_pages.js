@@ -7,8 +7,8 @@ export const CODE_PAGES = /** @type {[string, string][]} */ (
   [['windows-1250', 'Central European, 1250'], ['windows-1251', 'Cyrillic, 1251'], ['windows-1252', 'Western, 1252']]);
 /**
  * A game whose tags have letters that are no UTF-8, and the bytes of the first such text, of the tag White if it is
- * one.
- * @typedef {{game: number, name: Uint8Array}} Foreign
+ * one; where no tag of a file has any, a game whose comments have, and the words there.
+ * @typedef {{game: number, name: Uint8Array, inWords?: boolean}} Foreign
  */
 /** @param {Uint8Array} line */
 function isForeign(line) {
@@ -20,7 +20,31 @@ function isForeign(line) {
 }
 const TAG = /^[ \t]*\[[ \t]*([A-Za-z]\w*)[ \t]*"/;
 /**
- * The games whose tags have letters that are no UTF-8.
+ * The words of a line from a little before its first letter that is no ASCII.
+ * @param {Uint8Array} line
+ */
+function wordsIn(line) {
+  const first = line.findIndex(byte => byte > 127),
+        from = Math.max(line.lastIndexOf(32, first), line.lastIndexOf(123, first)) + 1, end = line.indexOf(125, first);
+  return line.subarray(from, Math.min(end < 0 ? line.length : end, first + 30));
+}
+/**
+ * The games whose comments have letters that are no UTF-8.
+ * @param {Uint8Array[]} lines
+ * @param {number[]} starts
+ * @returns {Foreign[]}
+ */
+function foreignWords(lines, starts) {
+  const found = /** @type {Foreign[]} */ ([]);
+  lines.forEach((line, at) => {
+    const game = starts.filter(start => start <= at + 1).length, last = found[found.length - 1];
+    if (game && (!last || last.game !== game) && isForeign(line))
+      found.push({game, name: wordsIn(line), inWords: true});
+  });
+  return found;
+}
+/**
+ * The games whose tags have letters that are no UTF-8; if there are none, those whose comments have.
  * @param {Uint8Array[]} lines
  * @param {number[]} starts      the line of each game, counted from 1
  */
@@ -34,7 +58,7 @@ export function foreignGames(lines, starts) {
     if (!last || last.game !== game) found.push(entry);
     else if (last.tag !== 'White' && entry.tag === 'White') found[found.length - 1] = entry;
   });
-  return found.map(({game, name}) => ({game, name}));
+  return found.length ? found.map(({game, name}) => ({game, name})) : foreignWords(lines, starts);
 }
 /**
  * A file in UTF-8, if those of its lines that are none are of a code page.
@@ -53,7 +77,7 @@ export function inUtf8(lines, code) {
  */
 export const textIn = (text, code) => (code ? new TextDecoder(code).decode(text) : decode(text));
 /**
- * Which games have such names, and as what these were read.
+ * Which games have such names or comments, and as what these were read.
  * @param {Foreign[]} games
  * @param {string} code
  */
@@ -62,6 +86,7 @@ export function foreignText(games, code) {
   const MOST = 8, numbers = games.slice(0, MOST).map(({game}) => game).join(', '),
         more = games.length > MOST ? ` and ${games.length - MOST} more` : '',
         [, words] = CODE_PAGES.find(([name]) => name === code) || ['', 'Latin 1'];
-  return `The tags of game${games.length > 1 ? 's' : ''} ${numbers}${more} have letters that are no UTF-8, read as ` +
+  return `The ${games[0].inWords ? 'comments' : 'tags'} of game${games.length > 1 ? 's' : ''} ${numbers}${
+           more} have letters that are no UTF-8, read as ` +
     `${words}: ${textIn(games[0].name, code)}.`;
 }

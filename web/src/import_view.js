@@ -33,23 +33,36 @@ function aimsView({bytes, name, id, waiting, how}) {
       aimButtons('read the PGN again, with this stipulation where none is said',
         aim => (kept ? readAs(aim) : track(openPgn(bytes, 'board', name, {...how, aim})))));
 }
+/** The code page that was chosen once, though it undoes changes, and the lines that it would undo. */
+let chosen = {code: '', lines: /** @type {string[]} */ ([])};
 /**
- * The code pages in which the names of a file can be read, each with the first name as it reads there.
+ * The code pages in which the names of a file can be read, each with the first name as it reads there. Where the
+ * document was changed since the file was opened, the first press says what the second one undoes.
  * @param {Source} again
  */
-function codesView({bytes, name, how, foreign}) {
+function codesView({bytes, name, id, how, foreign, opened}) {
+  const {lines} = doc(), isChanged = id !== '' && lines !== opened;
   const readAnew = async (/** @type {typeof how} */ now) => {
     await openPgn(bytes, 'board', name, now);
     if (!app.say) say('board', 'The PGN was read again. Undo brings back what was changed since it was opened.', true);
     services.show();
   };
+  const choose = (/** @type {string} */ code) => {
+    if (!isChanged || isChosen(code)) return track(readAnew({...how, code}));
+    chosen = {code, lines};
+    services.show();
+  };
+  const isChosen = (/** @type {string} */ code) => chosen.code === code && chosen.lines === lines;
   const codeButton = (/** @type {[string, string]} */[code, words]) =>
-    smallButton(`${words}: ${textIn(foreign[0].name, code)}`, 'read the PGN again, in this code page',
-      () => track(readAnew({...how, code})),
+    smallButton(`${words}: ${isChosen(code) ? 'read it, and undo the changes' : textIn(foreign[0].name, code)}`,
+      'read the PGN again, in this code page', () => choose(code),
       {'data-code': code, 'aria-pressed': `${how.code === code}`, class: `chip act${how.code === code ? ' on' : ''}`});
   return foreign.length > 0 &&
     h('p', {class: 'row', id: 'codes', role: 'group', 'aria-label': 'The code page of the names'},
-      'Read the names in another code page: ', CODE_PAGES.map(codeButton));
+      `Read the ${foreign[0].inWords ? 'comments' : 'names'} in another code page: `, CODE_PAGES.map(codeButton),
+      CODE_PAGES.some(([code]) => isChosen(code)) &&
+        h('span', {class: 'note', id: 'undoes'},
+          'The file is then read anew, without what was changed since it was opened. One more press does so.'));
 }
 /** The stipulation of a game with a bad move that states none. */
 function askView() {

@@ -29,10 +29,11 @@ import {aimText, counted, endedReason, readAim} from './words.js';
 /**
  * The PGN that was opened last, so that it can be read again: `id` is the document that it became, or empty if no game
  * was read; `beside` has the lines that stood there then; `said` says what came in, `held` has its lines; `how` has the
- * stipulation for games that state none, and the code page; `foreign` has the games with names in a code page.
+ * stipulation for games that state none, and the code page; `opened` has the lines that it became, `foreign` the games
+ * with names or comments in a code page.
  * @typedef {{aim: string, code: string}} How
  * @typedef {{bytes: Uint8Array, name: string, id: string, waiting: number, beside: string[], said: string,
- *   held: string[], how: How, foreign: import('./code_pages.js').Foreign[]}} Source
+ *   held: string[], how: How, opened: string[], foreign: import('./code_pages.js').Foreign[]}} Source
  */
 let source = /** @type {Source | null} */ (null);
 /** What was opened last and brought no study yet, or became the document that is shown. */
@@ -158,7 +159,7 @@ export async function openPgn(bytes, where, name, how = {
         said = [came, letters, notKept(lines)].filter(Boolean).join(' ');
   await learn(held);
   const before = source, open = doc();
-  source = {bytes, name, id: '', waiting, beside: open.lines, said, held, how, foreign};
+  source = {bytes, name, id: '', waiting, beside: open.lines, said, held, how, opened: [], foreign};
   if (!lines.some(line => line.startsWith('position '))) {
     const offered = waiting || leftOut(lines).length || foreign.length;
     say(where, offered ? '' : `No study was found in this PGN. ${came} Nothing was changed.`);
@@ -169,7 +170,7 @@ export async function openPgn(bytes, where, name, how = {
     source = before;
     return services.show();
   }
-  Object.assign(source, {id: doc().id, held: []});
+  Object.assign(source, {id: doc().id, held: [], opened: doc().lines});
   services.show();
   checkWhole();
 }

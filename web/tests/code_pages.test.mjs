@@ -37,3 +37,15 @@ test('a file is read in a code page', () => {
   assert.equal(rows[11], '[White "Réti"]');
   assert.equal(rows.length, LINES.length + 1);
 });
+test('where only comments have letters that are no UTF-8, these are named', () => {
+  const lines = [
+    line('[White "Adam"]'), line(''), line('1. Kg3 {the point: ', TROITZKY, '} 1-0'), line(''),
+    line('[White "Bertin"]'), line(''), line('1. Kg3 {', TROITZKY, ' saw'), line('it} Kf5 {', JIRI, '} 1-0')
+  ];
+  const games = foreignGames(lines, [1, 5]);
+  assert.deepEqual(
+    games.map(({game, name}) => [game, textIn(name, 'windows-1251')]), [[1, 'Троицкий'], [2, 'Троицкий saw']]);
+  assert.equal(foreignText(games, 'windows-1251'),
+    'The comments of games 1, 2 have letters that are no UTF-8, read as Cyrillic, 1251: Троицкий.');
+  assert.equal(decode(inUtf8(lines, 'windows-1251')).split('\n')[6], '1. Kg3 {Троицкий saw');
+});

@@ -412,10 +412,31 @@ def test_names_in_a_code_page(user):
     assert [row[2] for row in rows(user)][:2] == ["Réti", "Троицкий"] and "tag White Troickij" in script(user)
     saved = user.download("savePgn")[1]
     assert '[White "Троицкий"]' in saved and "{Конец; White mates in" in saved.replace("\n", " "), saved
+    user.fill("tagWhite", "Somebody")
+    user.press_on('[data-code="windows-1250"]')
+    user.settle()
+    assert "without what was changed since it was opened" in user.text("undoes"), user.text("import")
+    assert rows(user)[0][2] == "Somebody", rows(user)
     user.press_on('[data-code="windows-1250"]')
     user.until("document.querySelector('[data-code=\"windows-1250\"]').classList.contains('on')", 60)
     user.settle()
     assert rows(user)[2][2] == "Šojka", rows(user)
+
+
+def test_comments_in_a_code_page(user):
+    """Where the tags are plain and only comments are in an older code, it is chosen in the same way."""
+    user.open_tables(TABLES, SMALL)
+    path = os.path.join(tempfile.mkdtemp(), "plain.pgn")
+    with open(path, "wb") as file:
+        file.write(game("One", "Troitzky", "1. Kg3 {Конец}").encode("cp1251"))
+    user.by("file").send_keys(path)
+    user.until("document.getElementById('codes')", 60)
+    user.settle()
+    assert "The comments of game 1 have letters that are no UTF-8" in user.text("import"), user.text("import")
+    user.press_on('[data-code="windows-1251"]')
+    user.until("document.querySelector('[data-code=\"windows-1251\"]').classList.contains('on')", 60)
+    user.settle()
+    assert "#! note Kg3: Конец" in script(user), script(user)
 
 
 def test_neither_script_nor_pgn(user):

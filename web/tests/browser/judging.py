@@ -276,7 +276,7 @@ def test_one_numbering(user):
 
 
 def test_mate_and_stalemate_on_the_board(user):
-    """A study that begins in mate or stalemate has no solution to give; its saved game is opened again without a note."""
+    """A study that begins in mate or stalemate has no solution to give; its saved game is read again."""
     user.open_tables(TABLES, SMALL)
     mate, stalemate = "k7/1Q6/1K6/8/8/8/8/8 b - - 0 1", "k7/2K5/1Q6/8/8/8/8/8 b - - 0 1"
     studies = ((mate, "white win"), (stalemate, "black draw"), (FEN, "white win"))
