@@ -137,6 +137,17 @@ const OF_CUT = new Set(['up', 'text:', 'text+:', 'rest:', 'rest+:']);
  */
 export const withoutCut = remarks =>
   remarks.filter(line => !OF_CUT.has(ownRemark(line).word) && !remarksOfKind([line], 'not-read').length);
+/** Of a game that was saved up to a bad move only its place is known. */
+const SAVED = 'the saved game says that it was not read from here on';
+/**
+ * Why the move that a line stands for was not read, in words; nothing for another line.
+ * @param {string} line
+ * @param {Cut | null} cut      of its study
+ */
+export const whyCut = (line, cut) => (!isCutLine(line) ? ''
+    : cut                                              ? whyLeftOut(cut.game)
+    : /^insert root \d+\./.test(line)                  ? SAVED
+                                                       : '');
 /**
  * Whether a line stands for the bad move.
  * @param {string} line

@@ -4,9 +4,10 @@
 import {shownText} from './comments.js';
 import {download} from './dom.js';
 import {Stopped} from './engine.js';
+import {isCutLine, whyCut} from './left_out.js';
 import {tooManyLines} from './limits.js';
 import {AT_MOVES, plain, short} from './notes.js';
-import {reportNumbers, withNumbers} from './numbering.js';
+import {numbersOf, reportNumbers, withNumbers} from './numbering.js';
 import {refusalIn} from './parse_answers.js';
 import {cutAt, ownRemark} from './remarks.js';
 import {squaresOf} from './saved_games.js';
@@ -83,6 +84,29 @@ function printedLines(d) {
   }
   return reportedLines({...d, lines});
 }
+/** How the report says that the line of a bad move was refused: it has a word too many, or letters that are no ASCII. */
+const REFUSED =
+  /<p class="warn">Line \d+ was refused: <code>insert \S+ (\S+ [^<]+)<\/code> <b>Bad(Arguments|Byte)<\/b>[^<]*<\/p>/g;
+/** @param {string} text */
+const escaped = text => text.replace(/&/g, '&amp;').replace(/</g, '&lt;').replace(/>/g, '&gt;');
+/**
+ * The report with words for a reader where a game was not read to its end: which study, which move, and why.
+ * @param {string} page
+ * @param {{lines: string[], studies: import('./types.js').Study[]}} doc
+ */
+export function withReasons(page, {lines, studies}) {
+  const numbers = numbersOf({lines, studies});
+  const reasons = lines.flatMap((line, at) => {
+    if (!isCutLine(line)) return [];
+    const i = studies.findIndex(({from, end}) => from < at && at < end), {cut = null} = i < 0 ? {} : studies[i].origin;
+    return [{number: numbers[i] || '', why: whyCut(line, cut)}];
+  });
+  let at = 0;
+  return page.replace(REFUSED, (all, move) => {
+    const {number = '', why = ''} = reasons[at++] || {};
+    return why ? `<p class="warn">${number && `No. ${number}: `}${move} was not read: ${escaped(why)}</p>` : all;
+  });
+}
 /**
  * @param {import('./types.js').Doc} d
  * @param {string} name      of the file
@@ -99,7 +123,7 @@ async function write(d, name) {
   tell(`The report is being written: ${counted(pages, 'study', 'studies')}`);
   const {bytes, ended} = await worker.ask('report', toText(lines), PAGES);
   if (ended === 'done') {
-    download(name, withNumbers(new TextDecoder().decode(bytes), reportNumbers(d)));
+    download(name, withReasons(withNumbers(new TextDecoder().decode(bytes), reportNumbers(d)), d));
     return true;
   }
   say('board', `No report: ${reason(refusalIn({text: new TextDecoder().decode(bytes), ended}))}.`);

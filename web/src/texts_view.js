@@ -11,7 +11,7 @@ import {unreadIn} from './stamps.js';
 import {table} from './table.js';
 import {messageAt} from './head_view.js';
 import {diagramView} from './diagram.js';
-import {isCutLine, whyLeftOut} from './left_out.js';
+import {whyCut} from './left_out.js';
 import {limitOf} from './limits.js';
 import {openText} from './opening.js';
 import {counted, grouped, reason} from './words.js';
@@ -156,7 +156,7 @@ function refusedView() {
  */
 function reasonOf(at, r) {
   const {cut = null} = at < 0 ? {} : doc().studies[at].origin;
-  return cut && isCutLine(r.text) ? whyLeftOut(cut.game) : reason(r.reply);
+  return whyCut(r.text, cut) || reason(r.reply);
 }
 /** @param {Refused[]} rest */
 const followView = rest =>

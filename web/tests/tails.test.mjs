@@ -9,6 +9,7 @@ import {withOwnWords} from '../src/comments.js';
 import {entriesOf} from '../src/entries.js';
 import {numberedApart, numbersOf, placeAtRow, reportNumbers, withNumbers} from '../src/numbering.js';
 import {savedGames} from '../src/saved_games.js';
+import {withReasons} from '../src/reporting.js';
 import {stampOf} from '../src/stamps.js';
 import {copiedLines, copyStudy} from '../src/study_edits.js';
 import {gamesWithoutPart, tailIn, tailText, wayTo} from '../src/tails.js';
@@ -168,4 +169,19 @@ test('a try says that it is one in a copy, in another document, and when its sav
     assert.equal(again.origin.tail.beside, true);
     assert.deepEqual([again.origin.game, openedAgain(saved).includes(heading)], [1, true]);
   }
+});
+test('the report says which move of which game was not read, and why, in words', () => {
+  const refused = (move, name = 'BadArguments') =>
+          `<p class="warn">Line 36 was refused: <code>insert root ${move}</code> <b>${name}</b>: a word too few</p>`,
+        lines = [
+          '#! game 4, line 13, column 15: not read: NotSan at <b', '#! game 4, line 8: stipulated by its comment',
+          '#! up to 2. <b, line 13, column 15: NotSan at <b', 'position F', 'stipulate white win', 'insert root 2. <b',
+          '', 'position F', 'stipulate white win', 'insert root 7... Kh9', 'insert root Kh1 Kh2'
+        ];
+  const d = assumeAccepted(lines), page = [refused('2. &lt;b'), refused('7... Kh9'), refused('Kh1 Kh2')].join('');
+  const said = withReasons(page, d).split('</p>');
+  assert.equal(said[0], '<p class="warn">No. 4: 2. &lt;b was not read: &lt;b: not a move: write it as Kb6 or c8=R');
+  assert.equal(
+    said[1], '<p class="warn">No. 5: 7... Kh9 was not read: the saved game says that it was not read from here on');
+  assert.equal(said[2] + '</p>', refused('Kh1 Kh2'));
 });

@@ -258,7 +258,9 @@ def test_a_game_with_a_bad_move_is_opened_up_to_there(user):
     assert user.text("stamp") == "not read: 7. b6"
     for button in ("savePgn", "savePlain"):
         assert "not read: 7. b6" in user.download(button)[1].replace("\n", " ")
-    assert "not read: line" in user.download("saveReport")[1]
+    report = user.download("saveReport")[1]
+    assert "not read: line" in report and "BadArguments" not in report, report
+    assert "No. 2: 7. b6 was not read: b6: no legal move of this position" in report, report
     text = user.js("return document.getElementById('cutText').value")
     assert text.count("[Event") == 1 and bad in text.replace("\n", " "), text
     type_ = "const e = document.getElementById('cutText'); e.value = a[0]; e.dispatchEvent(new Event('input'))"
