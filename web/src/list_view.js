@@ -194,6 +194,7 @@ function drawRows() {
   const by = JSON.stringify(ui);
   drawnAgain(() => put('rows', rowsView()), drawnBy === by);
   drawnBy = by;
+  nameSaves();
 }
 /** The list, in its frame, which stays, and with it what is being typed there. */
 export function drawList() {
@@ -224,11 +225,22 @@ export function paperList() {
     table(wordsNamed('list-heads'), entries, entry => cellsOf(entry, entry.number || '\u2013', NONE))
   ];
 }
-/** The facts of all studies are found first. Spreadsheets take the letters for UTF-8 by the mark at the front. */
+/**
+ * The entries that are shown, as a file, in their order. The facts of all studies are found first. Spreadsheets take
+ * the letters for UTF-8 by the mark at the front.
+ */
 async function saveList() {
   await reviewAll(doc(), true);
-  download(`${doc().name || 'studies'}.csv`, '\ufeff' + csvOf(knownEntries(doc())));
+  download(`${doc().name || 'studies'}.csv`, '\ufeff' + csvOf(shownEntries()));
 }
 function saveSheet() {
-  download(`${doc().name || 'studies'}.sheet.html`, sheetOf(doc(), doc().name || $('studiesTitle').textContent));
+  const title = doc().name || $('studiesTitle').textContent;
+  download(`${doc().name || 'studies'}.sheet.html`, sheetOf(doc(), title, shownStudies()));
+}
+/** What the buttons save: of a filtered list what is shown, and a report of all studies. */
+export function nameSaves() {
+  const all = knownEntries(doc()).length, shown = shownEntries().length, few = shown < all;
+  for (const [id, words, more] of [['saveList', 'Save list', `${shown} of ${all}`],
+         ['saveSheet', 'Save sheet', `${shown} of ${all}`], ['saveReport', 'Save report', `all ${all}`]])
+    if ($(id)) $(id).textContent = few ? `${words} (${more})` : words;
 }

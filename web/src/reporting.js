@@ -84,7 +84,7 @@ function printedLines(d) {
   }
   return reportedLines({...d, lines});
 }
-/** How the report says that the line of a bad move was refused: it has a word too many, or letters that are no ASCII. */
+/** The report's words for the line of a bad move: it has a word too many, or letters that are no ASCII. */
 const REFUSED =
   /<p class="warn">Line \d+ was refused: <code>insert \S+ (\S+ [^<]+)<\/code> <b>Bad(Arguments|Byte)<\/b>[^<]*<\/p>/g;
 /** @param {string} text */

@@ -28,14 +28,15 @@ function captionOf(s, number) {
   ];
 }
 /**
- * The studies of a script as a page in HTML.
+ * Studies of a script as a page in HTML.
  * @param {{lines: string[], studies: Study[]}} doc
  * @param {string} title
+ * @param {number[]} shown      which studies, in their order
  */
-export function sheetOf(doc, title) {
+export function sheetOf(doc, title, shown) {
   const numbers = numbersOf(doc), defs = document.querySelector('svg.defs');
-  const figures = doc.studies.map(
-    (s, at) => h('figure', {}, diagramOf(s.fen, true), h('figcaption', {}, captionOf(s, numbers[at] || `${at + 1}`))));
+  const figures = shown.map(at => ({s: doc.studies[at], at})).map(({s,
+    at}) => h('figure', {}, diagramOf(s.fen, true), h('figcaption', {}, captionOf(s, numbers[at] || `${at + 1}`))));
   const page =
     h('html', {lang: 'en'}, h('head', {}, h('meta', {charset: 'utf-8'}), h('title', {}, title), h('style', {}, STYLE)),
       h('body', {}, defs && defs.cloneNode(true), h('div', {class: 'sheet'}, figures)));

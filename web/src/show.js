@@ -18,7 +18,7 @@ import {redrawJudged, setupView} from './setup_view.js';
 import {checkWhole, openText} from './opening.js';
 import {importView} from './import_view.js';
 import {cutView, gameView} from './mend_view.js';
-import {drawList, listFrom, markShown, studyBeside} from './list_view.js';
+import {drawList, listFrom, markShown, nameSaves, studyBeside} from './list_view.js';
 import {knownEntries, later} from './list_facts.js';
 import {nameOf} from './entries.js';
 import {menuText} from './entry_list.js';
@@ -257,6 +257,7 @@ function showBar() {
   $('studies').value = d.at;
   $('more').disabled = !d.studies.length;
   for (const id of ['saveScript', 'savePgn', 'savePlain', 'saveReport', 'print']) $(id).disabled = !d.lines.length;
+  nameSaves();
 }
 export function showProgress() {
   const p = app.progress;

@@ -205,6 +205,12 @@ def test_the_list(user):
     user.press_on("[data-kind=mistake]")
     user.settle()
     assert user.js(ROWS) == ["Three"] and "fails at 1. b4: 1... K" in user.text("list"), user.text("list")
+    name, text = user.download("saveList")
+    assert text.count("\n") == 2 and "Three" in text and user.text("saveList") == "Save list (1 of 4)", text
+    name, text = user.download("saveSheet")
+    assert text.count("<figure>") == 1 and "<b>3. White to win</b>" in text, text
+    name, text = user.download("saveReport")
+    assert text.count("<article id=") == 3 and "(all 4)" in user.js("return saveReport.textContent")
     user.press_on("[data-kind=mistake]")
     user.settle()
     assert "same position as No. 2 (mirrored), No. 3" in user.text("list"), user.text("list")
@@ -214,6 +220,7 @@ def test_the_list(user):
     assert name == "entries.checked.sheet.html" and text.count("<figure>") == 3 and "1. White to win" in text
     name, text = user.download("saveList")
     assert "First fault,Same position" in text and "fails at 1. b4: 1... K" in text
+    assert user.text("saveList") == "Save list" and text.count("\n") == 5, text
 
 
 def test_accepted_duals(user):
