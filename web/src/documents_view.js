@@ -8,6 +8,7 @@ import {inOrder, nameInList} from './heads.js';
 import {tooLong} from './limits.js';
 import {sortHead, table} from './table.js';
 import {services} from './state.js';
+import {counted} from './words.js';
 /** @typedef {import('./heads.js').Head} Head */
 
 let elsewhere = new Set();
@@ -138,13 +139,22 @@ function wholeList(all) {
   const head = (/** @type {string} */ text, /** @type {string} */ by) =>
     sortHead(text, by, ui.order, order => set({order}));
   return [
-    tickedView(all),
+    h('p', {class: 'note', id: 'howMany'}, `${counted(all.length, 'document')}.`), tickedView(all),
     table(['', head('Document', 'name'), head('Verdict', 'verdict'), head('Changed', 'time'), ''],
       inOrder(all, ui.order.by, ui.order.back),
       one => [tickView(one, all), nameView(one, all), one.verdict || '–', when(one.time), actionsView(one, all)])
   ];
 }
 const UNKEPT = 'This browser keeps nothing for this page: save each script as a file.';
+/** Draws the panel, with as many rows of the list as there were, and scrolled as far. */
+function drawPanel(/** @type {any[]} */...parts) {
+  const panel = $('documents'), top = panel.scrollTop, rows = () => panel.querySelectorAll('tbody tr').length,
+        count = rows();
+  put('documents', ...parts);
+  for (let more = panel.querySelector('.more'); more && rows() < count; more = panel.querySelector('.more'))
+    more.click();
+  panel.scrollTop = top;
+}
 /** The list over the page, by its button in the bar. */
 export function showDocuments() {
   if ($('documents').hidden) return;
@@ -156,7 +166,7 @@ export function showDocuments() {
   const note = h('p', {class: 'note'},
     'Each script that was begun or opened, as this browser keeps it, with its undo. Save as a file what is to last.');
   const back = () => h('p', {}, button('All documents', 'back to the list', end, {id: 'endComparing'}));
-  put('documents', panelHead(comparing ? 'Two versions' : 'Documents', close, 'closeDocuments'),
+  drawPanel(panelHead(comparing ? 'Two versions' : 'Documents', close, 'closeDocuments'),
     comparing ? [back(), comparingView()]
               : [note, all.length ? wholeList(all) : h('p', {}, $('unkept').hidden ? 'None yet.' : UNKEPT)]);
 }

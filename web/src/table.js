@@ -9,7 +9,20 @@ const FIRST = 60, SLICE = 300;
 const headView = head =>
   (head && head.sort ? h('th', {scope: 'col', 'aria-sort': head.sort}, head.kid) : h('th', {scope: 'col'}, head));
 /**
- * A table; of a long one the first rows, and more on demand.
+ * Has more rows drawn as soon as the button for them comes into sight.
+ * @param {any} more
+ * @param {() => void} on
+ */
+function whenSeen(more, on) {
+  if (!globalThis.IntersectionObserver) return;
+  const watch = new IntersectionObserver(seen => {
+    if (!more.isConnected) watch.disconnect();
+    else if (seen.some(({isIntersecting}) => isIntersecting)) on();
+  });
+  watch.observe(more);
+}
+/**
+ * A table; of a long one the first rows, and more as one scrolls down to their end, or by a button there.
  * @template T
  * @param {(SortHead | string)[]} head
  * @param {T[]} items
@@ -30,6 +43,7 @@ export function table(head, items, cells) {
   };
   const left = () => `Show ${Math.min(SLICE, items.length - shown)} more of ${items.length - shown}`;
   const more = h('button', {class: 'chip act more', onclick: on}, left());
+  if (items.length > FIRST) whenSeen(more, on);
   return h('div', {class: 'scroll'}, h('table', {}, h('thead', {}, h('tr', {}, head.map(headView))), body),
     items.length > FIRST && more);
 }

@@ -328,6 +328,24 @@ def tick(user, title):
     user.settle()
 
 
+def test_many_documents(user):
+    """At the head of the list stands how many there are; the rest comes as one scrolls, and stays while one ticks."""
+    user.promise("studyboard.open(a[0])", f"position {FEN}\nstipulate white win\ntag Event First\n")
+    user.settle()
+    user.click("documentsButton")
+    for _ in range(75):
+        user.press_on("[data-copy]")
+    rows = "document.querySelectorAll('#documents tbody tr').length"
+    assert user.text("howMany") == "76 documents." and user.js(f"return {rows}") == 60
+    user.js("const panel = document.getElementById('documents'); panel.scrollTop = panel.scrollHeight")
+    user.until(f"{rows} === 76", 10)
+    box = "document.querySelectorAll('#documents [data-tick]')[70]"
+    user.js(f"{box}.scrollIntoView(); {box}.click()")
+    user.settle()
+    assert user.js(f"return {rows}") == 76 and user.js("return document.getElementById('documents').scrollTop") > 0
+    assert user.js(f"return {box}.checked")
+
+
 def test_several_are_removed(user):
     user.open_tables(TABLES, SMALL)
     for name in ("First", "Second", "Third"):
