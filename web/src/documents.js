@@ -133,6 +133,11 @@ export const openKept = id => work(async () => {
   services.show();
 });
 /**
+ * A document that was open before.
+ * @param {string} id      its own
+ */
+export const openAgain = id => openKept(keeper.placeOf(id));
+/**
  * One more version of a kept document.
  * @param {string} id
  */

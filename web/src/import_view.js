@@ -4,6 +4,7 @@ import {h, smallButton} from './dom.js';
 import {track} from './actions.js';
 import {CODE_PAGES, textIn} from './code_pages.js';
 import {remedyOf} from './cut_game.js';
+import {joinView} from './joining.js';
 import {leftOutBy} from './left_out.js';
 import {asked, gamesWithoutAim, openHeld, readAs} from './mending.js';
 import {lastOpened, openPgn} from './opening.js';
@@ -112,5 +113,5 @@ export function importView(anew) {
   const last = lastOpened(), parts = last ? [aimsView(last), ...(last.id ? [] : heldView(last)), codesView(last)] : [];
   if (last && !last.id && parts.some(Boolean))
     return [h('p', {class: 'note', id: 'tried'}, last.said), ...parts, askView()];
-  return anew ? null : [noteView(doc().note), ...parts, askView()];
+  return anew ? null : [noteView(doc().note), ...parts, askView(), joinView()];
 }

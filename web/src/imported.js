@@ -118,6 +118,11 @@ export function documentOf(lines) {
 /** What the page writes where the user states another stipulation. */
 const BY_HAND = 'stipulated by hand', HAND = 'hand';
 /**
+ * The remark that gives a number to a study which the user has made.
+ * @param {number} game
+ */
+export const numberRemark = game => `#! game ${game}, line 0: ${BY_HAND}`;
+/**
  * The game of a remark that says where a stipulation is from.
  * @param {string} row
  */

@@ -11,6 +11,7 @@ import {notKept, stillGone} from './not_kept.js';
 import {namesOf, notReadIn, remarksOf, saidInTail, withoutVerdicts} from './notes.js';
 import {replace} from './history.js';
 import {eachGame, gamesIn, rawLines, textLines, textOf} from './games.js';
+import {offerJoining} from './joining.js';
 import {numberedApart} from './numbering.js';
 import {foreignGames, foreignText, inUtf8} from './code_pages.js';
 import {cutOf, textRemarks} from './cut_game.js';
@@ -271,5 +272,7 @@ async function take(lines, where, name, note, id = freshId()) {
     lenient: true
   }),
     where);
-  if (where !== 'script' && doc() !== before) sayOpened(before);
+  if (where === 'script' || doc() === before) return;
+  offerJoining(before);
+  sayOpened(before);
 }

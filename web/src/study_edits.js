@@ -2,7 +2,8 @@
 // Whole studies of a script: copied, moved up and down, removed. Each is written so that it stands alone wherever it
 // comes to.
 import {isAimLine, isKnown, unknown} from './edits.js';
-import {asCopied, namesOfGame} from './imported.js';
+import {asCopied, namesOfGame, numberRemark} from './imported.js';
+import {numbersOf} from './numbering.js';
 import {TAGS, isEdit, isQuestion, wordsOf} from './script.js';
 import {aimWords} from './words.js';
 /** @typedef {import('./types.js').Study} Study @typedef {import('./types.js').Change} Change */
@@ -73,6 +74,33 @@ export const aloneLines = (lines, study) => named(lines, study, TAGS.filter(name
  * @param {Study} study
  */
 export const copiedLines = (lines, study) => aloneLines(lines, study).flatMap(asCopied);
+/**
+ * The lines of a document in which each study keeps its number whatever comes behind it: one that is no game of a file
+ * has a remark with it.
+ * @param {import('./types.js').Script} doc
+ */
+function withOwnNumbers(doc) {
+  const numbers = numbersOf(doc), lines = [...doc.lines];
+  for (let i = doc.studies.length - 1; i >= 0; i--) {
+    const {from, origin} = doc.studies[i];
+    if (!origin.game && /^\d+$/.test(numbers[i])) lines.splice(from, 0, numberRemark(Number(numbers[i])));
+  }
+  return lines;
+}
+/**
+ * The lines of two documents as those of one; the studies of the second one take over nothing from the first.
+ * @param {import('./types.js').Script} first
+ * @param {import('./types.js').Script} second
+ */
+export function joinedLines(first, second) {
+  const names = TAGS.filter(name => first.studies.some(s => isKnown(s.tags[name]))), [s] = second.studies,
+        lines = withOwnNumbers(first), rest = second.lines.slice(s.end);
+  while (lines.length && !lines[lines.length - 1].trim()) lines.pop();
+  return [
+    ...lines, '', ...second.lines.slice(0, s.head), ...selfContained(second.lines, s, names),
+    ...(rest.length && rest[0].trim() ? [''] : []), ...rest
+  ];
+}
 /**
  * The lines of entries behind a study whose positions were refused, which go with it.
  * @param {string[]} lines

@@ -11,7 +11,7 @@ import {numberedApart, numbersOf, placeAtRow, reportNumbers, withNumbers} from '
 import {savedGames} from '../src/saved_games.js';
 import {withReasons} from '../src/reporting.js';
 import {stampOf} from '../src/stamps.js';
-import {copiedLines, copyStudy} from '../src/study_edits.js';
+import {copiedLines, copyStudy, joinedLines} from '../src/study_edits.js';
 import {gamesWithoutPart, tailIn, tailText, wayTo} from '../src/tails.js';
 
 const HEADING = '#! tail 2 of 3 of game 4, node 0.1.0, after 5. cxb8=Q, beside the solution';
@@ -184,4 +184,18 @@ test('the report says which move of which game was not read, and why, in words',
   assert.equal(
     said[1], '<p class="warn">No. 5: 7... Kh9 was not read: the saved game says that it was not read from here on');
   assert.equal(said[2] + '</p>', refused('Kh1 Kh2'));
+});
+test('of two documents as one each study is what it was alone, and no two games have one number', () => {
+  const game = n => [`#! game ${n}, line ${n}: stipulated by its comment`, 'position F', 'stipulate white win',
+          `tag White Author ${n}`, ''],
+        first =
+          assumeAccepted([...game(1), 'position F', 'stipulate white win', 'tag White Nobody', '', ...game(2), '']),
+        second = assumeAccepted(['build KK', '', 'position G', 'stipulate black draw', 'tag Event X', '', ...game(1)]);
+  const d = assumeAccepted(numberedApart(joinedLines(first, second)));
+  assert.deepEqual(d.studies.map(({fen, tags}) => [fen, tags.White, tags.Event]), [
+    ['F', 'Author 1', undefined], ['F', 'Nobody', undefined], ['F', 'Author 2', undefined], ['G', '?', 'X'],
+    ['F', 'Author 1', 'X']
+  ]);
+  assert.deepEqual(d.studies.map(({aim}) => aim.hero), ['White', 'White', 'White', 'Black', 'White']);
+  assert.deepEqual([numbersOf(first), numbersOf(d)], [['1', '3', '2'], ['1', '3', '2', '5', '4']]);
 });

@@ -489,7 +489,7 @@ def test_a_file_goes_back_as_its_authors(user):
         "{Gewinn} 1. Kg3 $3 {the key} 1... Kf5 (1... Kh5 $1 {und ...Kg5}) 2. Kf3 $1 1-0",
         "{Black to move and draw} 1... Ke5 (1... Kc5 $2 {fails} 2. Kc3) 1/2-1/2",
     ], moves
-    opened(user, "entries.checked.pgn", saved, "document.getElementById('import').innerText === ''")
+    opened(user, "entries.checked.pgn", saved, "!document.getElementById('notKept')")
     assert user.download("savePgn") == ("entries.checked.pgn", saved)
     user.choose("aimGoal", "draw")
     assert "stipulated by hand" in script(user) and user.text("stamp") == "wrong: White wins", script(user)

@@ -387,6 +387,32 @@ def test_several_files_at_once(user):
     user.until("document.querySelectorAll('#documents tbody tr').length >= 2")
 
 
+def test_two_files_as_one_document(user):
+    """A second file can be put behind the first, with numbers that go on; Undo takes it away again."""
+    game = '[Event "{}"]\n[White "{}"]\n[FEN "8/8/8/6k1/8/8/1P5K/8 w - - 0 1"]\n\n{{White to win}} 1. Kg3 *\n\n'
+    both = game.format("One", "A") + game.format("Two", "B")
+    files = (("first", "One", both), ("second", "Three", game.format("Three", "C")))
+    for name, title, text in files:
+        user.open_file(name + ".pgn", text)
+        user.until(f"document.getElementById('head').innerText.includes('{title}')", 60)
+        user.settle()
+        assert user.has("join") == (name == "second")
+        if name == "first":
+            user.click("copyStudy")
+            user.settle()
+    assert "Before stood first" in user.text("join") and "with 3 studies" in user.text("join"), user.text("join")
+    user.click("joinFiles")
+    user.until("document.querySelectorAll('#list tbody tr').length === 4", 60)
+    user.settle()
+    cells = "row => [0, 1].map(i => row.cells[i].innerText)"
+    rows = user.js(f"return [...document.querySelectorAll('#list tbody tr')].map({cells})")
+    assert rows == [["1", "One"], ["3", "One"], ["2", "Two"], ["4", "Three"]], rows
+    assert user.text("head").startswith("Three") and "from No. 4 on" in user.text("sayBoard"), user.text("sayBoard")
+    user.click("undo")
+    user.settle()
+    assert user.js("return document.querySelectorAll('#list tbody tr').length") == 3
+
+
 def test_a_link_to_the_study(user):
     sample(user)
     user.js(

@@ -1,0 +1,61 @@
+// @ts-check
+// Two files as one document: the studies of the one that was opened come behind those of the document before.
+import {h, smallButton} from './dom.js';
+import {change, track} from './actions.js';
+import {learn} from './answer_cache.js';
+import {openAgain} from './documents.js';
+import {studyName} from './entries.js';
+import {numberedApart, numbersOf} from './numbering.js';
+import {app, doc, say, services} from './state.js';
+import {joinedLines} from './study_edits.js';
+import {counted} from './words.js';
+/** @typedef {import('./types.js').Doc} Doc */
+
+/** The document that was opened last, and the one that stood there before. */
+let opened = /** @type {{id: string, before: Doc} | null} */ (null);
+/**
+ * Offers to join them, where a kept document with studies stood there before.
+ * @param {Doc} before
+ */
+export function offerJoining(before) {
+  const isKept = before.studies.length > 0 && before.id !== '' && before.id !== app.looked;
+  if (before.id !== doc().id) opened = isKept ? {id: doc().id, before} : null;
+}
+/** @param {Doc} d */
+const nameOf = d => d.name || studyName(d.studies[0]);
+/**
+ * The studies that are shown come behind those of the document before, which is shown then.
+ * @param {Doc} second
+ * @param {Doc} before
+ */
+async function join(second, before) {
+  await openAgain(before.id);
+  if (doc().id === second.id || !doc().studies.length) return;
+  const first = doc(), at = first.studies.length, lines = joinedLines(first, second);
+  await learn(lines);
+  const done = await change(now => (now.lines !== first.lines ? null : {
+    lines: numberedApart(lines),
+    note: [now.note, second.note].filter(Boolean).join(' '),
+    name: now.note ? now.name : now.name && `${now.name}.joined`,
+    at,
+    path: 'root',
+    lenient: true
+  }));
+  if (!done || doc().studies.length <= at) return;
+  const number = numbersOf(doc())[at];
+  say('board',
+    `The studies of ${nameOf(second)} stand behind those of ${nameOf(before)}${
+      number && `, from No. ${number} on`}. Undo takes them away again.`,
+    true);
+  services.show();
+}
+/** What joins the document that was opened with the one before. */
+export function joinView() {
+  const second = doc();
+  if (!opened || opened.id !== second.id || !second.studies.length || !second.judged) return null;
+  const {before} = opened, n = counted(second.studies.length, 'study', 'studies');
+  return h('p', {class: 'row', id: 'join', role: 'group', 'aria-label': 'The document before'},
+    `Before stood ${nameOf(before)}, with ${counted(before.studies.length, 'study', 'studies')}. `,
+    smallButton(`Put ${second.studies.length === 1 ? 'this study' : `these ${n}`} behind it`,
+      'one document of both files', () => track(join(second, before)), {id: 'joinFiles'}));
+}
