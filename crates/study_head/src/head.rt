@@ -1,5 +1,5 @@
 //! The head of a page, and the diagram with what is below it.
-ghost use Rattle.std.specs.Prelude.{◌≡◌, ◌++◌, OnOk, IfOk};
+ghost use Rattle.std.specs.Prelude.{◌≡◌, ◌++◌, OnOk};
 ghost use Rattle.study_marks.specs.BenchState.{marked_study};
 ghost use Rattle.study_marks.specs.Study.{tag_of};
 ghost use Rattle.study_marks.specs.declared.tag.TagName.TheVariants as tag;
@@ -7,7 +7,7 @@ ghost use Rattle.study_html.specs.Elements.{element_text};
 ghost use Rattle.study_html.specs.Escape.{escaped_text, lettered_text};
 ghost use Rattle.study_pgn.specs.Pgn.{stipulation_text};
 ghost use Rattle.study_head.specs.Counts.{counts_words};
-ghost use Rattle.study_head.specs.Known.{named_words};
+ghost use Rattle.study_head.specs.Known.{named_words, date_words};
 ghost use Rattle.study_head.specs.Head.{title_words, behind, byline_item, round_words, byline, head, moves_first, men_words, caption, figure};
 
 use crate::diagram::{add_control, draw_board};
@@ -77,26 +77,76 @@ fn add_round<A: Allocator>(text: &mut Text<'_, A>, round: &[u8]) -> Result<(), A
     text.add(round)
 }
 
-/// Author, place, date and entry.
-fn say_byline<'a, 'b, A: Allocator, B: Allocator>(
+/// The author, or the place.
+fn say_name<'a, 'b, A: Allocator, B: Allocator>(
     alloc: &'a A,
+    html: &mut Html<'_, A>,
+    bench: &Bench<'b, B>,
+    name: TagName,
+    own: &Name,
+) -> Result<(), AllocError>
+    ensures { OnOk result (html.new
+        ≡ byline_item (named_words own.now (tag_of (marked_study bench.now).tags name)) html.old) }
+{
+    let words = named_tag(alloc, bench, name, own)?;
+    say_known(html, words.as_slice())
+}
+
+fn say_date<'a, 'b, A: Allocator, B: Allocator>(
+    alloc: &'a A,
+    html: &mut Html<'_, A>,
+    bench: &Bench<'b, B>,
+    own: &Name,
+) -> Result<(), AllocError>
+    ensures { OnOk result (html.new ≡ byline_item
+        (date_words (named_words own.now (tag_of (marked_study bench.now).tags tag.Date))) html.old) }
+{
+    let date = named_tag(alloc, bench, TagName::Date, own)?;
+    say_known(html, date_words(date.as_slice()))
+}
+
+/// `entry 5`, after what is known before it.
+fn say_entry<'a, A: Allocator>(
+    alloc: &'a A,
+    html: &mut Html<'_, A>,
+    round: &[u8],
+) -> Result<(), AllocError>
+    ensures { OnOk result (html.new ≡ byline_item (round_words round.now) html.old) }
+{
+    let mut entry = Text::new(alloc);
+    add_round(&mut entry, round)?;
+    say_known(html, entry.as_slice())
+}
+
+fn say_round<'a, 'b, A: Allocator, B: Allocator>(
+    alloc: &'a A,
+    html: &mut Html<'_, A>,
+    bench: &Bench<'b, B>,
+    own: &Name,
+) -> Result<(), AllocError>
+    ensures { OnOk result (html.new ≡ byline_item
+        (round_words (named_words own.now (tag_of (marked_study bench.now).tags tag.Round))) html.old) }
+{
+    let round = named_tag(alloc, bench, TagName::Round, own)?;
+    say_entry(alloc, html, round.as_slice())
+}
+
+/// Author, place, date and entry.
+fn put_byline<'a, 'b, A: Allocator, B: Allocator>(
+    alloc: &'a A,
+    html: &mut Html<'_, A>,
     bench: &Bench<'b, B>,
     names: &Names,
-) -> Result<Html<'a, A>, AllocError>
-    ensures { IfOk result (λ html. html ≡ byline names.now (marked_study bench.now).tags) }
+) -> Result<(), AllocError>
+    ensures { OnOk result (html.new ≡ html.old
+        ++ element_text Element.Byline (byline names.now (marked_study bench.now).tags)) }
 {
-    let mut html = Html::new(alloc);
-    let mut entry = Text::new(alloc);
-    let white = named_tag(alloc, bench, TagName::White, &names.white)?;
-    let site = named_tag(alloc, bench, TagName::Site, &names.site)?;
-    let date = named_tag(alloc, bench, TagName::Date, &names.date)?;
-    let round = named_tag(alloc, bench, TagName::Round, &names.round)?;
-    add_round(&mut entry, round.as_slice())?;
-    say_known(&mut html, white.as_slice())?;
-    say_known(&mut html, site.as_slice())?;
-    say_known(&mut html, date_words(date.as_slice()))?;
-    say_known(&mut html, entry.as_slice())?;
-    Ok(html)
+    let mut byline = Html::new(alloc);
+    say_name(alloc, &mut byline, bench, TagName::White, &names.white)?;
+    say_name(alloc, &mut byline, bench, TagName::Site, &names.site)?;
+    say_date(alloc, &mut byline, bench, &names.date)?;
+    say_round(alloc, &mut byline, bench, &names.round)?;
+    html.put(Element::Byline, &byline)
 }
 
 /// The title, and below it author, place, date and entry.
@@ -111,8 +161,7 @@ pub fn put_head<'a, 'b, A: Allocator, B: Allocator>(
 {
     let mut within = Html::new(alloc);
     put_title(alloc, &mut within, bench, &names.event)?;
-    let byline = say_byline(alloc, bench, names)?;
-    within.put(Element::Byline, &byline)?;
+    put_byline(alloc, &mut within, bench, names)?;
     html.put(Element::Header, &within)
 }
 

@@ -17,12 +17,16 @@ use Rattle.study_head.specs.declared.solution.SolutionFacts.{SolutionFacts}
 use Rattle.study_head.specs.declared.verdict.Stamp.{Stamp}
 use Rattle.study_head.specs.Verdict.{stamp_words, first_fault, entry_judgement}
 
--- a refused line: its number, its text, the name of the refusal, and the reason in words
-unfoldable pub refusal_part : ℕ → List ℕ → List ℕ → List ℕ → List ℕ
-refusal_part line text name reason =
-    element_text Warning (escaped_text (codes "Line " ++ (decimal line ++ codes " was refused: "))
+-- what is said of a refused line
+unfoldable pub refusal_words : ℕ → List ℕ → List ℕ → List ℕ → List ℕ
+refusal_words line text name reason =
+    escaped_text (codes "Line " ++ (decimal line ++ codes " was refused: "))
     ++ (element_text Code (escaped_text text) ++ (escaped_text (codes " ")
-    ++ (element_text Strong (escaped_text name) ++ (escaped_text (codes ": ") ++ escaped_text reason)))))
+    ++ (element_text Strong (escaped_text name) ++ (escaped_text (codes ": ") ++ escaped_text reason))))
+
+-- a refused line: its number, its text, the name of the refusal, and the reason in words
+abbrev pub refusal_part : ℕ → List ℕ → List ℕ → List ℕ → List ℕ
+refusal_part line text name reason = element_text Warning (refusal_words line text name reason)
 
 -- the worst dual below a verdict, if there is one
 abbrev pub fault_note : List ℕ → List ℕ
@@ -51,8 +55,9 @@ abbrev pub summary_heads : List ℕ
 summary_heads =
     element_text Heads (element_text Row (two_heads (codes "No.") (codes "Title") ++ three_heads (codes "Author") (codes "Stipulation") (codes "Verdict")))
 
+unfoldable pub summary_title : List ℕ
+summary_title = element_text Header (element_text Title (escaped_text (codes "Entries and verdicts")))
+
 -- the page with these entries
-unfoldable pub summary_part : List ℕ → List ℕ
-summary_part rows =
-    element_text Summary (element_text Header (element_text Title (escaped_text (codes "Entries and verdicts")))
-    ++ element_text Table (summary_heads ++ element_text Rows rows))
+abbrev pub summary_part : List ℕ → List ℕ
+summary_part rows = element_text Summary (summary_title ++ element_text Table (summary_heads ++ element_text Rows rows))

@@ -1,5 +1,5 @@
 //! A study as a record of comma-separated values (RFC 4180).
-ghost use Rattle.std.specs.Prelude.{◌≡◌, ℕ, List, ◌++◌, OnOk, OnErr, IfOk, Err, decimal};
+ghost use Rattle.std.specs.Prelude.{◌≡◌, ℕ, List, ◌++◌, OnOk, OnErr, IfOk, Err, codes, decimal};
 ghost use Rattle.std.specs.List.{flat_map, list_any};
 ghost use Rattle.std.specs.Io.KnownBytes.{Appends};
 ghost use Rattle.study_text.specs.Taken.{TakesPrefix};
@@ -247,6 +247,50 @@ pub fn write_record<'a, 'b, A: Allocator, B: Allocator, V: Values, W: Write>(
     Ok(())
 }
 
+/// Adds `line 7: ` and the line.
+fn add_line<A: Allocator>(
+    text: &mut Text<'_, A>,
+    number: u32,
+    line: &[u8],
+) -> Result<(), AllocError>
+    ensures { OnOk result (text.new ≡ text.old
+        ++ (codes "line " ++ (decimal number ++ (codes ": " ++ line.now)))) }
+{
+    text.add(b"line ")?;
+    text.add_number(number)?;
+    text.add(b": ")?;
+    text.add(line)
+}
+
+/// Adds the column of a refused line.
+fn add_refused_line<'a, A: Allocator>(
+    alloc: &'a A,
+    text: &mut Text<'_, A>,
+    number: u32,
+    line: &[u8],
+) -> Result<(), AllocError>
+    ensures { OnOk result (text.new ≡ text.old
+        ++ column (codes "line " ++ (decimal number ++ (codes ": " ++ line.now)))) }
+{
+    let mut words = Text::new(alloc);
+    add_line(&mut words, number, line)?;
+    add_column(text, words.as_slice())
+}
+
+/// Adds the column with the name of a refusal.
+fn add_refusal<'a, A: Allocator>(
+    alloc: &'a A,
+    text: &mut Text<'_, A>,
+    name: &[u8],
+) -> Result<(), AllocError>
+    ensures { OnOk result (text.new ≡ text.old ++ column (codes "refused: " ++ name.now)) }
+{
+    let mut words = Text::new(alloc);
+    words.add(b"refused: ")?;
+    words.add(name)?;
+    add_column(text, words.as_slice())
+}
+
 #[tactic(auto, unfolding(crate::specs::Csv::refused_record))]
 fn add_refused<'a, A: Allocator>(
     alloc: &'a A,
@@ -257,18 +301,10 @@ fn add_refused<'a, A: Allocator>(
 ) -> Result<(), AllocError>
     ensures { OnOk result (text.new ≡ text.old ++ refused_record number line.now name.now) }
 {
-    let mut title = Text::new(alloc);
-    let mut verdict = Text::new(alloc);
-    title.add(b"line ")?;
-    title.add_number(number)?;
-    title.add(b": ")?;
-    title.add(line)?;
-    verdict.add(b"refused: ")?;
-    verdict.add(name)?;
     text.add(b",")?;
-    add_column(text, title.as_slice())?;
+    add_refused_line(alloc, text, number, line)?;
     text.add(b",,,")?;
-    add_column(text, verdict.as_slice())?;
+    add_refusal(alloc, text, name)?;
     text.add(b"\r\n")
 }
 

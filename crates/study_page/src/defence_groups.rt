@@ -5,6 +5,8 @@ ghost use Rattle.std.specs.Option.{option_map};
 ghost use Rattle.study_moves.specs.Rules.{is_legal};
 ghost use Rattle.study_moves.specs.LegalList.{legal_list};
 ghost use Rattle.study_facts.specs.Play.{IsPlayed};
+ghost use Rattle.study_html.specs.Elements.{element_text};
+ghost use Rattle.study_html.specs.Escape.{escaped_text};
 ghost use Rattle.study_page.specs.Rows.{is_answer, has_answer, defence_item, with_answer};
 ghost use Rattle.study_page.specs.Rows.{group, any_has, group_of, group_at, groups_from};
 ghost use Rattle.study_page.specs.Rows.{answered_words, as_after, elsewhere_words, answered_cell, remaining_words, main_cells, defence_row};
@@ -285,6 +287,23 @@ pub fn add_elsewhere<A: Allocator>(
     }
 }
 
+fn put_answered_words<'a, A: Allocator>(
+    alloc: &'a A,
+    html: &mut Html<'_, A>,
+    p: &Position,
+    elsewhere: &[u8],
+    list: &[Defence],
+) -> Result<(), AllocError>
+    requires { length list.now < 2 ^ 32 }
+    ensures { OnOk result (html.new ≡ html.old ++ element_text Element.Small
+        (escaped_text (answered_words p.now list.now ++ elsewhere.now))) }
+{
+    let mut text = Text::new(alloc);
+    add_answered(&mut text, p, list)?;
+    text.add(elsewhere)?;
+    put_words(alloc, html, Element::Small, text.as_slice())
+}
+
 /// The cell with the node, how many of the opponent's moves the tree has there, and what it has elsewhere.
 #[tactic(auto, unfolding(crate::specs::Rows::answered_cell))]
 fn put_answered<'a, A: Allocator>(
@@ -300,12 +319,9 @@ fn put_answered<'a, A: Allocator>(
         ++ answered_cell node.now p.now elsewhere.now list.now) }
 {
     let mut cell = Html::new(alloc);
-    let mut text = Text::new(alloc);
     cell.say(node)?;
     cell.draw(&Drawing::Break)?;
-    add_answered(&mut text, p, list)?;
-    text.add(elsewhere)?;
-    put_words(alloc, &mut cell, Element::Small, text.as_slice())?;
+    put_answered_words(alloc, &mut cell, p, elsewhere, list)?;
     html.put(Element::Cell, &cell)
 }
 

@@ -8,6 +8,8 @@ ghost use Rattle.study_marks.specs.BenchState.{marked_study};
 ghost use Rattle.study_marks.specs.Goals.{aim_of};
 ghost use Rattle.study_marks.specs.Study.{tag_of, plain_study};
 ghost use Rattle.study_marks.specs.declared.tag.TagName.TheVariants as tag;
+ghost use Rattle.study_html.specs.Elements.{element_text};
+ghost use Rattle.study_html.specs.Escape.{escaped_text};
 ghost use Rattle.study_head.specs.Known.{named_words};
 ghost use Rattle.study_pgn.specs.Pgn.{stipulation_text};
 ghost use Rattle.study_page.specs.Sheet.{number_words, author_line, first_words, second_words, key_words, place_caption, place, IsPlaceOf};
@@ -128,6 +130,34 @@ fn add_key<'b, A: Allocator, B: Allocator>(
     add_second(text, bench)
 }
 
+fn put_numbered<'a, 'b, A: Allocator, B: Allocator>(
+    alloc: &'a A,
+    html: &mut Html<'_, A>,
+    bench: &Bench<'b, B>,
+    number: u32,
+) -> Result<(), AllocError>
+    ensures { OnOk result (html.new ≡ html.old ++ element_text Element.Strong (escaped_text
+        (number_words number (stipulation_text (marked_study bench.now).stipulation)))) }
+{
+    let mut text = Text::new(alloc);
+    add_numbered(&mut text, bench, number)?;
+    put_words(alloc, html, Element::Strong, text.as_slice())
+}
+
+fn say_key<'a, 'b, A: Allocator, B: Allocator>(
+    alloc: &'a A,
+    html: &mut Html<'_, A>,
+    bench: &Bench<'b, B>,
+) -> Result<(), AllocError>
+    ensures { OnOk result (html.new ≡ html.old ++ escaped_text
+        (key_words (marked_study bench.now).start (aim_of (marked_study bench.now)).hero_first
+        (marked_study bench.now).tree.below)) }
+{
+    let mut text = Text::new(alloc);
+    add_key(&mut text, bench)?;
+    html.say(text.as_slice())
+}
+
 /// What is below the diagram.
 #[tactic(auto, unfolding(crate::specs::Sheet::place_caption))]
 fn put_place_caption<'a, 'b, A: Allocator, B: Allocator>(
@@ -144,15 +174,11 @@ fn put_place_caption<'a, 'b, A: Allocator, B: Allocator>(
         (marked_study bench.now).tree.below)) }
 {
     let mut within = Html::new(alloc);
-    let mut numbered = Text::new(alloc);
-    let mut key = Text::new(alloc);
-    add_numbered(&mut numbered, bench, info.number)?;
-    put_words(alloc, &mut within, Element::Strong, numbered.as_slice())?;
+    put_numbered(alloc, &mut within, bench, info.number)?;
     within.say(moves_first(bench.start().position.to_move()))?;
     say_author(alloc, &mut within, bench, &info.origin.names.white)?;
     within.draw(&Drawing::Break)?;
-    add_key(&mut key, bench)?;
-    within.say(key.as_slice())?;
+    say_key(alloc, &mut within, bench)?;
     html.put(Element::Caption, &within)
 }
 

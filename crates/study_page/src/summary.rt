@@ -1,5 +1,5 @@
 //! Refused lines, and the list of all entries.
-ghost use Rattle.std.specs.Prelude.{◌≡◌, ◌++◌, OnOk, IfOk, Err, decimal};
+ghost use Rattle.std.specs.Prelude.{◌≡◌, ◌++◌, OnOk, IfOk, Err, codes, decimal};
 ghost use Rattle.std.specs.Io.KnownBytes.{Appends};
 ghost use Rattle.study_text.specs.Taken.{TakesPrefix};
 ghost use Rattle.study_marks.specs.BenchState.{marked_study};
@@ -10,8 +10,8 @@ ghost use Rattle.study_html.specs.Elements.{element_text};
 ghost use Rattle.study_html.specs.Escape.{escaped_text, lettered_text};
 ghost use Rattle.study_head.specs.Known.{named_words};
 ghost use Rattle.study_head.specs.Head.{title_words};
-ghost use Rattle.study_head.specs.Verdict.{IsLegalStamp};
-ghost use Rattle.study_page.specs.Lists.{refusal_part, fault_note, verdict_cell, summary_row, two_heads, three_heads, summary_heads, summary_part};
+ghost use Rattle.study_head.specs.Verdict.{IsLegalStamp, stamp_words, first_fault};
+ghost use Rattle.study_page.specs.Lists.{refusal_words, refusal_part, fault_note, verdict_cell, summary_row, two_heads, three_heads, summary_title, summary_heads, summary_part};
 
 use std::alloc::{AllocError, Allocator};
 use std::io::Write;
@@ -39,8 +39,51 @@ fn put_number<'a, A: Allocator>(
     put_words(alloc, html, element, text.as_slice())
 }
 
+/// Adds `Line 7 was refused: `.
+fn add_refused_line<A: Allocator>(text: &mut Text<'_, A>, line: u32) -> Result<(), AllocError>
+    ensures { OnOk result (text.new ≡ text.old
+        ++ (codes "Line " ++ (decimal line ++ codes " was refused: "))) }
+{
+    text.add(b"Line ")?;
+    text.add_number(line)?;
+    text.add(b" was refused: ")
+}
+
+fn say_refused_line<'a, A: Allocator>(
+    alloc: &'a A,
+    html: &mut Html<'_, A>,
+    line: u32,
+) -> Result<(), AllocError>
+    ensures { OnOk result (html.new ≡ html.old
+        ++ escaped_text (codes "Line " ++ (decimal line ++ codes " was refused: "))) }
+{
+    let mut text = Text::new(alloc);
+    add_refused_line(&mut text, line)?;
+    html.say(text.as_slice())
+}
+
+/// What is said of a refused line.
+#[tactic(auto, unfolding(crate::specs::Lists::refusal_words))]
+fn say_refusal<'a, A: Allocator>(
+    alloc: &'a A,
+    html: &mut Html<'_, A>,
+    line: u32,
+    text: &[u8],
+    name: &[u8],
+    reason: &[u8],
+) -> Result<(), AllocError>
+    ensures { OnOk result (html.new ≡ html.old
+        ++ refusal_words line text.now name.now reason.now) }
+{
+    say_refused_line(alloc, html, line)?;
+    put_words(alloc, html, Element::Code, text)?;
+    html.say(b" ")?;
+    put_words(alloc, html, Element::Strong, name)?;
+    html.say(b": ")?;
+    html.say(reason)
+}
+
 /// The part with a refused line.
-#[tactic(auto, unfolding(crate::specs::Lists::refusal_part))]
 fn refusal_of<'a, A: Allocator>(
     alloc: &'a A,
     line: u32,
@@ -52,16 +95,7 @@ fn refusal_of<'a, A: Allocator>(
 {
     let mut html = Html::new(alloc);
     let mut part = Html::new(alloc);
-    let mut front = Text::new(alloc);
-    front.add(b"Line ")?;
-    front.add_number(line)?;
-    front.add(b" was refused: ")?;
-    part.say(front.as_slice())?;
-    put_words(alloc, &mut part, Element::Code, text)?;
-    part.say(b" ")?;
-    put_words(alloc, &mut part, Element::Strong, name)?;
-    part.say(b": ")?;
-    part.say(reason)?;
+    say_refusal(alloc, &mut part, line, text, name, reason)?;
     html.put(Element::Warning, &part)?;
     Ok(html)
 }
@@ -156,6 +190,32 @@ fn put_fault_note<'a, A: Allocator>(
     put_words(alloc, html, Element::Small, words)
 }
 
+fn say_stamp<'a, A: Allocator>(
+    alloc: &'a A,
+    html: &mut Html<'_, A>,
+    stamp: &Stamp,
+) -> Result<(), AllocError>
+    requires { IsLegalStamp stamp.now }
+    ensures { OnOk result (html.new ≡ html.old ++ escaped_text (stamp_words stamp.now)) }
+{
+    let mut verdict = Text::new(alloc);
+    add_stamp_words(&mut verdict, stamp)?;
+    html.say(verdict.as_slice())
+}
+
+fn put_first_fault<'a, A: Allocator>(
+    alloc: &'a A,
+    html: &mut Html<'_, A>,
+    stamp: &Stamp,
+    facts: &SolutionFacts,
+) -> Result<(), AllocError>
+    ensures { OnOk result (html.new ≡ html.old ++ fault_note (first_fault stamp.now facts.now)) }
+{
+    let mut fault = Text::new(alloc);
+    add_first_fault(&mut fault, stamp, facts)?;
+    put_fault_note(alloc, html, fault.as_slice())
+}
+
 /// The cell with a verdict, and below it the worst dual.
 #[tactic(auto, unfolding(crate::specs::Lists::verdict_cell))]
 fn put_verdict_cell<'a, A: Allocator>(
@@ -168,12 +228,8 @@ fn put_verdict_cell<'a, A: Allocator>(
     ensures { OnOk result (html.new ≡ html.old ++ verdict_cell stamp.now facts.now) }
 {
     let mut within = Html::new(alloc);
-    let mut verdict = Text::new(alloc);
-    let mut fault = Text::new(alloc);
-    add_stamp_words(&mut verdict, stamp)?;
-    within.say(verdict.as_slice())?;
-    add_first_fault(&mut fault, stamp, facts)?;
-    put_fault_note(alloc, &mut within, fault.as_slice())?;
+    say_stamp(alloc, &mut within, stamp)?;
+    put_first_fault(alloc, &mut within, stamp, facts)?;
     html.put(Element::Cell, &within)
 }
 
@@ -262,20 +318,40 @@ fn put_summary_heads<'a, A: Allocator>(
     html.put(Element::Heads, &within)
 }
 
+#[tactic(auto, unfolding(crate::specs::Lists::summary_title))]
+fn put_summary_title<'a, A: Allocator>(
+    alloc: &'a A,
+    html: &mut Html<'_, A>,
+) -> Result<(), AllocError>
+    ensures { OnOk result (html.new ≡ html.old ++ summary_title) }
+{
+    let mut head = Html::new(alloc);
+    put_words(alloc, &mut head, Element::Title, b"Entries and verdicts")?;
+    html.put(Element::Header, &head)
+}
+
+fn put_summary_table<'a, A: Allocator>(
+    alloc: &'a A,
+    html: &mut Html<'_, A>,
+    rows: &Html<'_, A>,
+) -> Result<(), AllocError>
+    ensures { OnOk result (html.new ≡ html.old
+        ++ element_text Element.Table (summary_heads ++ element_text Element.Rows rows.now)) }
+{
+    let mut table = Html::new(alloc);
+    put_summary_heads(alloc, &mut table)?;
+    table.put(Element::Rows, rows)?;
+    html.put(Element::Table, &table)
+}
+
 /// The page with these entries.
-#[tactic(auto, unfolding(crate::specs::Lists::summary_part))]
 fn summary_of<'a, A: Allocator>(alloc: &'a A, rows: &Html<'_, A>) -> Result<Html<'a, A>, AllocError>
     ensures { IfOk result (λ html. html ≡ summary_part rows.now) }
 {
     let mut html = Html::new(alloc);
-    let mut head = Html::new(alloc);
     let mut part = Html::new(alloc);
-    let mut table = Html::new(alloc);
-    put_words(alloc, &mut head, Element::Title, b"Entries and verdicts")?;
-    part.put(Element::Header, &head)?;
-    put_summary_heads(alloc, &mut table)?;
-    table.put(Element::Rows, rows)?;
-    part.put(Element::Table, &table)?;
+    put_summary_title(alloc, &mut part)?;
+    put_summary_table(alloc, &mut part, rows)?;
     html.put(Element::Summary, &part)?;
     Ok(html)
 }

@@ -1,6 +1,8 @@
 //! The part of a page with the verdict.
 ghost use Rattle.std.specs.Prelude.{◌≡◌, ◌++◌, OnOk};
-ghost use Rattle.study_head.specs.Verdict.{IsLegalStamp};
+ghost use Rattle.study_html.specs.Elements.{element_text};
+ghost use Rattle.study_html.specs.Escape.{escaped_text};
+ghost use Rattle.study_head.specs.Verdict.{IsLegalStamp, sentence, start_words};
 ghost use Rattle.study_page.specs.Verdict.{stamp_element, shows_duals, stamp_part, fault_list, verdict_part};
 
 use std::alloc::{AllocError, Allocator};
@@ -69,6 +71,33 @@ fn put_faults<A: Allocator>(
     html.put(Element::Faults, faults)
 }
 
+fn put_sentence<'a, A: Allocator>(
+    alloc: &'a A,
+    html: &mut Html<'_, A>,
+    judged: &Judgement,
+) -> Result<(), AllocError>
+    requires { IsLegalStamp judged.now.stamp }
+    ensures { OnOk result (html.new ≡ html.old ++ element_text Element.Paragraph
+        (escaped_text (sentence judged.now.empty judged.now.stamp))) }
+{
+    let mut text = Text::new(alloc);
+    add_sentence(&mut text, judged.empty, &judged.stamp)?;
+    put_words(alloc, html, Element::Paragraph, text.as_slice())
+}
+
+fn put_start_value<'a, A: Allocator>(
+    alloc: &'a A,
+    html: &mut Html<'_, A>,
+    judged: &Judgement,
+) -> Result<(), AllocError>
+    ensures { OnOk result (html.new ≡ html.old ++ element_text Element.Paragraph
+        (escaped_text (start_words judged.now.first judged.now.value))) }
+{
+    let mut text = Text::new(alloc);
+    add_start_value(&mut text, judged.first, judged.value)?;
+    put_words(alloc, html, Element::Paragraph, text.as_slice())
+}
+
 /// The part with the verdict: the stamp, what it says, the value of the start, and these faults.
 #[tactic(auto, unfolding(crate::specs::Verdict::verdict_part))]
 pub fn put_verdict<'a, A: Allocator>(
@@ -81,13 +110,9 @@ pub fn put_verdict<'a, A: Allocator>(
     ensures { OnOk result (html.new ≡ html.old ++ verdict_part judged.now faults.now) }
 {
     let mut part = Html::new(alloc);
-    let mut says = Text::new(alloc);
-    let mut start = Text::new(alloc);
     put_stamp(alloc, &mut part, &judged.stamp)?;
-    add_sentence(&mut says, judged.empty, &judged.stamp)?;
-    put_words(alloc, &mut part, Element::Paragraph, says.as_slice())?;
-    add_start_value(&mut start, judged.first, judged.value)?;
-    put_words(alloc, &mut part, Element::Paragraph, start.as_slice())?;
+    put_sentence(alloc, &mut part, judged)?;
+    put_start_value(alloc, &mut part, judged)?;
     put_faults(&mut part, &judged.stamp, faults)?;
     html.put(Element::Verdict, &part)
 }

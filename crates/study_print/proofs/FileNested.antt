@@ -27,7 +27,7 @@ use Rattle.study_entry.specs.declared.entry.EntryInfo.{EntryInfo}
 use Rattle.study_report.specs.declared.unread_line.Unread.{Unread}
 use Rattle.study_report.specs.Unread.{none_unread, unread_after}
 use Rattle.study_page.specs.Page.{IsEntry}
-use Rattle.study_page.specs.Lists.{refusal_part, summary_part, two_heads, three_heads}
+use Rattle.study_page.specs.Lists.{refusal_words, refusal_part, summary_title, summary_part, two_heads, three_heads}
 use Rattle.study_print.specs.declared.pages.EntryCount.{EntryCount}
 use Rattle.study_print.specs.declared.pages.EntryCount.TheVariants.{Nothing, One, Several}
 use Rattle.study_print.specs.Remarks.{left_out_words, left_out_part, fault_words, not_read_words, not_read_part, note_part, is_name, note_text, remark_text}
@@ -42,7 +42,7 @@ within : (e : Element) (i : List ℕ) → IsWellNested i → IsWellNested (eleme
 within e i h = inside_nested [] i e none_nested h
 
 refusal_nested : (number : ℕ) (text name reason : List ℕ) → IsWellNested (refusal_part number text name reason)
-unfolding refusal_part
+unfolding refusal_words
 refusal_nested number text name reason =
     within Warning _ (both_nested _ _ (word _) (both_nested _ _ (within Code _ (word text)) (both_nested _ _ (word _)
     (both_nested _ _ (within Strong _ (word name)) (both_nested _ _ (word _) (word reason))))))
@@ -115,7 +115,7 @@ heads_nested a b c d e =
     within Heads _ (within Row _ (both_nested _ _ (both_nested _ _ (head a) (head b)) (both_nested _ _ (head c) (both_nested _ _ (head d) (head e)))))
 
 list_nested : (rows : List ℕ) → IsWellNested rows → IsWellNested (summary_part rows)
-unfolding summary_part
+unfolding summary_title
 list_nested rows h =
     within element.Summary _ (both_nested _ _ (within Header _ (within Title _ (word _)))
     (within Table _ (both_nested _ _ (heads_nested _ _ _ _ _) (within Rows rows h))))

@@ -24,10 +24,13 @@ abbrev pub left_out_words : List ℕ → List ℕ
 left_out_words why = escaped_text why ++ explanation why
 
 -- a game that was left out: its number, its place among the games in place of a title, and the reason in place of a verdict
-unfoldable pub left_out_row : ℕ → List ℕ → List ℕ
-left_out_row number line =
-    element_text Row (element_text Cell (escaped_text (decimal number)) ++ (element_text Cell (escaped_text (subject line))
-    ++ (element_text Cell [] ++ (element_text Cell [] ++ element_text Cell (left_out_words (statement line))))))
+unfoldable pub left_out_cells : ℕ → List ℕ → List ℕ
+left_out_cells number line =
+    element_text Cell (escaped_text (decimal number)) ++ (element_text Cell (escaped_text (subject line))
+    ++ (element_text Cell [] ++ (element_text Cell [] ++ element_text Cell (left_out_words (statement line)))))
+
+abbrev pub left_out_row : ℕ → List ℕ → List ℕ
+left_out_row number line = element_text Row (left_out_cells number line)
 
 -- the row of a study is that of its annotation
 abbrev pub IsRowOf : Entry → List ℕ → Type 0

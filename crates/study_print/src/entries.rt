@@ -1,9 +1,9 @@
 //! The rows of games that were left out.
-ghost use Rattle.std.specs.Prelude.{◌≡◌, ◌++◌, OnOk, IfOk, IfErr, decimal};
+ghost use Rattle.std.specs.Prelude.{◌≡◌, ◌++◌, [], OnOk, IfOk, IfErr, decimal};
 ghost use Rattle.study_html.specs.Elements.{element_text};
 ghost use Rattle.study_html.specs.Escape.{escaped_text};
 ghost use Rattle.study_html.specs.declared.element.Element.TheVariants.{Cell};
-ghost use Rattle.study_print.specs.Entries.{left_out_words, left_out_row};
+ghost use Rattle.study_print.specs.Entries.{left_out_words, left_out_cells, left_out_row};
 
 use crate::left_out::say_explanation;
 use std::alloc::{AllocError, Allocator};
@@ -38,8 +38,31 @@ fn put_reason<'a, A: Allocator>(
     row.put(Element::Cell, &words)
 }
 
+/// Puts an empty cell.
+fn put_nothing<'a, A: Allocator>(alloc: &'a A, row: &mut Html<'_, A>) -> Result<(), AllocError>
+    ensures { OnOk result (row.new ≡ row.old ++ element_text Cell []) }
+{
+    row.put(Element::Cell, &Html::new(alloc))
+}
+
+/// Puts the cells of a game that was left out, as the entry with this number.
+#[tactic(auto, unfolding(crate::specs::Entries::left_out_cells))]
+fn put_left_out<'a, A: Allocator>(
+    alloc: &'a A,
+    row: &mut Html<'_, A>,
+    number: u32,
+    line: &[u8],
+) -> Result<(), AllocError>
+    ensures { OnOk result (row.new ≡ row.old ++ left_out_cells number line.now) }
+{
+    put_number(alloc, row, number)?;
+    put_words(alloc, row, Element::Cell, subject(line))?;
+    put_nothing(alloc, row)?;
+    put_nothing(alloc, row)?;
+    put_reason(alloc, row, statement(line))
+}
+
 /// The row of a game that was left out, as the entry with this number.
-#[tactic(auto, unfolding(crate::specs::Entries::left_out_row))]
 fn left_out_row<'a, A: Allocator>(
     alloc: &'a A,
     number: u32,
@@ -49,12 +72,7 @@ fn left_out_row<'a, A: Allocator>(
 {
     let mut html = Html::new(alloc);
     let mut row = Html::new(alloc);
-    let nothing = Html::new(alloc);
-    put_number(alloc, &mut row, number)?;
-    put_words(alloc, &mut row, Element::Cell, subject(line))?;
-    row.put(Element::Cell, &nothing)?;
-    row.put(Element::Cell, &nothing)?;
-    put_reason(alloc, &mut row, statement(line))?;
+    put_left_out(alloc, &mut row, number, line)?;
     html.put(Element::Row, &row)?;
     Ok(html)
 }
