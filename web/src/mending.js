@@ -1,15 +1,17 @@
 // @ts-check
 // Games with a bad move, opened up to there, and others that were left out: mended, and read again.
 import {change, track, work} from './actions.js';
+import {learn} from './answer_cache.js';
 import {withOwnWords} from './comments.js';
 import {asGame, cutBlock, cutOf, hasPosition, leftOutText, remedyOf, textIn} from './cut_game.js';
 import {$} from './dom.js';
-import {documentOf, noteAfter, studiesIn} from './imported.js';
+import {documentOf, isOfFile, noteAfter, studiesIn} from './imported.js';
 import {freshId} from './keep.js';
 import {NO_POSITION, canBeCut, isCutLine, leftOut, leftOutBy, whyLeftOut, withoutCut} from './left_out.js';
 import {refuseLong} from './limits.js';
 import {once} from './once.js';
 import {checkedName, importPgn, withRemarks} from './opening.js';
+import {withOwnHead} from './own_head.js';
 import {app, doc, say, services, study} from './state.js';
 import {partHere} from './tails.js';
 import {aimWords} from './words.js';
@@ -25,8 +27,9 @@ import {aimWords} from './words.js';
  */
 async function read(text, {game, line}, aim, upToFaults = false) {
   const bytes = new TextEncoder().encode(text), lines = await importPgn(bytes, aim, upToFaults),
-        [out = null] = leftOut(lines);
-  return {lines: asGame(await withRemarks(documentOf(lines), bytes), game, line), out};
+        [out = null] = leftOut(lines), made = asGame(await withRemarks(documentOf(lines), bytes), game, line);
+  await learn(made);
+  return {lines: made, out};
 }
 /**
  * The lines of a game up to its bad move; or why it has none. If it is left out for this move all the same, and not
@@ -165,10 +168,11 @@ const replaceStudy = (s, block, whole = false) => change(now => {
  * @param {string} text
  * @param {{game: number, line: number}} place
  * @param {string} where
+ * @param {string} [aim]      where it states none
  * @returns {Promise<string[]>} the lines of the game, or none
  */
-async function readMended(text, place, where) {
-  const aim = chosenAim(doc().studies), typed = `${text.trimEnd()}\n`;
+async function readMended(text, place, where, aim = chosenAim(doc().studies)) {
+  const typed = `${text.trimEnd()}\n`;
   if (refuseLong({id: `${where}Text`, value: text}, text)) return [];
   let got = /** @type {{lines: string[], out: LeftOut | null}} */ ({lines: [], out: null});
   await work(async () => {
@@ -196,10 +200,12 @@ const isOneGame = lines => lines.filter(line => line.startsWith('position ')).le
  * @param {string} text
  */
 export const readAgain = text => track((async () => {
-  const s = study(), cut = unreadText(), read = s ? await readMended(text, s.origin, 'cut') : [];
+  const s = study(), cut = unreadText(), aim = s && s.aim && !isOfFile(s.origin) ? aimWords(s.aim) : undefined,
+        read = s ? await readMended(text, s.origin, 'cut', aim) : [];
   if (!s || !cut || !read.length) return;
   const {head, end} = wholeOf(doc(), s), now = doc().lines.slice(head, end),
-               lines = withOwnWords(read, now, await readMended(cut.text + cut.rest, s.origin, 'cut'));
+               then = await readMended(cut.text + cut.rest, s.origin, 'cut', aim),
+               lines = withOwnHead(withOwnWords(read, now, then), now, then);
   if (lines.join('\n').trim() !== now.join('\n').trim()) return void await replaceStudy(s, lines, true);
   say('cut', 'It was read again, and ends at the same move.', true);
   services.show();

@@ -284,6 +284,26 @@ def test_a_game_with_a_bad_move_is_opened_up_to_there(user):
     assert [row[0] for row in rows(user)] == ["1", "2", "3"] and "The key" in script(user)
 
 
+def test_what_is_set_beside_a_bad_move_stays(user):
+    """Author, site and stipulation are set for a game up to its bad move; they stay once its text is read again."""
+    user.open_tables(TABLES, SMALL)
+    opened(user, "bad.pgn", game("One", "A", "1. Kg3 Kf5 2. Kf3 Ke5 3. Ke9"), "document.querySelector('[data-held]')")
+    user.press_on("[data-held]")
+    user.until("document.getElementById('cut')", 60)
+    user.settle()
+    for name, text in (("White", "Троицкий"), ("Site", "Praha")):
+        user.fill("tag" + name, text)
+    user.choose("aimGoal", "draw")
+    mend = "const e = document.getElementById('cutText'); e.value = e.value.replace('Ke9', 'Ke3');"
+    user.js(mend + "e.dispatchEvent(new Event('input', {bubbles: true}))")
+    user.click("readAgain")
+    user.until("!document.getElementById('cut')", 60)
+    user.settle()
+    assert "Троицкий" in user.text("head") and "Praha" in user.text("head"), user.text("head")
+    assert "stipulate white draw" in script(user) and "stipulated by hand" in script(user), script(user)
+    assert "insert 0.0.0.0 Ke3" in script(user) and "One" in user.text("head")
+
+
 def test_a_game_alone_with_a_bad_move(user):
     user.open_tables(TABLES, SMALL)
     opened(user, "mine.pgn", game("One", "A", "1. Kg3 Kf5 2. Kf9 Ke5"), "document.querySelector('[data-held]')")
