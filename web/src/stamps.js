@@ -101,15 +101,58 @@ export function faultyStamp({faults, stamp}) {
   };
 }
 /**
- * The stamp of a try, a part of a game beside the solution, as the printed page has it: refuted, if the hero does not
- * reach his goal there.
+ * Whether the hero does not reach his goal in a part of a game beside the solution.
  * @param {Study} s
- * @param {string} wrong      what is wrong with its stipulation
+ */
+const isRefuted = s =>
+  s.aim !== null && s.verdict === 'wrong' && wrongText(s.aim, s.verdict, s.start, s.fen) === missesText(s.aim);
+/**
+ * Whether two studies ask for the same.
+ * @param {Aim | null} one
+ * @param {Aim | null} two
+ */
+const sameGoal = (one, two) => one !== null && two !== null && one.hero === two.hero && one.goal === two.goal;
+/**
+ * The part of the same game that refutes a try which leads to this part too: the opponent can enter it in place of a
+ * move on the way to this one. What is refuted after moves of the hero that are not on that way proves nothing.
+ * @param {import('./types.js').Script} doc
+ * @param {Study} s
+ */
+function refutedIn(doc, {aim, origin}) {
+  const {game, node} = origin.tail || {game: 0, node: ''};
+  return doc.studies.find(other => {
+    const {tail = null, cut = null} = other.origin || {},
+                              before = tail && tail.game === game ? tail.node.split('.').slice(0, -1).join('.') : '';
+    return tail !== null && tail.beside && before !== '' && node !== tail.node && node.startsWith(`${before}.`) &&
+      !cut && !refusedIn(doc, other, isEdit) && sameGoal(aim, other.aim) && sideOf(other.fen) === aim?.hero &&
+      isRefuted(other);
+  });
+}
+/**
+ * The stamp of a part of a game beside the solution: refuted, if the hero does not reach his goal there. If he does,
+ * only a part that comes after another move of the opponent may show that the try is refuted.
+ * @param {import('./types.js').Script} doc
+ * @param {Study} s
  * @returns {{kind: string, text: string}}
  */
-function tryStamp({aim, verdict}, wrong) {
-  const misses = verdict === 'wrong' && aim !== null && wrong === missesText(aim);
-  return misses ? {kind: 'refuted', text: wordOf('refuted')} : {kind: 'works', text: wordOf('works')};
+function besideStamp(doc, s) {
+  if (isRefuted(s)) return {kind: 'refuted', text: wordOf('refuted')};
+  const part = refutedIn(doc, s)?.origin.tail, text = wordOf('works');
+  return part ? {kind: 'refuted', text: `${text}; the try is refuted in ${part.game}.${part.number}`}
+              : {kind: 'works', text};
+}
+/** What the printed page says of a part of a game beside its solution. */
+const REFUTED = 'This line is beside the solution, and from here it is refuted.',
+      WORKS = 'This line is beside the solution, and from here it works';
+/**
+ * What a stamp of a part of a game beside the solution means.
+ * @param {{text: string}} stamp
+ */
+export function besideSentence({text}) {
+  if (text === wordOf('refuted')) return REFUTED;
+  const [, refuted] = text.split('; ');
+  return refuted ? `${WORKS}; but ${refuted.replace('the try', 'the try that leads to it')}.`
+                 : `${WORKS}: a second solution, unless there is a better defence before.`;
 }
 /**
  * The stamp of a correct stipulation without a solution. Mate or stalemate on the board leaves nothing to give.
@@ -144,7 +187,7 @@ export function stampOf(doc, s, review) {
   if (s.origin && s.origin.cut) return {kind: 'not read', text: unreadIn(doc, s)};
   if (unread) return {kind: 'not read', text: `${unreadAt(unread)}, ${refusedText(unread)}`};
   if (!kind) return {kind: 'not judged', text: 'not judged'};
-  if (s.origin && s.origin.tail && s.origin.tail.beside) return tryStamp(s, wrong);
+  if (s.origin && s.origin.tail && s.origin.tail.beside) return besideStamp(doc, s);
   if (wrong || kind === 'wrong') return {kind: 'wrong', text: wrong || kind};
   if (kind === 'sound')
     return hasSolution(doc.lines, s, review) ? {kind, text: (review && review.stamp) || kind} : unsolved(s, review);

@@ -8,7 +8,7 @@ import {app, doc} from './state.js';
 import {insert} from './board_input.js';
 import {variation} from './fault_kinds.js';
 import {stipulate} from './edits.js';
-import {acceptedOf, stampOf, verdictsBefore} from './stamps.js';
+import {acceptedOf, besideSentence, stampOf, verdictsBefore} from './stamps.js';
 import {nodeAt, allNodes, judgedBy} from './parse_answers.js';
 import {promote, remove} from './node_view.js';
 import {
@@ -41,11 +41,12 @@ export function verdictView(s) {
   const view = app.view;
   if (!view) return notJudged();
   if (!s.aim || !view.verdict) return h('p', {class: 'say'}, 'No stipulation yet: choose who is to win or to draw.');
-  const {kind, text} = stampOf(doc(), {...s, verdict: view.verdict, start: view.start}, judgedBy(app.review, view));
+  const stamp = stampOf(doc(), {...s, verdict: view.verdict, start: view.start}, judgedBy(app.review, view)),
+        {kind, text} = stamp, beside = isBeside(s) ? besideSentence(stamp) : '';
   return [
     h('p', {class: 'verdict'}, h('span', {class: 'stamp ' + kind.replace(' ', '-'), id: 'stamp'}, text),
       h('span', {id: 'sentence'},
-        s.origin.cut ? `${CUT_SHORT}${atStart(view.start)}.` : verdictSentence(view, kind, isBeside(s)))),
+        s.origin.cut ? `${CUT_SHORT}${atStart(view.start)}.` : verdictSentence(view, kind, beside))),
     beforeView(s)
   ];
 }

@@ -104,21 +104,16 @@ export function numberedLast(fen, sans) {
   return `${number}${plies % 2 ? '...' : '.'} ${sans[sans.length - 1]}`;
 }
 
-/** What the printed page says of a part of a game beside its solution. */
-const REFUTED = 'This line is beside the solution, and from here it is refuted.',
-      WORKS = 'This line is beside the solution, and from here it works: a second solution, unless there is a better ' +
-  'defence before.';
 /**
  * The verdict and the value of the start: the sentences of the core.
  * @param {import('./types.js').View} view
  * @param {string} kind      of the stamp
- * @param {boolean} [beside]      whether the study is a part of a game beside its solution
+ * @param {string} [beside]      what the verdict means, of a part of a game beside its solution
  */
-export function verdictSentence(view, kind, beside = false) {
+export function verdictSentence(view, kind, beside = '') {
   const own = kind === 'not read' ? wordOf('unread-sentence')
-    : beside                      ? (kind === 'refuted' ? REFUTED : WORKS)
     : kind === 'over' ? `The stipulation is correct: ${view.over || 'mate'} stands on the board, and no move is left.`
-                      : '';
+                      : beside;
   return own ? `${own} ${atStart(view.start)}.` : view.sentence;
 }
 /** @param {{mark: string}} move */

@@ -6,7 +6,7 @@ import {textRemarks} from '../src/cut_game.js';
 import {setTag} from '../src/edits.js';
 import {byCause, entriesOf, nameOf, newlyRefused, studyName, unreadNote, withFacts} from '../src/entries.js';
 import {numbersOf} from '../src/numbering.js';
-import {hasSolution, stampOf} from '../src/stamps.js';
+import {besideSentence, hasSolution, stampOf} from '../src/stamps.js';
 import {countsOf, csvOf, isOfKind, menuText} from '../src/entry_list.js';
 import {judgedBy, readReview} from '../src/parse_answers.js';
 import {assumeAccepted} from '../src/assumed.js';
@@ -131,6 +131,34 @@ test('a part of a game with more than four men has its number in the game, and a
   assert.deepEqual(stamp(0, 'wrong'), {kind: 'wrong', text: 'does not win'});
   assert.deepEqual(stamp(1, 'wrong'), {kind: 'refuted', text: 'refuted'});
   assert.deepEqual(stamp(1, 'sound'), {kind: 'works', text: 'works from here'});
+});
+/** A try, 1. O-O, with two replies: after 1... Rf8 Black holds, after 1... Rh1+ White wins; and one more try. */
+const REPLIES = ['0, after 1. Rxh8+', '1.0, after 1... Rf8', '1.1, after 1... Rh1+', '2.0.0.0, after 2... Kf7'].flatMap(
+  (way, i) => [`#! tail ${i + 1} of 4 of game 1, node ${way}${i ? ', beside the solution' : ''}`, 'position ' + FEN,
+    'stipulate white win', 'pgn', '']);
+test('a part that comes after one of several defences says what is known of the try', () => {
+  const script = {...assumeAccepted(REPLIES), at: 0, path: 'root', name: '', id: 'x', note: '', judged: true};
+  const stamps = verdicts => {
+    const studies = script.studies.map((s, i) => ({...s, verdict: verdicts[i], start: 'draw'}));
+    return studies.slice(1).map(s => stampOf({...script, studies}, s, null));
+  };
+  const [refuted, beside, other] = stamps(['sound', 'wrong', 'sound', 'sound']);
+  assert.deepEqual(refuted, {kind: 'refuted', text: 'refuted'});
+  assert.deepEqual(beside, {kind: 'refuted', text: 'works from here; the try is refuted in 1.2'});
+  assert.deepEqual(other, {kind: 'works', text: 'works from here'});
+  assert.deepEqual(stamps(['sound', 'sound', 'sound', 'wrong'])[1], {kind: 'works', text: 'works from here'});
+  assert.equal(besideSentence(beside),
+    'This line is beside the solution, and from here it works; but the try that leads to it is refuted in 1.2.');
+  assert.equal(besideSentence(other),
+    'This line is beside the solution, and from here it works: a second solution, unless there is a better defence ' +
+      'before.');
+  assert.deepEqual(countsOf([refuted, beside, other]), [['works', 1], ['refuted', 2]]);
+});
+test('a refutation after moves of the hero that he need not make proves nothing of another defence', () => {
+  const lines = REPLIES.map(line => line.replace('node 1.0, after 1... Rf8', 'node 1.0.0.0, after 2... Kxf8')),
+        script = assumeAccepted(lines);
+  const studies = script.studies.map((s, i) => ({...s, verdict: i === 1 ? 'wrong' : 'sound', start: 'draw'}));
+  assert.equal(stampOf({...script, studies}, studies[2], null).text, 'works from here');
 });
 test('an entry stays an entry: its number is its place in the file, and its stipulation has a source', () => {
   const d = {...assumeAccepted(ENTRIES), at: 0, path: 'root', name: '', id: 'x', note: '', judged: true},

@@ -164,6 +164,11 @@ test('what is written is read and written again the same', () => {
   assert.ok(text.replace(/\s+/g, ' ').includes('2. Kf3 $1 {White mates in 27; dual 2} 1-0'), text);
   assert.equal(withNotes(dual, remarksOf(text)), text);
 });
+test('the verdict on a try is none of the author\'s words', () => {
+  for (const words of ['works from here', 'works from here; the try is refuted in 1.2', 'refuted'])
+    assert.deepEqual(remarksOf(`[Event "?"]\n\n{White to draw: ${words}, White mates in 5. Mine} 1. Kg3 1-0\n`),
+      ['#! note -: Mine', '#! result 1-0']);
+});
 test('a dual that a judge accepts is one when the game is read again', () => {
   const game = `[Event "?"]\n\n{White to win: unsound 1, White mates in 9} 1. Kg3! {White mates in 9} Kf5
 2. Kf3 $4 {White mates in 8; dual 2} 1-0\n\n`,
