@@ -4,6 +4,7 @@ import {$} from './dom.js';
 import {arrive, work} from './actions.js';
 import {app, doc, services, say} from './state.js';
 import {freshId, makeKeeper} from './keep.js';
+import {makeMended} from './mended.js';
 import {begin as firstOf} from './history.js';
 import {knownFacts} from './list_facts.js';
 import {fensOf} from './script.js';
@@ -34,6 +35,7 @@ const local = storage(() => localStorage), session = storage(() => sessionStorag
       SESSION = 'studyboard', LOCK = 'studyboard page ';
 const keeper = makeKeeper({local, page, factsOf: knownFacts});
 export const {list, headAt, linesOf} = keeper;
+export const mended = makeMended(local);
 
 /** Each page holds a lock of its name for as long as it stands open. */
 export function holdLock() {

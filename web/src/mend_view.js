@@ -1,14 +1,12 @@
 // @ts-check
 // A game that was read up to a bad move, or not at all: why, and a field to mend its text.
+import {mended} from './documents.js';
 import {button, h} from './dom.js';
 import {messageAt} from './head_view.js';
 import {whyLeftOut} from './left_out.js';
 import {beingMended, endHere, leaveMending, readAgain, readLeftOut, unreadText} from './mending.js';
-import {doc} from './state.js';
 /** @typedef {import('./types.js').Study} Study @typedef {import('./cut_game.js').CutText} CutText */
 
-/** What was typed and not read yet stays there, as long as the game is the same. */
-let typed = /** @type {{text: string, lines: string[], at: number} | null} */ (null);
 /**
  * The text of a game, apart at what is wrong with it: at a place among its moves, else at its position, or where its
  * stipulation would stand.
@@ -33,22 +31,15 @@ function showPlace(field, {text, rest}) {
   });
 }
 /**
- * A field with the text of a game.
+ * A field with the text of a game, or with what was typed in its place and not read yet.
  * @param {string} id
  * @param {CutText} game
- * @param {number} at      the place of its study, or less than 0
  */
-function textField(id, game, at) {
-  const {lines} = doc(), mine = typed && typed.lines === lines && typed.at === at;
-  const field = h('textarea', {
-    id,
-    spellcheck: 'false',
-    'aria-label': 'The text of the game',
-    oninput: () => {
-      typed = {text: field.value, lines, at};
-    }
-  });
-  field.value = mine && typed ? typed.text : game.text + game.rest;
+function textField(id, game) {
+  const text = game.text + game.rest;
+  const field = h('textarea',
+    {id, spellcheck: 'false', 'aria-label': 'The text of the game', oninput: () => mended.keep(text, field.value)});
+  field.value = mended.typedFor(text);
   showPlace(field, game);
   return field;
 }
@@ -56,7 +47,7 @@ function textField(id, game, at) {
 export function cutView(s) {
   const cut = s.origin && s.origin.cut, kept = cut && unreadText();
   if (!cut || !kept) return null;
-  const field = textField('cutText', kept, doc().at);
+  const field = textField('cutText', kept);
   return h('div', {id: 'cut'},
     h('p', {class: 'note'},
       `The moves up to ${cut.move} were read. In line ${cut.game.line}, column ${cut.game.column} stands `,
@@ -71,7 +62,7 @@ export function cutView(s) {
 export function gameView() {
   const it = beingMended();
   if (!it) return null;
-  const field = textField('gameText', cutAtFault(it.cut, it.game), -1 - it.place.line), {game, line, column} = it.game,
+  const field = textField('gameText', cutAtFault(it.cut, it.game)), {game, line, column} = it.game,
         place = column ? `, for what stands in line ${line}, column ${column}` : '';
   return h('div', {id: 'gameMended'},
     h('p', {class: 'note'}, `Game ${game} was left out${place}: `, h('b', {}, it.why), '.'), field, messageAt('game'),

@@ -4,6 +4,7 @@ import {change, track, work} from './actions.js';
 import {learn} from './answer_cache.js';
 import {withOwnWords} from './comments.js';
 import {asGame, cutBlock, cutOf, hasPosition, leftOutText, remedyOf, textIn} from './cut_game.js';
+import {mended} from './documents.js';
 import {$} from './dom.js';
 import {documentOf, isOfFile, noteAfter, studiesIn} from './imported.js';
 import {freshId} from './keep.js';
@@ -108,11 +109,13 @@ async function openAt(lines, line, more = {}, aim = chosenAim(doc().studies)) {
  */
 async function putIn({lines, line, end, more}, block) {
   const before = doc(), at = more.id ? 0 : before.studies.filter(s => s.from < line).length,
-        mended = [...lines.slice(0, line), ...block, ...lines.slice(end)];
+        after = [...lines.slice(0, line), ...block, ...lines.slice(end)];
   app.setup = null;
-  const note = noteAfter(more.note === undefined ? before.note : more.note, lines, mended);
-  await change(now => (now === before ? {lines: mended, at, path: 'root', lenient: true, ...more, note} : null));
+  const note = noteAfter(more.note === undefined ? before.note : more.note, lines, after);
+  const done =
+    await change(now => (now === before ? {lines: after, at, path: 'root', lenient: true, ...more, note} : null));
   scrollTo(0, 0);
+  return done;
 }
 /**
  * @param {number} line
@@ -206,7 +209,9 @@ export const readAgain = text => track((async () => {
   const {head, end} = wholeOf(doc(), s), now = doc().lines.slice(head, end),
                then = await readMended(cut.text + cut.rest, s.origin, 'cut', aim),
                lines = withOwnHead(withOwnWords(read, now, then), now, then);
-  if (lines.join('\n').trim() !== now.join('\n').trim()) return void await replaceStudy(s, lines, true);
+  const same = lines.join('\n').trim() === now.join('\n').trim();
+  if (same || await replaceStudy(s, lines, true)) mended.drop(cut.text + cut.rest);
+  if (!same) return;
   say('cut', 'It was read again, and ends at the same move.', true);
   services.show();
 })());
@@ -284,7 +289,7 @@ export const readLeftOut = text => track((async () => {
   const it = beingMended(), lines = it ? await readMended(text, {game: it.game.game, line: it.from}, 'game') : [];
   if (!it || !lines.length) return;
   mending = null;
-  await putIn(it.place, lines);
+  if (await putIn(it.place, lines)) mended.drop(it.cut.text + it.cut.rest);
 })());
 /** The study ends where the game was read to. */
 export function endHere() {

@@ -1,5 +1,6 @@
 // @ts-check
 // What is being typed stays in its field, whatever is drawn anew around it, and is handed over as the browser would.
+import {mended} from './documents.js';
 import {onDocument} from './dom.js';
 import {doc} from './state.js';
 /** @typedef {HTMLInputElement | HTMLTextAreaElement} Field */
@@ -29,9 +30,10 @@ export function watchTyping() {
     owed.delete(field);
     if (typing === field) typing = null;
   });
-  // Words that were not handed over yet would be lost: the browser asks.
+  // Words that were neither handed over nor kept yet would be lost: the browser asks.
   addEventListener('beforeunload', e => {
-    if (typing && typing.isConnected && /^(note|tag|cutText|gameText|script)/.test(typing.id)) e.preventDefault();
+    const open = typing && typing.isConnected && /^(note|tag|cutText|gameText|script)/.test(typing.id);
+    if (open && typing && !mended.has(typing.value)) e.preventDefault();
   });
   onDocument('focusout', e => handOver(/** @type {Field} */ (e.target)));
   onDocument('keydown', e => {

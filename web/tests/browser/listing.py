@@ -273,6 +273,40 @@ def test_a_game_that_was_left_out_is_mended(user):
     assert rows[3][1].startswith("sound"), rows
 
 
+def test_the_text_of_a_game_that_is_being_mended_is_kept(user):
+    """What was typed in two fields and not read yet stands there after a reload, and no more once it was read."""
+    user.open_tables(TABLES, SMALL)
+    opened(user, games(("One", FEN, "1. Kg3"), ("Two", FEN.replace("5K", "6K"), "1. Kg3"), ("Three", FEN, "1. Ke9")))
+    write = "const e = document.getElementById(arguments[0]); e.value = e.value.replace(arguments[1], arguments[2]);"
+    write += "e.dispatchEvent(new Event('input', {bubbles: true})); e.dispatchEvent(new Event('change'))"
+    user.press_on('[data-upto="2"]')
+    user.until("document.getElementById('gameText')")
+    user.js(write, "gameText", "1P6K", "1P5K")
+    user.press_on('[data-upto="3"]')
+    user.until("document.getElementById('gameText') || document.getElementById('cutText')")
+    user.settle()
+    user.js(write, "cutText", "Ke9", "Kg3")
+    user.fill("tagSite", "Praha")
+    assert "Kg3" in user.js("return cutText.value")
+    user.d.refresh()
+    user.idle()
+    assert "Kg3" in user.js("return cutText.value") and user.text("stamp").startswith("not read")
+    user.click("readAgain")
+    user.until("!document.getElementById('cut')", 60)
+    user.settle()
+    user.press_on('[data-upto="2"]')
+    user.until("document.getElementById('gameText')")
+    assert "1P5K" in user.js("return gameText.value")
+    user.click("readGame")
+    user.until("!document.getElementById('gameMended')", 60)
+    user.settle()
+    user.click("undo")
+    user.settle()
+    user.press_on('[data-upto="2"]')
+    user.until("document.getElementById('gameText')")
+    assert "1P6K" in user.js("return gameText.value")
+
+
 def test_one_game_that_was_left_out_is_mended(user):
     user.open_tables(TABLES, SMALL)
     user.open_file("one.pgn", games(("One", FEN.replace("5K", "6K"), "1. Kg3 Kf5")))
