@@ -22,17 +22,28 @@ const AIMS = ['white win', 'white draw', 'black win', 'black draw'];
 const aimButtons = (title, open) =>
   AIMS.map(words => smallButton(aimText(readAim(words)), title, () => open(words), {'data-import': words}));
 /**
- * The games that state no stipulation are read with one: those that the document lacks alone, where it has their texts.
- * @param {Source} again
+ * The games that state no stipulation are read with one.
+ * @param {number} count
+ * @param {(aim: string) => any} read
  */
-function aimsView({bytes, name, id, waiting, how}) {
-  const {count, kept} = id ? gamesWithoutAim() : {count: waiting, kept: false},
-                [doNot, them] = count === 1 ? ['does not', 'it'] : ['do not', 'them'];
+function aimsView(count, read) {
+  const [doNot, them] = count === 1 ? ['does not', 'it'] : ['do not', 'them'];
   return count > 0 &&
     h('p', {class: 'row', id: 'aims', role: 'group', 'aria-label': 'The stipulation of games that say none'},
       `${counted(count, 'game')} of this PGN ${doNot} say what is to be done. Read ${them} as: `,
-      aimButtons('read the PGN again, with this stipulation where none is said',
-        aim => (kept ? readAs(aim) : track(openPgn(bytes, 'board', name, {...how, aim})))));
+      aimButtons('read the PGN again, with this stipulation where none is said', read));
+}
+/**
+ * The games of the document alone, where it has their texts, whenever its PGN was opened; else the PGN is read again.
+ * @param {Source | null} last
+ */
+function gamesView(last) {
+  const {count, kept} = gamesWithoutAim();
+  if (last && !(last.id && kept)) {
+    const {bytes, name, id, waiting, how} = last;
+    return aimsView(id ? count : waiting, aim => track(openPgn(bytes, 'board', name, {...how, aim})));
+  }
+  return kept && aimsView(count, readAs);
 }
 /** The code page that was chosen once, though it undoes changes, and the lines that it would undo. */
 let chosen = {code: '', lines: /** @type {string[]} */ ([])};
@@ -110,7 +121,8 @@ function heldView(again) {
  * @param {boolean} anew      whether a new set-up is shown
  */
 export function importView(anew) {
-  const last = lastOpened(), parts = last ? [aimsView(last), ...(last.id ? [] : heldView(last)), codesView(last)] : [];
+  const last = lastOpened(),
+        parts = [gamesView(last), ...(last ? [...(last.id ? [] : heldView(last)), codesView(last)] : [])];
   if (last && !last.id && parts.some(Boolean))
     return [h('p', {class: 'note', id: 'tried'}, last.said), ...parts, askView()];
   return anew ? null : [noteView(doc().note), ...parts, askView(), joinView()];

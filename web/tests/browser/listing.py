@@ -334,7 +334,8 @@ def test_words_in_place_of_a_stipulation(user):
 
 
 def test_games_without_a_stipulation_are_read_alone(user):
-    """The offer is for the games that the document still lacks, and leaves the work on the others alone."""
+    """The offer is for the games that the document still lacks, after a reload and in a reopened script too, and
+    leaves the work on the others alone."""
     user.open_tables(TABLES, SMALL)
     texts = [games((name, FEN, "1. Kg3 Kf5")) for name in ("One", "Two", "Three")]
     for n in (1, 2):
@@ -347,12 +348,23 @@ def test_games_without_a_stipulation_are_read_alone(user):
     user.until("!document.getElementById('gameMended')", 60)
     user.settle()
     assert user.text("aims").startswith("1 game "), user.text("aims")
+    saved = user.download("saveScript")[1]
+    user.d.refresh()
+    user.idle()
+    assert user.text("aims").startswith("1 game "), user.text("aims")
     user.press_on('[data-import="white draw"]')
     user.until("!document.getElementById('aims')", 60)
     user.settle()
     lines = user.js("return document.getElementById('script').value")
     assert lines.count("stipulate white win") == 2 and lines.count("stipulate white draw") == 1, lines
     assert "tag White Another" in lines and "3 games, 3 studies" in user.text("import"), user.text("import")
+    user.open_file("saved.script", saved)
+    user.until("document.getElementById('aims')", 60)
+    user.settle()
+    user.press_on('[data-import="white draw"]')
+    user.until("!document.getElementById('aims')", 60)
+    user.settle()
+    assert user.js("return document.getElementById('script').value").count("stipulate white draw") == 1
 
 
 def test_the_study_that_is_shown_stays_shown(user):
