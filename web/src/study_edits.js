@@ -2,7 +2,8 @@
 // Whole studies of a script: copied, moved up and down, removed. Each is written so that it stands alone wherever it
 // comes to.
 import {isAimLine, isKnown, unknown} from './edits.js';
-import {asCopied, namesOfGame, numberRemark} from './imported.js';
+import {asCopied, isOfGame, namesOfGame, numberRemark} from './imported.js';
+import {leftOutBy} from './left_out.js';
 import {numbersOf} from './numbering.js';
 import {TAGS, isEdit, isQuestion, wordsOf} from './script.js';
 import {aimWords} from './words.js';
@@ -102,28 +103,49 @@ export function joinedLines(first, second) {
   ];
 }
 /**
- * The lines of entries behind a study whose positions were refused, which go with it.
+ * Lines with an empty one before them, and none behind.
+ * @param {string[]} lines
+ */
+function apart(lines) {
+  let end = lines.length;
+  while (end && !lines[end - 1].trim()) end--;
+  return end ? ['', ...lines.slice(0, end)] : [];
+}
+/**
+ * The lines of entries behind a study: those whose positions were refused go with it; those from the first game on that
+ * was left out stay where they are.
  * @param {string[]} lines
  * @param {Study[]} studies
  * @param {Study} study
  */
 function entriesBehind(lines, studies, study) {
-  const next = studies[studies.indexOf(study) + 1], rest = lines.slice(study.end, next ? next.head : lines.length);
-  while (rest.length && !rest[rest.length - 1].trim()) rest.pop();
-  return rest.length ? ['', ...rest] : [];
+  const next = studies[studies.indexOf(study) + 1], rest = lines.slice(study.end, next ? next.head : lines.length),
+        at = rest.findIndex(line => leftOutBy(line)), cut = at < 0 ? rest.length : at;
+  return {along: apart(rest.slice(0, cut)), stay: apart(rest.slice(cut))};
 }
 /**
  * @param {string[]} lines
  * @param {Study[]} studies
  * @param {Study[]} order      the studies that are to stand there, one after the other
+ * @param {Study} [moved]      one that goes to another place
  */
-function inOrder(lines, studies, order) {
+function inOrder(lines, studies, order, moved) {
   const names = TAGS.filter(name => studies.some(s => isKnown(s.tags[name])));
   const own = (/** @type {Study} */ study, /** @type {number} */ i) =>
     (order.indexOf(study) === i ? selfContained(lines, study, names) : named(lines, study, names).flatMap(asCopied));
-  const blocks = order.map(
-    (study, i) => [...own(study, i), ...(order.lastIndexOf(study) === i ? entriesBehind(lines, studies, study) : [])]);
-  return [...lines.slice(0, studies[0].head), ...blocks.flatMap((block, i) => (i ? ['', ...block] : block))];
+  const behind = (/** @type {Study} */ study) => {
+    const {along, stay} = entriesBehind(lines, studies, study), next = studies[studies.indexOf(study) + 1];
+    return [
+      ...along, ...(study === moved ? [] : stay),
+      ...(moved && next === moved ? entriesBehind(lines, studies, moved).stay : [])
+    ];
+  };
+  const blocks = order.map((study, i) => [...own(study, i), ...(order.lastIndexOf(study) === i ? behind(study) : [])]);
+  const front = moved === studies[0] ? entriesBehind(lines, studies, moved).stay.slice(1) : [];
+  return [
+    ...lines.slice(0, studies[0].head), ...front, ...(front.length ? [''] : []),
+    ...blocks.flatMap((block, i) => (i ? ['', ...block] : block))
+  ];
 }
 /**
  * One more of the same, behind it; its refused lines too.
@@ -145,7 +167,7 @@ export function moveStudy(lines, studies, at, by) {
   const to = at + by, order = [...studies];
   if (!by || !studies[to]) return null;
   order.splice(to, 0, ...order.splice(at, 1));
-  return {lines: inOrder(lines, studies, order), at: to};
+  return {lines: inOrder(lines, studies, order, studies[at]), at: to};
 }
 /**
  * Removes a study from the script, with the remarks above it, which are its own. What the next study takes over from it

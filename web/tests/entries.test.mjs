@@ -254,6 +254,16 @@ test('studies that are copied and moved stand alone', () => {
   assert.equal(copied.at, 2);
   assert.equal(copied.lines.filter(l => l === 'tag Event B').length, 2);
 });
+test('a game that was left out stays in its place when the study before it is moved', () => {
+  const order = (by, at) => {
+    const moved = assumeAccepted(moveStudy(ENTRIES, assumeAccepted(ENTRIES).studies, at, by).lines);
+    return entriesOf({...moved, at: 0, path: 'root', name: '', id: 'x', note: '', judged: true}).map(row => row.number);
+  };
+  assert.deepEqual(order(-1, 1), ['6', '2', '4', '13', '11', '12']);
+  assert.deepEqual(order(1, 0), ['4', '6', '2', '13', '11', '12']);
+  assert.deepEqual(order(2, 1), ['2', '4', '13', '11', '12', '6']);
+  assert.deepEqual(order(-3, 3), ['11', '2', '4', '6', '13', '12']);
+});
 test('a diagram is turned, and its moves with it', async () => {
   assert.ok(isTurn('mirror') && !isTurn('x'));
   assert.equal(turnedFen('left', '8/8/8/8/8/8/8/K6k w - - 0 1'), null);
