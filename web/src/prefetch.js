@@ -2,7 +2,7 @@
 // Answers that will soon be wanted are requested ahead: the view that a change leads to, those of the neighbours of a
 // node, and what the moves lead to that the user may be about to make.
 import {assumeAccepted} from './assumed.js';
-import {LARGE, keepView, keptView, pause, viewOf} from './answer_cache.js';
+import {LARGE, keepView, keptView, learn, pause, viewOf} from './answer_cache.js';
 import {insertMoves} from './edits.js';
 import {lastRunTime, repliesFor} from './running.js';
 import {editsTo, toText} from './script.js';
@@ -36,6 +36,8 @@ function studyAfter(now, {lines, at}) {
  */
 export async function prefetchView(now, wanted) {
   if (wanted.at !== undefined && wanted.lines.length > MANY_LINES) return;
+  // What is made of remarks is made once, so they are read first.
+  if (wanted.at !== undefined || !now.studies[now.at]) await learn(wanted.lines);
   const path = wanted.path === undefined ? now.path : wanted.path,
         s = path !== 'made' ? studyAfter(now, wanted) : undefined;
   if (!s) return;

@@ -85,6 +85,20 @@ def test_a_game_with_more_men_has_its_tails(user):
     assert "stipulation is wrong" not in user.text("middle") and "Say instead" not in user.text("middle")
 
 
+def test_parts_of_one_name_stay_apart_in_a_reopened_script(user):
+    """A script is opened behind a PGN that has one of its games, too: the parts of the other keep the moves before."""
+    user.open_tables(TABLES, SMALL + ["KRRK"])
+    fen = "k7/8/1K6/8/8/8/1p6/1RR5 w - - 0 1"
+    first = game("One", "A", "1. Rxb2 Kb8 2. Rbc2", fen=fen)
+    two = "1. Rd1 (1. Re1 Kb8 2. Rxb2 Ka8 3. Re8#) 1... Kb8 2. Rxb2 Ka8 3. Rd8#"
+    opened(user, "both.pgn", first + game("Two", "B", two, fen=fen), "document.querySelectorAll('#list tbody tr')[2]")
+    names = ["One (after 1. Rxb2)", "Two (after 1. Rd1 .. 2. Rxb2)", "Two (after 1. Re1 .. 2. Rxb2)"]
+    assert [row[1] for row in rows(user)] == names, rows(user)
+    saved = user.download("saveScript")[1].replace("game 2,", "game 5,")
+    opened(user, "both.script", saved, "document.getElementById('list').innerText.includes('5.2')")
+    assert [row[1] for row in rows(user)] == names, rows(user)
+
+
 def test_a_part_of_a_game_has_its_names(user):
     """Five men and Czech names: each part has them in their letters, in list, head, print and saved PGN, after a reload
     too; and the page says which moves are not judged."""
