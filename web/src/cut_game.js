@@ -1,6 +1,7 @@
 // @ts-check
 // A game of a PGN with a bad move, which the program reads up to there: its text is kept in remarks, cut at the place
 // that the program reports, and a line that is refused stands for the bad move.
+import {lettersOf} from './fen.js';
 import {canBeCut, leftOutBy} from './left_out.js';
 import {ownRemark, remarkOf} from './remarks.js';
 import {RESULT, TOKEN, isMoveText, plain} from './notes.js';
@@ -155,15 +156,34 @@ export function leftOutText(lines, line) {
   return {game: leftOutBy(lines[line] || ''), cut: textIn(lines.slice(line + 1, end)), end};
 }
 /**
- * What can be done with a game that was left out: it is opened up to its bad move, or its text is mended. Nothing,
- * where its text is not kept.
+ * How few men some line has before the end of a text, by the signs of its captures.
+ * @param {CutText} cut
+ */
+function fewestMen({text}) {
+  const [, fen = ''] = /^\s*\[FEN\s*"([^"]*)/m.exec(text) || [],
+                 [header] = /** @type {RegExpExecArray} */ (HEADER.exec(text)),
+                 outer = /** @type {[number, number][]} */ ([]);
+  let men = lettersOf(fen).length, before = men, fewest = men;
+  for (const [, , , , bracket, , symbol = ''] of text.slice(header.length).matchAll(TOKEN)) {
+    if (bracket === '(') {
+      outer.push([men, before]);
+      men = before;
+    } else if (bracket === ')') [men, before] = outer.pop() || [men, before];
+    if (symbol && isMoveText(symbol)) [before, men] = [men, men - (/[x:]/.test(symbol) ? 1 : 0)];
+    fewest = Math.min(fewest, men);
+  }
+  return fewest;
+}
+/**
+ * What can be done with a game that was left out: it is opened up to its bad move, or its text is mended, where no part
+ * begins with four men before the move. Nothing, where its text is not kept.
  * @param {string[]} lines
  * @param {number} line
  * @returns {'' | 'open' | 'mend'}
  */
 export function remedyOf(lines, line) {
   const {game, cut} = leftOutText(lines, line);
-  return !game || !cut ? '' : canBeCut(game) && hasPosition(cut) ? 'open' : 'mend';
+  return !game || !cut ? '' : canBeCut(game) && hasPosition(cut) && fewestMen(cut) <= 4 ? 'open' : 'mend';
 }
 /**
  * The text of a game in a file, cut at what is wrong with it.

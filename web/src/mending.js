@@ -3,7 +3,7 @@
 import {change, track, work} from './actions.js';
 import {learn} from './answer_cache.js';
 import {withOwnWords} from './comments.js';
-import {asGame, cutBlock, cutOf, hasPosition, leftOutText, remedyOf, textIn} from './cut_game.js';
+import {asGame, cutBlock, cutOf, hasPosition, leftOutText, textIn} from './cut_game.js';
 import {mended} from './documents.js';
 import {$} from './dom.js';
 import {documentOf, isOfFile, noteAfter, studiesIn} from './imported.js';
@@ -78,7 +78,7 @@ async function openAt(lines, line, more = {}, aim = chosenAim(doc().studies)) {
   const {game, cut, end} = leftOutText(lines, line), before = doc();
   if (!game || !cut) return false;
   asking = null;
-  if (remedyOf(lines, line) === 'mend') {
+  if (!canBeCut(game) || !hasPosition(cut)) {
     mendAt(lines, line, more);
     return true;
   }

@@ -74,6 +74,12 @@ test('what can be done with a game that was left out', () => {
   assert.equal(remedy(bad, null), '');
   assert.equal(
     remedy('#! game 6, line 79: left out: 7 men, never four or fewer', {text: '', rest: `${tags}1. Kg3 *`}), 'mend');
+  const five = (moves, rest) => remedy(bad, {text: `[FEN "k7/8/1K6/8/8/8/1p6/1RR5 w - - 0 1"]\n\n${moves} `, rest});
+  assert.equal(five('1. Rc2 Kb8 2.', 'Rz9 Ka8 3. Rxb2 *'), 'mend');
+  for (const moves of ['1. Rxb2 Kb8 2.', '1. Rc2 (1. Rxb2 Kb8) 1... Kb8 2.', '1. Rc2 Kb8 2. Rc2:b2 Ka8 3.'])
+    assert.equal(five(moves, 'Rz9 *'), 'open', moves);
+  const six = '[FEN "k7/8/1K6/8/8/8/1p6/1RRN4 w - - 0 1"]\n\n1. Rxb2 (1. Nxb2 Kb8) (1. Rc2 Kb8 2. Rcxb2 ';
+  assert.equal(remedy(bad, {text: six, rest: 'Ka9) *'}), 'mend');
 });
 const GAME = leftOutBy('#! game 6, line 79, column 98: NoSuchMove at b6'), BLOCK = [
   '#! game 1, line 5, column 98: not read: NoSuchMove at b6', '#! game 1, line 1: stipulated by its tag Result',
