@@ -156,10 +156,9 @@ export async function openPgn(bytes, where, name, how = {
   const held = await withRemarks(documentOf(lines), read, starts), waiting = withoutAim(lines),
         came = importNote(lines), latin = /\ufffd/.test(new TextDecoder().decode(bytes)),
         foreign = latin ? foreignGames(rawLines(bytes), starts) : [],
-        letters = foreignText(foreign, how.code) || (latin && !how.code && LATIN),
-        said = [came, letters, notKept(lines)].filter(Boolean).join(' ');
+        letters = foreignText(foreign, how.code) || (latin && !how.code && LATIN);
   await learn(held);
-  const before = source, open = doc();
+  const said = [came, letters, notKept(held)].filter(Boolean).join(' '), before = source, open = doc();
   source = {bytes, name, id: '', waiting, beside: open.lines, said, held, how, opened: [], foreign};
   if (!lines.some(line => line.startsWith('position '))) {
     const offered = waiting || leftOut(lines).length || foreign.length;

@@ -2,7 +2,7 @@
 // Whole studies of a script: copied, moved up and down, removed. Each is written so that it stands alone wherever it
 // comes to.
 import {isAimLine, isKnown, unknown} from './edits.js';
-import {asCopied, isOfGame, namesOfGame, numberRemark} from './imported.js';
+import {asCopied, namesOfGame, numberRemark} from './imported.js';
 import {leftOutBy} from './left_out.js';
 import {numbersOf} from './numbering.js';
 import {TAGS, isEdit, isQuestion, wordsOf} from './script.js';

@@ -50,6 +50,15 @@ def opened(user, name, text, waited="document.getElementById('stamp')"):
     user.settle()
 
 
+def test_a_comment_behind_a_null_move_is_counted(user):
+    """What stands in a line with a null move is not kept, and the page says how much of it."""
+    user.open_tables(TABLES, SMALL)
+    moves = "1. Kg3 {the key} Kf5 (1... -- 2. Kf3 {threat} Kf6) 2. Kf3 (2. Kg2 -- {zugzwang})"
+    opened(user, "null.pgn", game("One", "A", moves) + game("Two", "B", "1. Kg3 {only} Kf5"))
+    said = "Not kept of this PGN: 2 null moves (game 1), 2 moves behind null moves (game 1), 2 comments and NAGs there."
+    assert said in user.text("import"), user.text("import")
+
+
 def test_letters_of_another_language_and_words(user):
     """A game in German letters, with words among its moves: read, said, and saved with its comment at its move."""
     user.open_tables(TABLES, SMALL)
