@@ -216,20 +216,29 @@ const openFile = file => whileReading(file.name, async () => {
   await openByLook(decode(bytes), bytes, 'board', file.name);
 });
 /**
+ * Which of several files have letters of an older code, which can be chosen where one is opened alone.
+ * @param {string[]} names
+ */
+const codedText = names => (names.length
+    ? `With letters of an older code, read as Latin 1: ${names.join(', ')}; open each alone to choose the code.`
+    : '');
+/**
  * Opens files, each as a document; the last one is shown. What is wrong with one of several is said with its name.
  * @param {File[]} files
  */
 export const openFiles = files => track((async () => {
-  const bad = /** @type {string[]} */ ([]);
+  const bad = /** @type {string[]} */ ([]), coded = /** @type {string[]} */ ([]);
   for (const file of files) {
+    const before = source;
     app.say = null;
     await openFile(file);
     const said = /** @type {import('./state.js').Say | null} */ (app.say);
     if (said && !said.good) bad.push(`${file.name}: ${said.text}`);
+    if (source && source !== before && source.foreign.length) coded.push(file.name);
   }
   if (files.length < 2) return;
-  const opened = files.length - bad.length;
-  say('board', [`${opened} of ${files.length} files opened, each as a document.`, ...bad].join(' '), !bad.length);
+  const opened = files.length - bad.length, text = `${opened} of ${files.length} files opened, each as a document.`;
+  say('board', [text, ...bad, codedText(coded)].filter(Boolean).join(' '), !bad.length);
   services.show();
 })());
 /**

@@ -413,6 +413,21 @@ def test_two_files_as_one_document(user):
     assert user.js("return document.querySelectorAll('#list tbody tr').length") == 3
 
 
+def test_files_of_an_older_code_are_named(user):
+    """Of several files those are named whose letters may be wrong, since the page offers the codes of one alone."""
+    game = '[Event "?"]\n[White "{}"]\n[FEN "8/8/8/6k1/8/8/1P5K/8 w - - 0 1"]\n\n{{White to win}} 1. Kg3 *\n\n'
+    files = [("cz.pgn", "Jelínek", "cp1250"), ("utf8.pgn", "Jelínek", "utf-8"), ("plain.pgn", "Troitzky", "ascii")]
+    user.js(
+        """const data = new DataTransfer();
+        for (const [name, bytes] of arguments[0]) data.items.add(new File([new Uint8Array(bytes)], name));
+        document.dispatchEvent(new DragEvent('drop', {dataTransfer: data, bubbles: true, cancelable: true}))""",
+        [[name, list(game.format(author).encode(code))] for name, author, code in files],
+    )
+    user.until("document.getElementById('sayBoard').textContent.includes('3 of 3 files opened')")
+    said = "With letters of an older code, read as Latin 1: cz.pgn; open each alone to choose the code."
+    assert said in user.text("sayBoard"), user.text("sayBoard")
+
+
 def test_a_link_to_the_study(user):
     sample(user)
     user.js(
