@@ -5,6 +5,7 @@ import {button, h} from './dom.js';
 import {messageAt} from './head_view.js';
 import {whyLeftOut} from './left_out.js';
 import {beingMended, endHere, leaveMending, readAgain, readLeftOut, unreadText} from './mending.js';
+import {app} from './state.js';
 /** @typedef {import('./types.js').Study} Study @typedef {import('./cut_game.js').CutText} CutText */
 
 /**
@@ -43,15 +44,22 @@ function textField(id, game) {
   showPlace(field, game);
   return field;
 }
+/**
+ * Why a text was not read to its end, as long as nothing is said of a text that was mended since.
+ * @param {string} where
+ * @param {string} before
+ * @param {string} why
+ */
+const reasonOf = (where, before, why) =>
+  (app.say && app.say.where === where && !app.say.good ? '.' : [before, h('b', {}, why), '.']);
 /** @param {Study} s */
 export function cutView(s) {
   const cut = s.origin && s.origin.cut, kept = cut && unreadText();
   if (!cut || !kept) return null;
   const field = textField('cutText', kept);
   return h('div', {id: 'cut'},
-    h('p', {class: 'note'},
-      `The moves up to ${cut.move} were read. In line ${cut.game.line}, column ${cut.game.column} stands `,
-      h('b', {}, whyLeftOut(cut.game)), '.'),
+    h('p', {class: 'note'}, `The moves up to ${cut.move} were read`,
+      reasonOf('cut', `. In line ${cut.game.line}, column ${cut.game.column} stands `, whyLeftOut(cut.game))),
     field, messageAt('cut'),
     h('p', {class: 'row'},
       button('Read it again', 'the text as it stands in the field', () => readAgain(field.value),
@@ -65,7 +73,8 @@ export function gameView() {
   const field = textField('gameText', cutAtFault(it.cut, it.game)), {game, line, column} = it.game,
         place = column ? `, for what stands in line ${line}, column ${column}` : '';
   return h('div', {id: 'gameMended'},
-    h('p', {class: 'note'}, `Game ${game} was left out${place}: `, h('b', {}, it.why), '.'), field, messageAt('game'),
+    h('p', {class: 'note'}, `Game ${game} was left out${place}`, reasonOf('game', ': ', it.why)), field,
+    messageAt('game'),
     h('p', {class: 'row'},
       button('Read this game', 'the text as it stands in the field', () => readLeftOut(field.value),
         {id: 'readGame', class: 'main'}),

@@ -296,7 +296,7 @@ def test_a_game_with_a_bad_move_is_opened_up_to_there(user):
     user.js(type_.replace("a[0]", "arguments[0]"), text.replace('[Result "1-0"]', "").replace("1-0", "*"))
     user.click("readAgain")
     user.until("document.querySelector('#cut [role=alert]')", 60)
-    assert "no legal move" in user.text("cut") or "not a move" in user.text("cut")
+    assert "write {White to win}" in user.text("cut") and "b5" not in user.text("cut"), user.text("cut")
     user.js(type_.replace("a[0]", "arguments[0]"), text.replace("3. Kh9", "3. Ke3"))
     user.click("readAgain")
     user.until("!document.getElementById('cut')", 60)

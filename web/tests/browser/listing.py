@@ -250,6 +250,7 @@ def test_a_game_that_was_left_out_is_mended(user):
     mended(user, "1P6K", "1P7K")
     user.until("document.querySelector('#gameMended [role=alert]')", 60)
     assert "1P7K" in user.js("return gameText.value")
+    assert user.text("gameMended").count("eight squares") == 1, user.text("gameMended")
     user.settle()
     mended(user, "1P7K", "1P5K")
     user.until("!document.getElementById('gameMended')", 60)
