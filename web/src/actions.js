@@ -3,6 +3,7 @@
 import {countsOf, learn, reviewOf, viewOf} from './answer_cache.js';
 import {newlyRefused} from './entries.js';
 import {advance, begin, redo as redone, replace, undo as undone} from './history.js';
+import {noteThen} from './imported.js';
 import {evaluate, readable} from './running.js';
 import {editsTo, fensOf, toText, wordsOf} from './script.js';
 import {nodeAt} from './parse_answers.js';
@@ -148,12 +149,9 @@ const after = next => (next.id === doc().id ? advance(app.history, next) : begin
  */
 function docAfter(now, wanted, script, judged) {
   const at = Math.max(0, Math.min(wanted.at === undefined ? now.at : wanted.at, script.studies.length - 1)),
-        made = script.studies[at] && script.studies[at].made;
-  const path = wanted.path === 'made' ? (made ? wordsOf(made.reply)[1] : 'root')
-    : wanted.path === undefined       ? now.path
-                                      : wanted.path;
-  const {name = now.name, note = now.note, id = now.id || freshId()} = wanted;
-  return {...script, at, path, name, note, id, judged};
+        made = script.studies[at]?.made, newest = made ? wordsOf(made.reply)[1] : 'root';
+  const {name = now.name, note = noteThen(now, script), id = now.id || freshId(), path = now.path} = wanted;
+  return {...script, at, path: path === 'made' ? newest : path, name, note, id, judged};
 }
 /**
  * @param {(doc: Doc) => Change | null} make

@@ -93,6 +93,13 @@ export function noteAfter(note, before, after) {
   return [0, 1].reduce(
     (text, studies) => text.replace(outNote(leftOut(before), studies), () => outNote(leftOut(after), 1)), rest);
 }
+/**
+ * What is said of an import, where its studies have become more or fewer since.
+ * @param {import('./types.js').Doc} before
+ * @param {import('./types.js').Script} after
+ */
+export const noteThen = ({note, lines, studies}, after) =>
+  (note && studies.length !== after.studies.length ? noteAfter(note, lines, after.lines) : note);
 /** @param {string[]} lines */
 export const studiesIn = lines => lines.filter(line => line.startsWith('position ')).length;
 

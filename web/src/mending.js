@@ -164,7 +164,7 @@ const replaceStudy = (s, block, whole = false) => change(now => {
   const {first, head, end} = whole ? wholeOf(now, s) : {first: now.at, head: s.head, end: s.end}, lines = [
     ...now.lines.slice(0, head), ...block, ...(end < now.lines.length ? [''] : []), ...now.lines.slice(end)
   ];
-  return {lines, at: first, note: noteAfter(now.note, now.lines, lines), path: 'root', lenient: true};
+  return {lines, at: first, path: 'root', lenient: true};
 });
 /**
  * The mended text of a game is read; where it has another bad move, up to there. What cannot be read is said.
@@ -250,8 +250,7 @@ export const readAs = aim => track((async () => {
       if (shown && line < shown.from) at += studiesIn(got.lines);
     }
   });
-  const note = noteAfter(before.note, before.lines, lines);
-  await change(now => (now === before && lines !== now.lines ? {lines, note, at, lenient: true} : null));
+  await change(now => (now === before && lines !== now.lines ? {lines, at, lenient: true} : null));
 })());
 
 /**

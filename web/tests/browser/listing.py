@@ -359,6 +359,12 @@ def test_games_without_a_stipulation_are_read_alone(user):
     lines = user.js("return document.getElementById('script').value")
     assert lines.count("stipulate white win") == 2 and lines.count("stipulate white draw") == 1, lines
     assert "tag White Another" in lines and "3 games, 3 studies" in user.text("import"), user.text("import")
+    for button, studies in (("drop", 2), ("undo", 3), ("copyStudy", 4)):
+        user.click(button)
+        user.settle()
+        assert f"3 games, {studies} studies." in user.text("import"), user.text("import")
+    user.click("undo")
+    user.settle()
     user.open_file("saved.script", saved)
     user.until("document.getElementById('aims')", 60)
     user.settle()
