@@ -212,14 +212,15 @@ export function namesOfGame(remarks, {origin, originals}) {
   ]) => `#! ${name} was: ${text}`);
 }
 const SOURCES = /** @type {Record<string, string>} */ ({
-  'comment': 'from its comment',
-  'stipulation-tag': 'from its tag Stipulation',
+  'comment': 'from the comment',
+  'stipulation-tag': 'from the tag Stipulation',
   'result-tag': 'from the Result',
   'result': 'from the final result',
   'option': 'chosen for games that state none'
 });
 /**
- * Where the stipulation of a study is from, in words; nothing where the user set it.
+ * Where the stipulation of a study is from, in words that go behind one and behind several; nothing where the user set
+ * it.
  * @param {Origin | undefined} origin
  */
 export const sourceText = origin => (origin && SOURCES[origin.source]) || '';

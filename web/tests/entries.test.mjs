@@ -165,7 +165,7 @@ test('an entry stays an entry: its number is its place in the file, and its stip
         rows = entriesOf(d);
   assert.deepEqual(rows.map(row => row.number), ['2', '4', '6', '13', '11', '12']);
   assert.deepEqual(rows.map(row => row.aim), [
-    'White to win (from the Result)', '', 'White to win (from its comment)', 'White to draw',
+    'White to win (from the Result)', '', 'White to win (from the comment)', 'White to draw',
     'White to win (from the final result)', ''
   ]);
   assert.deepEqual([rows[1].title, rows[1].author], ['Entry 4', 'Müller, Jürgen']);

@@ -369,7 +369,7 @@ def test_sources_that_differ_are_a_filter(user):
     # In a narrow list they stand in one line, with a blank that is none of the text.
     assert [row[:2] + [row[3].replace("\n", "")] for row in rows(user)] == [
         ["2", "Two", "White to win(from the Result)"],
-        ["5", "Five", "White to win(from its comment)its tag Result differs"],
+        ["5", "Five", "White to win(from the comment)its tag Result differs"],
         ["7", "Seven", "White to win(from the final result)its comment is not understood"],
     ], rows(user)
     assert user.text("source") == "(from the Result)" and not user.has("against")

@@ -326,7 +326,7 @@ def test_words_in_place_of_a_stipulation(user):
     opened(user, games(("One", FEN, "{White to mate in 30} 1. Kg3")))
     user.fill("note", "First prize.")
     user.settle()
-    assert user.text("source") == "(from its comment)"
+    assert user.text("source") == "(from the comment)"
     saved = user.download("savePlain")[1]
     assert "{White to mate in 30. First prize.} 1. Kg3" in saved, saved
     user.click("new")
