@@ -43,7 +43,7 @@ export function summary(doc, reviews = [], open = []) {
   const counts = countsOf([...stamps, ...out])
                    .filter(([kind]) => kind !== 'not judged')
                    .map(([kind, n]) => `${n} ${kindWords(kind)}`)
-                   .join(', ');
+                   .join('; ');
   const made = {
     title: (studies[0] ? studyName(studies[0]) : '') +
       (studies.length > 1 ? ` and ${counted(studies.length - 1, 'more study', 'more studies')}` : ''),

@@ -162,17 +162,21 @@ test('what a list says of a document', () => {
   assert.deepEqual(said([study('unsound 1', 'A')], lines,
                      [{faults: [{path: '0', kind: 'dual', duals: 2, time: 2}], stamp: 'sound, duals waste time'}]),
     {title: 'A, Réti', verdict: 'sound, duals waste time'});
+  assert.equal(said([study('unsound 1', 'A'), study('sound', 'B')], lines,
+                 [{faults: [{path: '0', kind: 'dual', duals: 2, time: 2}], stamp: 'sound, duals waste time'}])
+                 .verdict,
+    '1 sound; 1 sound, duals waste time');
   assert.deepEqual(said([study('unsound 3', '?'), study('sound', 'B'), study('sound', 'B')]),
-    {title: 'Réti and 2 more studies', verdict: '2 sound, 1 with duals'});
+    {title: 'Réti and 2 more studies', verdict: '2 sound; 1 with duals'});
   assert.deepEqual(
     said([study('sound', 'A')], [lines[0], '']), {title: 'A, Réti', verdict: 'correct, no solution yet'});
   assert.deepEqual(said([{...study('', '?'), tags: {}}]), {title: 'Kb6 Pc6 / Ka1 Rd5', verdict: 'not judged'});
   assert.equal(said([study('unsound 3', 'A')], lines, [], [true]).verdict, '3 faults …');
   assert.equal(
-    said([study('unsound 3', 'A'), study('sound', 'B')], lines, [], [true, false]).verdict, '1 sound, 1 with faults …');
+    said([study('unsound 3', 'A'), study('sound', 'B')], lines, [], [true, false]).verdict, '1 sound; 1 with faults …');
   const out = '#! game 2, line 60, column 3: NoSuchMove at Kb6';
-  assert.equal(said([study('sound', 'A'), study('sound', 'B')], [...lines, out]).verdict, '2 sound, 1 left out');
-  assert.equal(said([study('sound', 'A')], [...lines, out]).verdict, '1 sound, 1 left out');
+  assert.equal(said([study('sound', 'A'), study('sound', 'B')], [...lines, out]).verdict, '2 sound; 1 left out');
+  assert.equal(said([study('sound', 'A')], [...lines, out]).verdict, '1 sound; 1 left out');
 });
 test('the verdict of a script that is opened again stays until its facts are found', () => {
   const lines = ['position 8/8/1KP5/3r4/8/8/8/k7 w - - 0 1', 'insert root c7'], local = made();
