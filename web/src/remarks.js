@@ -96,6 +96,11 @@ export const remarksOfKind = (lines, kind) => lines.flatMap(line => {
   return found && found !== OTHER && found.kind === kind ? [found] : [];
 });
 /**
+ * Whether what an import says of a game begins with a line.
+ * @param {string} line
+ */
+export const beginsGame = line => line.startsWith('#! game ') && (remarkOf(line) || NONE).game > 0;
+/**
  * Whether an import wrote a line, so that a report may print it.
  * @param {string} line
  */

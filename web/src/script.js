@@ -3,8 +3,7 @@
 import {commandOf, lineKind} from './wording.js';
 import {aimWords} from './words.js';
 import {headOf, withRefusedTags, withWholeGame} from './imported.js';
-import {leftOutBy} from './left_out.js';
-import {isOfImport} from './remarks.js';
+import {beginsGame, isOfImport} from './remarks.js';
 import {once} from './once.js';
 import {readStipulation} from './parse_answers.js';
 /** @typedef {import('./types.js').Script} Script @typedef {import('./types.js').Study} Study */
@@ -113,8 +112,8 @@ export function readScript(lines, sent, replies) {
   return script;
 }
 /**
- * The end of a study: the head of the next one, or that of an entry between them whose position was refused or whose
- * game was left out.
+ * The end of a study: the head of the next one, or that of an entry between them whose position was refused, or whose
+ * game was left out or stands there whole.
  * @param {Script} script
  * @param {Study} study
  * @param {number} next
@@ -122,7 +121,7 @@ export function readScript(lines, sent, replies) {
 function endOf({lines, refused}, study, next) {
   const faulty = refused.find(r => study.from < r.line && r.line < next && isPosition(r.text));
   let end = study.from + 1;
-  while (end < next && end !== faulty?.line && !leftOutBy(lines[end])) end++;
+  while (end < next && end !== faulty?.line && !beginsGame(lines[end])) end++;
   while (end < next && /^ *#/.test(lines[end - 1])) end--;
   return end;
 }

@@ -3,8 +3,8 @@
 // comes to.
 import {isAimLine, isKnown, unknown} from './edits.js';
 import {asCopied, namesOfGame, numberRemark} from './imported.js';
-import {leftOutBy} from './left_out.js';
 import {numbersOf} from './numbering.js';
+import {beginsGame} from './remarks.js';
 import {TAGS, isEdit, isQuestion, wordsOf} from './script.js';
 import {aimWords} from './words.js';
 /** @typedef {import('./types.js').Study} Study @typedef {import('./types.js').Change} Change */
@@ -113,14 +113,14 @@ function apart(lines) {
 }
 /**
  * The lines of entries behind a study: those whose positions were refused go with it; those from the first game on that
- * was left out stay where they are.
+ * was left out, or stands there whole, stay where they are.
  * @param {string[]} lines
  * @param {Study[]} studies
  * @param {Study} study
  */
 function entriesBehind(lines, studies, study) {
   const next = studies[studies.indexOf(study) + 1], rest = lines.slice(study.end, next ? next.head : lines.length),
-        at = rest.findIndex(line => leftOutBy(line)), cut = at < 0 ? rest.length : at;
+        at = rest.findIndex(beginsGame), cut = at < 0 ? rest.length : at;
   return {along: apart(rest.slice(0, cut)), stay: apart(rest.slice(cut))};
 }
 /**

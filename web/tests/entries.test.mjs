@@ -264,6 +264,15 @@ test('a game that was left out stays in its place when the study before it is mo
   assert.deepEqual(order(2, 1), ['2', '4', '13', '11', '12', '6']);
   assert.deepEqual(order(-3, 3), ['11', '2', '4', '6', '13', '12']);
 });
+test('a game that stands there whole stays so when the study before it is removed, copied or moved', () => {
+  const lines =
+    ['#! game 2, line 9: stipulated by its comment', 'position ' + FEN, 'stipulate white win', 'pgn', '', ...TAILS];
+  const {studies} = assumeAccepted(lines), whole = TAILS.slice(0, 3).join('\n');
+  assert.equal(dropStudy(lines, studies, 0).lines.join('\n'), TAILS.join('\n'));
+  for (const made of [copyStudy(lines, studies, 0), moveStudy(lines, studies, 0, 1), moveStudy(lines, studies, 1, -1)])
+    assert.equal(made.lines.join('\n').split(whole).length, 2);
+  assert.ok(moveStudy(lines, studies, 0, 2).lines.join('\n').startsWith(whole));
+});
 test('a diagram is turned, and its moves with it', async () => {
   assert.ok(isTurn('mirror') && !isTurn('x'));
   assert.equal(turnedFen('left', '8/8/8/8/8/8/8/K6k w - - 0 1'), null);
