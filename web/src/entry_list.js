@@ -7,8 +7,8 @@ import {wordOf} from './wording.js';
 /** @typedef {import('./entries.js').Entry} Entry */
 
 const KINDS = [
-  'sound', 'time', 'accepted', 'duals', 'faults', 'mistake', 'wrong', 'works', 'refuted', 'correct', 'over', 'not read',
-  'left out', 'not judged'
+  'sound', 'time', 'accepted', 'duals', 'faults', 'mistake', 'wrong', 'works', 'refuted', 'correct', 'ends', 'over',
+  'not read', 'left out', 'not judged'
 ];
 /** The words of kinds, where they are others than the kind itself. */
 const KIND_WORDS = /** @type {Record<string, () => string>} */ ({
@@ -19,6 +19,7 @@ const KIND_WORDS = /** @type {Record<string, () => string>} */ ({
   mistake: () => 'whose own move fails',
   works: () => 'beside a solution that work from here',
   correct: () => wordOf('correct'),
+  ends: () => 'whose line ends where four men are left',
   over: () => 'beginning in mate or stalemate'
 });
 /** @typedef {{kind: string, against?: string[], same?: string, faults?: string[], stamp?: string}} Kinds */
@@ -78,7 +79,7 @@ export function findEntries(entries, text) {
 const collator = new Intl.Collator(undefined, {numeric: true});
 const WORST_FIRST = [
   'left out', 'not read', 'not judged', 'wrong', 'mistake', 'works', 'duals', 'faults', 'time', 'accepted', 'refuted',
-  'correct', 'over', 'sound'
+  'correct', 'ends', 'over', 'sound'
 ];
 /**
  * How far behind an entry comes in a list with the worst first: by its verdict, then by its worst fault, then by how

@@ -33,7 +33,7 @@ export const leftOut = lines => /** @type {LeftOut[]} */ (lines.map(leftOutBy).f
 /** What to write instead, by the name of the fault. */
 const INSTEAD = /** @type {Record<string, string>} */ ({
   NotSan: 'write it as Kb6 or c8=R',
-  NoSuchMove: 'write a legal move; perhaps a move before it is missing or wrong',
+  NoSuchMove: 'write a legal move; perhaps a move before it is missing or wrong, or the FEN has the wrong side to move',
   Ambiguous: 'write the file or the rank that the man comes from, as Rad1 or R1d3',
   CastlingLeftOut: 'begin with the position after it',
   Numbering: 'write the move that is missing before it, or the right number',

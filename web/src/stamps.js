@@ -155,14 +155,17 @@ export function besideSentence({text}) {
                  : `${WORKS}: a second solution, unless there is a better defence before.`;
 }
 /**
- * The stamp of a correct stipulation without a solution. Mate or stalemate on the board leaves nothing to give.
+ * The stamp of a correct stipulation without a solution. Mate or stalemate on the board leaves nothing to give, and a
+ * line of a game may end where four men are left.
  * @param {Study} s
  * @param {Review | null} review
  * @returns {{kind: string, text: string}}
  */
-function unsolved({start}, review) {
+function unsolved({start, origin}, review) {
   const over = start === wordOf('mate') ? 'mate' : review && review.over;
-  return over ? {kind: 'over', text: `begins in ${over}`} : {kind: 'correct', text: wordOf('correct')};
+  if (over) return {kind: 'over', text: `begins in ${over}`};
+  return origin && origin.tail ? {kind: 'ends', text: 'correct, and the line ends here'}
+                               : {kind: 'correct', text: wordOf('correct')};
 }
 /** @param {string} n */
 const faultsText = n => `${n} ${n === '1' ? 'fault' : 'faults'}`;

@@ -112,6 +112,7 @@ export function numberedLast(fen, sans) {
  */
 export function verdictSentence(view, kind, beside = '') {
   const own = kind === 'not read' ? wordOf('unread-sentence')
+    : kind === 'ends'             ? 'The stipulation is correct, and the line ends here.'
     : kind === 'over' ? `The stipulation is correct: ${view.over || 'mate'} stands on the board, and no move is left.`
                       : beside;
   return own ? `${own} ${atStart(view.start)}.` : view.sentence;

@@ -84,7 +84,9 @@ test('a game that was left out has its title and its author, where remarks behin
   const rows =
     entriesOf({...readScript(lines, [], []), at: 0, path: 'root', name: '', id: 'x', note: '', judged: true});
   const men = 'men, never four or fewer: go on with a line until four men are left',
-        move = 'Kh9: no legal move of this position: write a legal move; perhaps a move before it is missing or wrong';
+        move =
+          'Kh9: no legal move of this position: write a legal move; perhaps a move before it is missing or wrong, ' +
+    'or the FEN has the wrong side to move';
   assert.deepEqual(rows.map(r => [r.number, r.title, r.author, r.stamp]), [
     ['2', 'A "prize"', 'Kasparyan, G.', `left out: 7 ${men} (line 9)`],
     ['3', 'line 20 of the PGN', 'Réti', `left out: ${move} (line 20, column 8)`],
@@ -131,6 +133,7 @@ test('a part of a game with more than four men has its number in the game, and a
   assert.deepEqual(stamp(0, 'wrong'), {kind: 'wrong', text: 'does not win'});
   assert.deepEqual(stamp(1, 'wrong'), {kind: 'refuted', text: 'refuted'});
   assert.deepEqual(stamp(1, 'sound'), {kind: 'works', text: 'works from here'});
+  assert.deepEqual(stamp(0, 'sound'), {kind: 'ends', text: 'correct, and the line ends here'});
 });
 /** A try, 1. O-O, with two replies: after 1... Rf8 Black holds, after 1... Rh1+ White wins; and one more try. */
 const REPLIES = ['0, after 1. Rxh8+', '1.0, after 1... Rf8', '1.1, after 1... Rh1+', '2.0.0.0, after 2... Kf7'].flatMap(

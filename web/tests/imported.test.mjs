@@ -51,7 +51,8 @@ test('a file is UTF-8, else Latin 1', () => {
 });
 test('games that were left out, and why', () => {
   const men = 'go on with a line until four men are left',
-        legal = 'no legal move of this position: write a legal move; perhaps a move before it is missing or wrong',
+        legal = 'no legal move of this position: write a legal move; perhaps a move before it is missing or wrong, ' +
+    'or the FEN has the wrong side to move',
         aim = 'it does not say what is to be done: write {White to win} before the first move';
   assert.deepEqual(leftOut(LINES).map(whyLeftOut), [`7 men, never four or fewer: ${men}`, `Kb6: ${legal}`, aim]);
   assert.deepEqual(leftOut(LINES)[1], {game: 3, line: 31, column: 17, author: '', why: 'NoSuchMove', text: 'Kb6'});
