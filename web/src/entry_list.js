@@ -61,10 +61,16 @@ export function isOfKind(entry, kind) {
 export const countsOf = entries => /** @type {[string, number][]} */ ([...KINDS,
   ...MORE.map(({kind}) => kind)].map(kind => [kind, entries.filter(entry => isOfKind(entry, kind)).length])
                                                                         .filter(([, n]) => n));
+/** Letters that are more than a plain one with an accent, as they are typed on a keyboard without them. */
+const TYPED = /** @type {Record<string, string>} */ (
+  {ł: 'l', ø: 'o', ß: 'ss', đ: 'd', ð: 'd', þ: 'th', æ: 'ae', œ: 'oe', ħ: 'h', ŧ: 't', ı: 'i', ŋ: 'n'});
 /** @param {string} text */
-const letters = text => text.normalize('NFD').replace(/\p{M}/gu, '').toLowerCase();
+const letters = text => text.normalize('NFD')
+                          .replace(/\p{M}/gu, '')
+                          .toLowerCase()
+                          .replace(/[łøßđðþæœħŧıŋ]/g, letter => TYPED[letter]);
 /**
- * The entries with a text in title, author or number, whatever accents and capitals it has.
+ * The entries with a text in title, author or number, in plain letters too, whatever its capitals.
  * @param {Entry[]} entries
  * @param {string} text
  */

@@ -149,6 +149,10 @@ test('names are found whatever their accents, and each column sorts', () => {
   assert.deepEqual(names(findEntries(rows, 'reti')), ['Réti']);
   assert.deepEqual(names(findEntries(rows, 'ČECH opp')), ['Opposition']);
   assert.deepEqual(names(findEntries(rows, '')).length, 3);
+  const authors = ['Łukasz Groß', 'Kaspar Øster', 'Đorđe Œuvre', 'Þór Æsir'].map(author => ({...rows[0], author})),
+        found = ['lukasz', 'gross', 'groß', 'oster', 'dorde', 'thor aesir', 'Łuk', 'oeuvre', 'kasp'];
+  assert.deepEqual(found.map(text => findEntries(authors, text).map(({author}) => author.split(' ')[0]).join()),
+    ['Łukasz', 'Łukasz', 'Łukasz', 'Kaspar', 'Đorđe', 'Þór', 'Łukasz', 'Đorđe', 'Kaspar']);
   assert.deepEqual(names(sortEntries(rows, 'title', false)), ['Opposition', 'Réti', 'Third']);
   assert.deepEqual(names(sortEntries(rows, 'author', true)), ['Réti', 'Opposition', 'Third']);
   assert.deepEqual(names(sortEntries(rows, 'verdict', false)), ['Réti', 'Opposition', 'Third']);
