@@ -1,25 +1,25 @@
 // @ts-check
 // The rows of the list of entries: what stands in their cells, and what opens a game that was left out.
 import {h, smallButton} from './dom.js';
-import {track} from './actions.js';
 import {remedyOf} from './cut_game.js';
 import {againstText} from './imported.js';
 import {knownEntries} from './list_facts.js';
+import {lookAt} from './mend_view.js';
 import {openLeftOut} from './mending.js';
 import {verdictsBefore} from './stamps.js';
 import {doc, say, services} from './state.js';
 /** @typedef {import('./entries.js').Entry} Entry */
 
 /**
- * Opens a game that was left out up to its bad move, or its text, or says why it was left out.
+ * A game that was left out is looked at: its text is shown, or it is said why it was left out.
  * @param {number} line
  */
-export const showLeftOut = line => track((async () => {
-  if (await openLeftOut(line)) return;
+export function showLeftOut(line) {
+  if (lookAt(line)) return;
   const entry = knownEntries(doc()).find(row => row.at < 0 && row.line === line);
   if (entry) say('board', `${[entry.number, entry.title, entry.author].filter(Boolean).join(', ')}: ${entry.stamp}.`);
   services.show();
-})());
+}
 const REMEDIES = {
   open: ['open up to there', 'the moves before the bad one, to be mended'],
   mend: ['mend it', 'the text of the game, to be mended and read again']
@@ -32,7 +32,7 @@ function remedyButton({at, line, number}) {
   const remedy = at < 0 && remedyOf(doc().lines, line);
   if (!remedy) return null;
   const [words, title] = REMEDIES[remedy];
-  return [' ', smallButton(words, title, () => showLeftOut(line), {'data-upto': number})];
+  return [' ', smallButton(words, title, () => openLeftOut(line), {'data-upto': number})];
 }
 /**
  * The verdict, its first fault, and which studies have the same position; of an entry that was left out why, and what

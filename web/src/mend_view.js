@@ -1,11 +1,21 @@
 // @ts-check
 // A game that was read up to a bad move, or not at all: why, and a field to mend its text.
+import {remedyOf} from './cut_game.js';
 import {mended} from './documents.js';
 import {button, h} from './dom.js';
 import {messageAt} from './head_view.js';
 import {whyLeftOut} from './left_out.js';
-import {beingMended, endHere, leaveMending, readAgain, readLeftOut, unreadText} from './mending.js';
-import {app} from './state.js';
+import {
+  beingMended,
+  endHere,
+  leaveMending,
+  mendAt,
+  openLeftOut,
+  readAgain,
+  readLeftOut,
+  unreadText
+} from './mending.js';
+import {app, doc} from './state.js';
 /** @typedef {import('./types.js').Study} Study @typedef {import('./cut_game.js').CutText} CutText */
 
 /**
@@ -66,6 +76,26 @@ export function cutView(s) {
         {id: 'readAgain', class: 'main'}),
       button('End the study here', 'the moves that were read are the whole solution', endHere, {id: 'endHere'})));
 }
+/** The game that is only looked at, and can be opened up to its bad move. */
+let looked = {lines: /** @type {string[]} */ ([]), line: -1};
+/**
+ * A look at a game that was left out, which changes nothing: its text, and what is wrong with it. Whether it is kept.
+ * @param {number} line
+ */
+export function lookAt(line) {
+  const {lines} = doc(), remedy = remedyOf(lines, line);
+  looked = {lines, line: remedy === 'open' ? line : -1};
+  if (remedy) mendAt(lines, line);
+  return remedy !== '';
+}
+/** @param {number} line */
+function openLooked(line) {
+  looked = {lines: [], line: -1};
+  openLeftOut(line);
+}
+/** @param {{lines: string[], line: number}} place */
+const upToButton = ({lines, line}) => lines === looked.lines && line === looked.line &&
+  button('Open it up to there', 'the moves before the bad one, as a study', () => openLooked(line), {id: 'openUpTo'});
 /** The text of a game that was left out. */
 export function gameView() {
   const it = beingMended();
@@ -78,5 +108,5 @@ export function gameView() {
     h('p', {class: 'row'},
       button('Read this game', 'the text as it stands in the field', () => readLeftOut(field.value),
         {id: 'readGame', class: 'main'}),
-      button('Close', 'the game stays left out', leaveMending, {id: 'closeGame'})));
+      upToButton(it.place), button('Close', 'the game stays left out', leaveMending, {id: 'closeGame'})));
 }

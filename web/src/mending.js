@@ -270,7 +270,7 @@ export function leaveMending() {
  * @param {number} line
  * @param {Place['more']} [more]
  */
-function mendAt(lines, line, more = {}) {
+export function mendAt(lines, line, more = {}) {
   const {game, cut, end} = leftOutText(lines, line);
   if (!game || !cut) return;
   asking = null;

@@ -308,6 +308,28 @@ def test_the_text_of_a_game_that_is_being_mended_is_kept(user):
     assert "1P6K" in user.js("return gameText.value")
 
 
+def test_a_look_at_a_game_that_was_left_out(user):
+    """The menu shows its text and what is wrong, and changes nothing; a button opens it up to its bad move."""
+    user.open_tables(TABLES, SMALL)
+    opened(user, games(("One", FEN, "1. Kg3 Kf5"), ("Two", FEN, "1. Kg3 Kf5 2. Kf9")))
+    before = user.promise("studyboard.script()")
+    user.choose("studies", user.js("return [...studies.options].pop().value"))
+    assert "Kf9" in user.text("gameMended") and "Kf9" in user.js("return gameText.value")
+    assert user.promise("studyboard.script()") == before and len(user.js(STAMPS)) == 2
+    assert user.js("return document.getElementById('undo').disabled")
+    user.click("closeGame")
+    user.settle()
+    user.choose("studies", user.js("return [...studies.options].pop().value"))
+    user.click("openUpTo")
+    user.until("document.getElementById('cutText')", 60)
+    user.settle()
+    assert user.text("stamp").startswith("not read: 2. Kf9"), user.text("stamp")
+    user.click("undo")
+    user.settle()
+    user.press_on('[data-upto="2"]')
+    user.until("document.getElementById('cutText')", 60)
+
+
 def test_one_game_that_was_left_out_is_mended(user):
     user.open_tables(TABLES, SMALL)
     user.open_file("one.pgn", games(("One", FEN.replace("5K", "6K"), "1. Kg3 Kf5")))
