@@ -124,6 +124,8 @@ export function documentOf(lines) {
  */
 /** What the page writes where the user states another stipulation. */
 const BY_HAND = 'stipulated by hand', HAND = 'hand';
+/** The source of a stipulation that only the page's own words state, in a game that it saved. */
+export const SAVED = 'saved';
 /**
  * The remark that gives a number to a study which the user has made.
  * @param {number} game
@@ -155,6 +157,7 @@ export function originIn(remarks) {
         found = remarks.map(stipulatedBy).find(Boolean) || {game, line: 0, source: ''},
         against = remarksOfKind(remarks, 'doubted').map(({said}) => said),
         letters = remarksOfKind(remarks, 'letters').map(({said}) => said).join('');
+  if (found.source === 'comment' && remarks.some(line => ownRemark(line).word === SAVED)) found.source = SAVED;
   return {...found, against, letters, cut: cutIn(remarks), tail};
 }
 /**
@@ -180,7 +183,7 @@ export function byHand(line, source) {
  */
 function isOfBefore(line) {
   const {word, rest} = ownRemark(line);
-  return remarksOfKind([line], 'doubted').length > 0 || word === 'result' || word === 'mark' ||
+  return remarksOfKind([line], 'doubted').length > 0 || word === 'result' || word === 'mark' || word === SAVED ||
     (word === 'tag' && cutAt(rest, ' ')[0] === 'Result');
 }
 /**
@@ -220,7 +223,7 @@ const SOURCES = /** @type {Record<string, string>} */ ({
 });
 /**
  * Where the stipulation of a study is from, in words that go behind one and behind several; nothing where the user set
- * it.
+ * it, or only a saved game states it.
  * @param {Origin | undefined} origin
  */
 export const sourceText = origin => (origin && SOURCES[origin.source]) || '';

@@ -222,6 +222,11 @@ export const withoutVerdicts = text =>
   text.replace(/\s+/g, ' ').replace(SAID, (_, side, aim, word, value) => `{${side} to ${aim}, ${value}`);
 /** @param {string} movetext */
 const isOwn = movetext => OPENING.test(oneLine((/\{([^}]*)\}/.exec(movetext) || [])[1] || ''));
+/**
+ * The remark that a game was saved by this page, whose words state its stipulation; none of another game.
+ * @param {string} game
+ */
+export const savedRemark = game => (isOwn(parts(game)[1]) ? ['#! saved with marks'] : []);
 
 /** Remarks that stand at moves. */
 export const AT_MOVES = new Set(['note', 'note+', 'mark', 'accepted']);

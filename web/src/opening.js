@@ -8,7 +8,7 @@ import {decode, documentOf, plainBytes, importNote, withoutAim} from './imported
 import {freshId} from './keep.js';
 import {lookOf} from './looks.js';
 import {notKept, stillGone} from './not_kept.js';
-import {namesOf, notReadIn, remarksOf, saidInTail, withoutVerdicts} from './notes.js';
+import {namesOf, notReadIn, remarksOf, saidInTail, savedRemark, withoutVerdicts} from './notes.js';
 import {replace} from './history.js';
 import {eachGame, gamesIn, rawLines, textLines, textOf} from './games.js';
 import {offerJoining} from './joining.js';
@@ -103,7 +103,7 @@ export async function withRemarks(lines, bytes, starts = []) {
     if (tail) way = wayTo(lines.slice(first, at), tail.node);
     const source = games[game - 1];
     if (!source) return [line];
-    if (line.startsWith('position ')) return [...saidInTail(remarksOf(source), way), line];
+    if (line.startsWith('position ')) return [...savedRemark(source), ...saidInTail(remarksOf(source), way), line];
     if (line === 'pgn') return [...notReadIn(source), line];
     if (!out) return stillGone(line);
     if (room <= 0) return [line, ...namesOf(source)];

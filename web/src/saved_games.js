@@ -4,7 +4,7 @@
 import {stampOf, unreadIn} from './stamps.js';
 import {AT_MOVES, RESULT, TOKEN, isMoveText, looseMove, oneLine, plain} from './notes.js';
 import {cutAt, ownRemark} from './remarks.js';
-import {isOfFile} from './imported.js';
+import {SAVED, isOfFile} from './imported.js';
 import {pauses} from './pauses.js';
 import {tailName} from './tails.js';
 import {aimText} from './words.js';
@@ -240,7 +240,7 @@ function isStated({origin, aim}, remarks) {
   const first = remarks.filter(line => line.startsWith('#! note -: ')).map(line => line.slice('#! note -: '.length));
   if (aim && first.some(text => text.startsWith(aimText(aim)))) return true;
   return origin && isOfFile(origin) &&
-    (origin.source === 'comment' ? statesAim({comments: first}) : !first.some(mayState));
+    ([SAVED, 'comment'].includes(origin.source) ? statesAim({comments: first}) : !first.some(mayState));
 }
 /**
  * A study's games as they are saved, the last with the page's verdict. A part of a game says which it is; without the

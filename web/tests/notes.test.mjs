@@ -5,7 +5,8 @@ import test from 'node:test';
 import assert from 'node:assert/strict';
 import {stipulate, withMoves} from '../src/edits.js';
 import {gamesIn} from '../src/games.js';
-import {namesOf, notesMoved, remarksOf} from '../src/notes.js';
+import {headOf, sourceText} from '../src/imported.js';
+import {namesOf, notesMoved, remarksOf, savedRemark} from '../src/notes.js';
 import {savedGames, withNotes} from '../src/saved_games.js';
 import {readScript} from '../src/script.js';
 import {wordOf} from '../src/wording.js';
@@ -33,6 +34,17 @@ test('a stipulation before the first move is written again, and is not one of th
   assert.deepEqual(remarksOf(game('White to win. After Grigoriev')), ['#! note -: After Grigoriev', '#! result *']);
   assert.deepEqual(remarksOf(game('White to mate in 12')), ['#! result *']);
   assert.deepEqual(remarksOf(game('White to play and win')), ['#! note -: White to play and win', '#! result *']);
+});
+test('a stipulation that only a saved game states is from no comment of the author', () => {
+  const known = words => {
+    const game = `[FEN "8/8/8/6k1/8/8/1P5K/8 w - - 0 1"]\n\n{${words}} 1. Kg3 1-0\n`;
+    return sourceText(headOf(['#! game 1, line 1: stipulated by its comment', ...savedRemark(game)]).origin);
+  };
+  for (const words
+         of ['White to win: sound, White mates in 28', 'White to win: cook: 1. Kg1, White mates\nin 28. Good!'])
+    assert.equal(known(words), '', words);
+  for (const words of ['White to win', 'White to win: a sound study', 'A study. White to win: sound, draw'])
+    assert.equal(known(words), 'from its comment', words);
 });
 test('title and author of a game that is left out', () => {
   assert.deepEqual(namesOf(GAME), ['#! its Event was: Rigaer Tageblatt', '#! its White was: Reti']);

@@ -241,6 +241,22 @@ def test_a_game_without_stipulation_beside_a_set_up(user):
     assert not user.has("aims") and not user.has("tried")
 
 
+def test_the_source_of_a_stipulation_in_a_saved_file(user):
+    """The comment of a saved game is the page's own: no comment of the author is said to state what is to be done."""
+    user.open_tables(TABLES, SMALL)
+    opened(user, "entries.pgn", game("One", "A", "1. Kg3") + game("Two", "B", "1. Kg3 Kf5"))
+    assert user.text("source") == "(from the Result)" and user.text("shared").endswith("are from the Result.")
+    saved = user.download("savePgn")[1]
+    opened(user, "again.pgn", saved)
+    assert [row[:2] for row in rows(user)] == [["1", "One"], ["2", "Two"]], rows(user)
+    assert not user.has("source") and not user.has("shared"), rows(user)
+    assert rows(user)[0][3] == "White to win", rows(user)
+    assert user.download("savePgn")[1] == saved
+    own = game("One", "A", "{White to win} 1. Kg3") + game("Two", "B", "{White to win} 1. Kg3 Kf5")
+    opened(user, "own.pgn", own)
+    assert user.text("shared") == "All stipulations are from the comments.", user.text("shared")
+
+
 def test_a_game_with_a_bad_move_is_opened_up_to_there(user):
     """Its part is shown and never called sound; its text is mended in place, and the game is read again."""
     user.open_tables(TABLES, SMALL)
