@@ -2,9 +2,10 @@
 // A game of a PGN with a bad move, which the program reads up to there: its text is kept in remarks, cut at the place
 // that the program reports, and a line that is refused stands for the bad move.
 import {lettersOf} from './fen.js';
-import {canBeCut, leftOutBy} from './left_out.js';
+import {NO_POSITION, canBeCut, leftOutBy, whyLeftOut} from './left_out.js';
 import {ownRemark, remarkOf} from './remarks.js';
 import {RESULT, TOKEN, isMoveText, plain} from './notes.js';
+import {aimSaid} from './said_aim.js';
 import {tailIn, wayTo} from './tails.js';
 /**
  * The text of a game before the bad move, and from there on.
@@ -52,6 +53,16 @@ export function textIn(remarks) {
  * @param {{text: string}} game
  */
 export const hasPosition = ({text}) => /^\s*\[FEN\s/m.test(text);
+/**
+ * Why a game was left out, in words, with what its text says of it.
+ * @param {import('./left_out.js').LeftOut} game
+ * @param {CutText | null} text
+ */
+export function whyGone(game, text) {
+  const aim = text && game.why === 'NoStipulation' ? aimSaid(text) : '';
+  if (aim) return `a comment says ${aim}, but the game does not begin with it: write {${aim}} before the first move`;
+  return text && canBeCut(game) && !hasPosition(text) ? NO_POSITION : whyLeftOut(game);
+}
 const NUMBER = /\d+\s*(?:\.+|\u2026)/;
 /**
  * The last number before the end of a text and how many moves stand behind it there, in the same brackets.

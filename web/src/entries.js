@@ -4,8 +4,8 @@ import {isKnown} from './edits.js';
 import {control} from './fen.js';
 import {byWeight, faultText, kindsIn} from './fault_kinds.js';
 import {originalsIn, sourceText} from './imported.js';
-import {hasPosition, textIn} from './cut_game.js';
-import {NO_POSITION, canBeCut, leftOut, leftOutBy, whyLeftOut} from './left_out.js';
+import {textIn, whyGone} from './cut_game.js';
+import {leftOut, leftOutBy} from './left_out.js';
 import {numbersOf} from './numbering.js';
 import {once} from './once.js';
 import {positionsReached, reachedText, samePositions, sameText} from './same_positions.js';
@@ -144,8 +144,7 @@ function leftOutAt(lines, line) {
   const [, author, title] = game.author.match(/^(.*?)(?:; )?(?:"(.*)")?$/) || ['', '', ''];
   const place = `line ${game.line}${game.column ? `, column ${game.column}` : ''}`;
   const name = Event || title || `line ${game.line} of the PGN`,
-        text = textIn(lines.slice(line, end < 0 ? undefined : end)),
-        why = text && canBeCut(game) && !hasPosition(text) ? NO_POSITION : whyLeftOut(game);
+        text = textIn(lines.slice(line, end < 0 ? undefined : end)), why = whyGone(game, text);
   return [{...missing(line, name, White || author, `${why} (${place})`), number: `${game.game}`}];
 }
 /**

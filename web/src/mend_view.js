@@ -15,6 +15,7 @@ import {
   readLeftOut,
   unreadText
 } from './mending.js';
+import {aimSaid, withAim} from './said_aim.js';
 import {app, doc} from './state.js';
 /** @typedef {import('./types.js').Study} Study @typedef {import('./cut_game.js').CutText} CutText */
 
@@ -96,6 +97,17 @@ function openLooked(line) {
 /** @param {{lines: string[], line: number}} place */
 const upToButton = ({lines, line}) => lines === looked.lines && line === looked.line &&
   button('Open it up to there', 'the moves before the bad one, as a study', () => openLooked(line), {id: 'openUpTo'});
+/**
+ * The game is read with what one of its comments says.
+ * @param {NonNullable<ReturnType<typeof beingMended>>} it
+ * @param {HTMLTextAreaElement} field
+ */
+function aimButton({game, cut}, field) {
+  const aim = game.why === 'NoStipulation' ? aimSaid(cut) : '';
+  return aim &&
+    button(`Read it as: ${aim}`, `with {${aim}} before the first move, as its comment says`,
+      () => readLeftOut(withAim(field.value, aim)), {id: 'readSaid'});
+}
 /** The text of a game that was left out. */
 export function gameView() {
   const it = beingMended();
@@ -108,5 +120,6 @@ export function gameView() {
     h('p', {class: 'row'},
       button('Read this game', 'the text as it stands in the field', () => readLeftOut(field.value),
         {id: 'readGame', class: 'main'}),
-      upToButton(it.place), button('Close', 'the game stays left out', leaveMending, {id: 'closeGame'})));
+      upToButton(it.place), aimButton(it, field),
+      button('Close', 'the game stays left out', leaveMending, {id: 'closeGame'})));
 }

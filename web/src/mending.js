@@ -3,12 +3,12 @@
 import {change, track, work} from './actions.js';
 import {learn} from './answer_cache.js';
 import {withOwnWords} from './comments.js';
-import {asGame, cutBlock, cutOf, hasPosition, leftOutText, textIn} from './cut_game.js';
+import {asGame, cutBlock, cutOf, hasPosition, leftOutText, remedyOf, textIn, whyGone} from './cut_game.js';
 import {mended} from './documents.js';
 import {$} from './dom.js';
 import {documentOf, isOfFile, noteAfter, studiesIn} from './imported.js';
 import {freshId} from './keep.js';
-import {NO_POSITION, canBeCut, isCutLine, leftOut, leftOutBy, whyLeftOut, withoutCut} from './left_out.js';
+import {canBeCut, isCutLine, leftOut, leftOutBy, whyLeftOut, withoutCut} from './left_out.js';
 import {refuseLong} from './limits.js';
 import {once} from './once.js';
 import {checkedName, importPgn, withRemarks} from './opening.js';
@@ -47,12 +47,6 @@ async function readUpTo(game, cut, aim) {
   const asked = await read(`${(cut.text + cut.rest).trimEnd()}\n`, {...game, line}, 'white win', true);
   return {lines: [], out: asked.out ? out : {...out, why: 'NoStipulation', text: ''}};
 }
-/**
- * Why a game was left out, in words.
- * @param {LeftOut} game
- * @param {import('./cut_game.js').CutText} cut
- */
-const whyGone = (game, cut) => (canBeCut(game) && !hasPosition(cut) ? NO_POSITION : whyLeftOut(game));
 /**
  * The stipulation that was chosen for games which state none, if one was.
  * @param {Study[]} studies

@@ -330,6 +330,23 @@ def test_a_look_at_a_game_that_was_left_out(user):
     user.until("document.getElementById('cutText')", 60)
 
 
+def test_a_stipulation_behind_other_words_is_offered(user):
+    """A game is left out whose comment does not begin with it: a press reads it so, and the comment stays."""
+    user.open_tables(TABLES, SMALL)
+    texts = games(("One", FEN, "1. Kg3 Kf5"), ("Two", FEN, "{Shakhmaty 1931. White to win} 1. Kg3 Kf5"))
+    opened(user, texts.replace("Kg3 Kf5 1-0", "Kg3 Kf5 *").replace('"1-0"', '"*"').replace('"*"', '"1-0"', 1))
+    user.until(FOUND, 60)
+    assert "a comment says White to win" in user.text("rows"), user.text("rows")
+    user.press_on('[data-upto="2"]')
+    user.until("document.getElementById('readSaid')")
+    user.click("readSaid")
+    user.until("!document.getElementById('gameMended')", 60)
+    user.settle()
+    user.until(FOUND, 60)
+    assert user.text("head").startswith("Two") and user.text("stamp").startswith("sound"), user.text("stamp")
+    assert user.text("source") == "(from its comment)" and "Shakhmaty 1931. White to win" in user.promise("studyboard.script()")
+
+
 def test_one_game_that_was_left_out_is_mended(user):
     user.open_tables(TABLES, SMALL)
     user.open_file("one.pgn", games(("One", FEN.replace("5K", "6K"), "1. Kg3 Kf5")))
