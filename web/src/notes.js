@@ -3,6 +3,7 @@
 // of the script, each at the moves that lead to it; saved_games.js writes it into the saved PGN again.
 import {isKnown} from './edits.js';
 import {cutAt, ownRemark} from './remarks.js';
+import {withoutNumber} from './saved_numbers.js';
 import {TAGS} from './script.js';
 import {nameIn} from './tails.js';
 /** @typedef {import('./types.js').Study} Study */
@@ -164,7 +165,8 @@ export function remarksOf(game) {
     } else if (!first) {
       if (own && kind === 'comment' && ACCEPTED.test(text)) out.push(`#! accepted ${key}: dual`);
       const words = own && kind === 'comment' ? withoutOurs(text) : text;
-      out.push(...(key === '-' && kind === 'comment' ? openingLines(words) : noteLines(key, words)));
+      out.push(...(
+        key === '-' && kind === 'comment' ? openingLines(own ? withoutNumber(words) : words) : noteLines(key, words)));
     } else if (!said.some(other => other.key === key && other.kind === 'nag' && other.place === 'comment'))
       out.push(`#! mark ${key}: ${text}`);
   }

@@ -50,6 +50,15 @@ function gameIn(line) {
 const withGame = (line, game) =>
   line.replace(/^(#! game )\d+/, `$1${game}`).replace(/^(#! tail .* of game )\d+/, `$1${game}`);
 /**
+ * The lines of an import, in which each game has the number that it was saved with.
+ * @param {string[]} lines
+ * @param {number[]} numbers      of the games, by their places in the file; none if these are their numbers
+ */
+export const inNumbers = (lines, numbers) => (!numbers.length ? lines : lines.map(line => {
+  const {game} = line.startsWith('#!') ? gameIn(line) : {game: 0};
+  return game && numbers[game - 1] ? withGame(line, numbers[game - 1]) : line;
+}));
+/**
  * The lines of scripts that were joined: each game that has the number of an earlier one, and those behind it, have
  * numbers that go on behind the earlier ones.
  * @param {string[]} lines

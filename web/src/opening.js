@@ -12,13 +12,14 @@ import {namesOf, notReadIn, remarksOf, saidInTail, savedRemark, withoutVerdicts}
 import {replace} from './history.js';
 import {eachGame, gamesIn, rawLines, textLines, textOf} from './games.js';
 import {offerJoining} from './joining.js';
-import {numberedApart} from './numbering.js';
+import {inNumbers, numberedApart} from './numbering.js';
 import {foreignGames, foreignText, inUtf8} from './code_pages.js';
 import {cutOf, textRemarks} from './cut_game.js';
 import {leftOut, leftOutBy} from './left_out.js';
 import {MOST_KEPT, refuseLong} from './limits.js';
 import {remarkOf} from './remarks.js';
 import {savedGames} from './saved_games.js';
+import {isNumbered, savedNumbers} from './saved_numbers.js';
 import {isCommand, isSilent, linesOf} from './script.js';
 import {tailIn, wayTo} from './tails.js';
 import {pauses} from './pauses.js';
@@ -50,8 +51,8 @@ export async function checkWhole() {
   const d = doc(), from = source, text = from && from.id === d.id && d.note && d.judged && decode(from.bytes);
   if (!from || !text) return;
   const games = eachGame(text), rest = pauses();
-  for (const study of d.studies) {
-    const {value: game} = games.next(), saved = game && savedGames({...d, studies: [study]});
+  for (const [i, study] of d.studies.entries()) {
+    const {value: game} = games.next(), saved = game && savedGames({...d, studies: [study]}, true, [], i + 1);
     if (!saved || withoutVerdicts(saved).trim() !== withoutVerdicts(game).trim()) return;
     if (rest.isDue()) await rest.pause();
     if (doc() !== d) return;
@@ -153,8 +154,11 @@ export async function openPgn(bytes, where, name, how = {
     lines = await importPgn(read, how.aim);
   }, where);
   if (!lines.length) return;
-  const held = await withRemarks(documentOf(lines), read, starts), waiting = withoutAim(lines),
-        came = importNote(lines), latin = /\ufffd/.test(new TextDecoder().decode(bytes)),
+  const numbers = isNumbered(textOf(read)) ? savedNumbers(gamesIn(textOf(read))) : [],
+        numbered = inNumbers(lines, numbers);
+  await learn(numbered);
+  const held = inNumbers(await withRemarks(documentOf(lines), read, starts), numbers), waiting = withoutAim(lines),
+        came = importNote(numbered), latin = /\ufffd/.test(new TextDecoder().decode(bytes)),
         foreign = latin ? foreignGames(rawLines(bytes), starts) : [],
         letters = foreignText(foreign, how.code) || (latin && !how.code && LATIN);
   await learn(held);

@@ -5,6 +5,7 @@ import {stampOf, unreadIn} from './stamps.js';
 import {AT_MOVES, RESULT, TOKEN, isMoveText, looseMove, oneLine, plain} from './notes.js';
 import {cutAt, ownRemark} from './remarks.js';
 import {SAVED, isOfFile} from './imported.js';
+import {numberText} from './saved_numbers.js';
 import {pauses} from './pauses.js';
 import {tailName} from './tails.js';
 import {aimText} from './words.js';
@@ -243,18 +244,20 @@ function isStated({origin, aim}, remarks) {
     ([SAVED, 'comment'].includes(origin.source) ? statesAim({comments: first}) : !first.some(mayState));
 }
 /**
- * A study's games as they are saved, the last with the page's verdict. A part of a game says which it is; without the
- * program's marks they say what is to be done, unless the author does, and that a study was not read to its end.
+ * A study's games as they are saved, the last with the page's verdict. A part of a game says which it is, and with the
+ * program's marks a game at another place than in its file its number there; without them they say what is to be done,
+ * unless the author does, and that a study was not read to its end.
  * @param {Script} script
  * @param {Study} study
  * @param {boolean} marks
  * @param {import('./types.js').Review | null} review
+ * @param {number} place      of its first game among all that are saved
  */
-function gamesOfStudy(script, study, marks, review) {
+function gamesOfStudy(script, study, marks, review, place) {
   const remarks = script.lines.slice(study.head, study.from), unread = unreadIn(script, study).replace(/[{}]/g, ''),
         part = tailName(study);
   const words = study.aim && !marks && !isStated(study, remarks) ? aimText(study.aim) : '',
-        said = [words, part, marks ? '' : unread].filter(Boolean),
+        said = [words, part, marks ? numberText(study, place) : unread].filter(Boolean),
         verdict = marks ? verdictOf(script, study, review).replace(/[{}]/g, '') : '', last = study.games.length - 1;
   return study.games.map(
     (game, i) => withNotes(inOwnLetters(study, i === last ? judged(game, verdict) : game), remarks, marks, said));
@@ -263,9 +266,14 @@ function gamesOfStudy(script, study, marks, review) {
  * @param {Script} script
  * @param {boolean} [marks]
  * @param {(import('./types.js').Review | null)[]} [reviews]      of the studies, as far as they are known
+ * @param {number} [first]      the place of the first game
  */
-export const savedGames = (script, marks = true, reviews = []) =>
-  script.studies.flatMap((study, i) => gamesOfStudy(script, study, marks, reviews[i] || null)).join('');
+export function savedGames(script, marks = true, reviews = [], first = 1) {
+  const games = /** @type {string[]} */ ([]);
+  for (const [i, study] of script.studies.entries())
+    games.push(...gamesOfStudy(script, study, marks, reviews[i] || null, first + games.length));
+  return games.join('');
+}
 /**
  * The same, with pauses between the games of a long script.
  * @param {Script} script
@@ -275,7 +283,7 @@ export const savedGames = (script, marks = true, reviews = []) =>
 export async function savedInParts(script, marks, reviews = []) {
   const rest = pauses(), games = /** @type {string[]} */ ([]);
   for (const [i, study] of script.studies.entries()) {
-    games.push(...gamesOfStudy(script, study, marks, reviews[i] || null));
+    games.push(...gamesOfStudy(script, study, marks, reviews[i] || null, 1 + games.length));
     if (rest.isDue()) await rest.pause();
   }
   return games.join('');

@@ -48,7 +48,9 @@ const pgnView = s => h('details', {
   h('summary', {}, 'PGN'),
   unreadNote(doc()) && h('p', {class: 'note', id: 'pgnUnread'}, `Of this document ${unreadNote(doc())}.`),
   h('textarea', {id: 'pgn', readonly: true, 'aria-label': 'The game as PGN'},
-    savedGames({...doc(), studies: [s]}, true, [knownFacts(doc()).reviews[doc().at]])));
+    savedGames({...doc(), studies: [s]}, true, [knownFacts(doc()).reviews[doc().at]], placeInFile())));
+/** The place of the game that is looked at among those of the saved file. */
+const placeInFile = () => doc().studies.slice(0, doc().at).reduce((place, {games}) => place + games.length, 1);
 /** A script with more letters is put into its field once that is opened. */
 const LONG = 100000;
 /**

@@ -257,6 +257,21 @@ def test_the_source_of_a_stipulation_in_a_saved_file(user):
     assert user.text("shared") == "All stipulations are from the comments.", user.text("shared")
 
 
+def test_numbers_in_a_saved_file(user):
+    """A judge's number of an entry stays, though others were left out of the saved file or moved."""
+    user.open_tables(TABLES, SMALL)
+    pgn = game("One", "A", "1. Kg3") + game("Two", "B", "1. Kg9") + game("Three", "C", "1. Kg3 Kf5") + \
+        game("Four", "D", "1. Kg9") + game("Five", "E", "{Good!} 1. Kg3 Kf5", "1/2-1/2")
+    opened(user, "entries.pgn", pgn)
+    saved = user.download("savePgn")[1]
+    assert [" of the first file" in " ".join(one.split()) for one in saved.split("[Event")[1:]] == [False, True, True]
+    opened(user, "again.pgn", saved)
+    assert [row[:2] for row in rows(user)] == [["1", "One"], ["3", "Three"], ["5", "Five"]], rows(user)
+    assert "first file" not in script(user) and "#! note -: Good!" in script(user), script(user)
+    assert user.download("savePgn") == ("again.pgn", saved)
+    assert "first file" not in user.download("savePlain")[1]
+
+
 def test_a_game_with_a_bad_move_is_opened_up_to_there(user):
     """Its part is shown and never called sound; its text is mended in place, and the game is read again."""
     user.open_tables(TABLES, SMALL)
