@@ -27,7 +27,7 @@ export function valueText(mover, value) {
   return wordOf('mates').replace('White', `${winner(mover, value)}`).replace('1', `${movesTo(value)}`);
 }
 /**
- * The small number after a move.
+ * The small number after a move; nothing after one that mates, whose own sign says so.
  * @param {Side} hero
  * @param {Side} mover
  * @param {Value} value
@@ -35,7 +35,7 @@ export function valueText(mover, value) {
 export function valueSign(hero, mover, value) {
   const won = winner(mover, value);
   if (won === null) return '=';
-  if (isMate(value)) return '#';
+  if (isMate(value)) return '';
   return won === hero ? `${movesTo(value)}` : `−${movesTo(value)}`;
 }
 /**

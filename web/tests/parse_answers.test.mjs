@@ -52,7 +52,7 @@ test('values in words', () => {
   assert.equal(verdictSentence(view, 'duals'),
     'The stipulation is correct; the solution has 3 duals, 2 waste time. At the start: White mates in 26.');
   assert.equal(view.counts, '2 + 2, 0300.10 b6a1');
-  assert.equal(valueSign('White', 'Black', {kind: 'loss', n: 0}), '#');
+  assert.equal('Rh8#' + valueSign('White', 'Black', {kind: 'loss', n: 0}), 'Rh8#', 'mate has one sign');
   assert.equal(valueSign('White', 'White', {kind: 'loss', n: 6}), '−3');
   assert.equal(valueSign('White', 'Black', {kind: 'draw', n: 0}), '=');
 });
