@@ -5,8 +5,8 @@ import {TOKEN, isMoveText, oneLine} from './notes.js';
 /** @typedef {import('./cut_game.js').CutText} CutText */
 
 /** Words that end there, as those that an import takes. */
-const SAID =
-  /\b(white|black) (?:to (?:(?:play|move) and )?(win|draw|mate in \d+)|(wins|draws|mates in \d+))(?=\s*(?:[:.,;!)]|$))/i;
+const AIM = 'to (?:(?:play|move) and )?(win|draw|mate in \\d+)|(wins|draws|mates in \\d+)',
+      SAID = new RegExp(`\\b(white|black) (?:${AIM})(?=\\s*(?:[:.,;!)]|$))`, 'i');
 /** Where the moves of a game begin, or the comments before them. */
 const MOVES = /^(?![[%;\s])/m;
 /**

@@ -8,7 +8,7 @@ import {app, doc} from './state.js';
 import {insert} from './board_input.js';
 import {variation} from './fault_kinds.js';
 import {stipulate} from './edits.js';
-import {acceptedOf, besideSentence, stampOf, verdictsBefore} from './stamps.js';
+import {acceptedOf, besideSentence, stampOf, unreadIn, verdictsBefore} from './stamps.js';
 import {nodeAt, allNodes, judgedBy} from './parse_answers.js';
 import {promote, remove} from './node_view.js';
 import {
@@ -245,12 +245,12 @@ function timeView(s, root) {
                  : 'None remains.');
 }
 /**
- * What could be said of this position instead: of a try nothing, since it is to fail.
+ * What could be said of this position instead: of a try nothing, since it is to fail, and of a study without a verdict.
  * @param {Study} s
  */
 function adviceView(s) {
   const view = app.view;
-  if (!view || !s.aim || isBeside(s)) return null;
+  if (!view || !s.aim || isBeside(s) || unreadIn(doc(), s)) return null;
   const duals = app.review !== null && app.review.faults.some(f => f.kind === 'dual');
   const offers = otherAims(s.aim, view.verdict, sideOf(view.fen), view.root.value, duals);
   return offers.length > 0 && h('p', {class: 'act'}, 'Say instead: ', offers.map(words => [aimButton(words), ' ']));

@@ -44,7 +44,7 @@ test('a stipulation that only a saved game states is from no comment of the auth
          of ['White to win: sound, White mates in 28', 'White to win: cook: 1. Kg1, White mates\nin 28. Good!'])
     assert.equal(known(words), '', words);
   for (const words of ['White to win', 'White to win: a sound study', 'A study. White to win: sound, draw'])
-    assert.equal(known(words), 'from its comment', words);
+    assert.equal(known(words), 'from the comment', words);
 });
 test('title and author of a game that is left out', () => {
   assert.deepEqual(namesOf(GAME), ['#! its Event was: Rigaer Tageblatt', '#! its White was: Reti']);

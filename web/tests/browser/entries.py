@@ -257,6 +257,21 @@ def test_the_source_of_a_stipulation_in_a_saved_file(user):
     assert user.text("shared") == "All stipulations are from the comments.", user.text("shared")
 
 
+def test_no_other_stipulation_where_a_game_was_not_read(user):
+    """A study to draw that White wins is to be called so, but not before all of its moves were read."""
+    user.open_tables(TABLES, SMALL)
+    opened(user, "draws.pgn", game("One", "A", "1. Kg3 Kf5", "1/2-1/2") + game("Two", "B", "1. Kg3 Kh9", "1/2-1/2"))
+    assert user.text("stamp") == "wrong: White wins", user.text("stamp")
+    user.until("document.body.innerText.includes('Say instead')", 60)
+    user.press_on('[data-upto="2"]')
+    user.until("document.getElementById('cut')", 60)
+    user.settle()
+    assert user.text("stamp") == "not read: 1... Kh9", user.text("stamp")
+    user.until("studyboard.last().reviewed", 60)
+    user.settle()
+    assert "Say instead" not in user.js("return document.body.innerText")
+
+
 def test_numbers_in_a_saved_file(user):
     """A judge's number of an entry stays, though others were left out of the saved file or moved."""
     user.open_tables(TABLES, SMALL)

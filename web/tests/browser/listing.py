@@ -344,7 +344,8 @@ def test_a_stipulation_behind_other_words_is_offered(user):
     user.settle()
     user.until(FOUND, 60)
     assert user.text("head").startswith("Two") and user.text("stamp").startswith("sound"), user.text("stamp")
-    assert user.text("source") == "(from its comment)" and "Shakhmaty 1931. White to win" in user.promise("studyboard.script()")
+    assert user.text("source") == "(from the comment)"
+    assert "Shakhmaty 1931. White to win" in user.promise("studyboard.script()")
 
 
 def test_one_game_that_was_left_out_is_mended(user):
