@@ -62,16 +62,18 @@ export function accept(lines, study, root, path, yes) {
  * @param {number} accepted
  * @param {number} faults
  * @param {boolean} named      whether the one that the stamp names is accepted
+ * @param {number} [idle]      how many that are not accepted only waste time
  * @returns {{kind: string, text: string} | null}
  */
-export function acceptedStamp(text, accepted, faults, named) {
+export function acceptedStamp(text, accepted, faults, named, idle = 0) {
+  const left = faults - accepted;
   if (!accepted) return null;
-  if (named && accepted < faults)
-    return {kind: 'duals', text: `${text} (accepted); ${counted(faults - accepted, 'dual')} not accepted`};
-  if (accepted < faults) return {kind: 'duals', text: `${text}, ${accepted} accepted`};
+  if (named && left > idle) return {kind: 'duals', text: `${text} (accepted); ${counted(left, 'dual')} not accepted`};
+  if (left > idle) return {kind: 'duals', text: `${text}, ${accepted} accepted`};
   const [fault, ...behind] = text.split('; '), missing = behind.filter(words => words.startsWith('main defence')),
-                others = faults > 1 ? `, ${counted(faults - 1, 'dual')} accepted` : '';
+                others = accepted > 1 ? `, ${counted(accepted - 1, 'dual')} accepted` : '',
+                more = left ? [`${left} more ${left === 1 ? 'wastes' : 'waste'} time`] : [];
   const own =
     named ? `${fault} (accepted)${others}` : `sound but for ${accepted} accepted ${accepted === 1 ? 'dual' : 'duals'}`;
-  return {kind: 'accepted', text: [own, ...missing].join('; ')};
+  return {kind: 'accepted', text: [own, ...more, ...missing].join('; ')};
 }

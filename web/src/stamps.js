@@ -199,8 +199,9 @@ export function stampOf(doc, s, review) {
   if (stamp.kind !== 'duals') return stamp;
   const {faults} = review, accepted = acceptedOf(doc, s, faults),
         cook = faults.find(fault => faultKind(fault) === 'cook'),
+        idle = faults.filter(fault => faultKind(fault) === 'waste' && !accepted.includes(fault.path)).length,
         named = /^cook/.test(stamp.text) && cook !== undefined && accepted.includes(cook.path);
-  return acceptedStamp(stamp.text, accepted.length, faults.length, named) || stamp;
+  return acceptedStamp(stamp.text, accepted.length, faults.length, named, idle) || stamp;
 }
 /**
  * A stamp as long as facts are being found that can change its words: `sound …`, `3 faults …`.

@@ -59,7 +59,8 @@ test('kinds of faults, and the worst one in words', () => {
 });
 test('a dual that is accepted is kept as a remark, and said', () => {
   let d = judged(LINES);
-  for (const [path, stamp, kind, faults] of [['0.0.0', '2 duals, 1 wastes time, 1 accepted', 'duals', ['waste']],
+  for (const [path, stamp, kind, faults] of [
+         ['0.0.0', 'sound but for 1 accepted dual; 1 more wastes time', 'accepted', ['waste']],
          ['0.1.0.0.0', 'sound but for 2 accepted duals', 'accepted', []]]) {
     d = judged(accept(d.lines, d.studies[0], root, path, true).lines);
     const [row] = entriesOf(d, [REVIEW]);
@@ -69,6 +70,8 @@ test('a dual that is accepted is kept as a remark, and said', () => {
   const {lines} = accept(d.lines, d.studies[0], root, '0.0.0', false);
   assert.equal(entriesOf(judged(lines), [REVIEW])[0].stamp, '2 duals, 1 wastes time, 1 accepted');
   assert.equal(acceptedStamp('1 dual', 1, 1).text, 'sound but for 1 accepted dual');
+  assert.equal(acceptedStamp('cook: 1. Kc3; main defence 1... Ke7 not given', 2, 4, true, 2).text,
+    'cook: 1. Kc3 (accepted), 1 dual accepted; 2 more waste time; main defence 1... Ke7 not given');
   const away = lines.map(line => (line === 'insert 0.1.0 h4' ? 'insert 0.1.0 Kc7' : line));
   assert.equal(entriesOf(judged(away), [REVIEW])[0].stamp, '2 duals, 1 wastes time');
 });
