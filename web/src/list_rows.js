@@ -65,16 +65,10 @@ export function sharedOf(entries) {
   const sources = entries.filter(({aim}) => aim).map(({aim}) => aimParts(aim)[1] || '');
   return {title: same(entries.map(({title}) => title)), source: same(sources)};
 }
-/**
- * Of several entries where their stipulations are from.
- * @param {string} source
- */
-const sharedSource = source =>
-  source.slice(1, -1).replace(' its comment', ' the comments').replace(' its tag', ' the tags');
 /** @param {Shared} shared */
 export const sharedView = ({title, source}) => (title || source) &&
   h('p', {class: 'note', id: 'shared'},
-    [title && `All: ${title}.`, source && `All stipulations are ${sharedSource(source)}.`].filter(Boolean).join(' '));
+    [title && `All: ${title}.`, source && `All stipulations are ${source.slice(1, -1)}.`].filter(Boolean).join(' '));
 /**
  * The stipulation, and in small letters where it is from and which sources differ.
  * @param {Entry} entry

@@ -254,7 +254,7 @@ def test_the_source_of_a_stipulation_in_a_saved_file(user):
     assert user.download("savePgn")[1] == saved
     own = game("One", "A", "{White to win} 1. Kg3") + game("Two", "B", "{White to win} 1. Kg3 Kf5")
     opened(user, "own.pgn", own)
-    assert user.text("shared") == "All stipulations are from the comments.", user.text("shared")
+    assert user.text("shared") == "All stipulations are from the comment.", user.text("shared")
 
 
 def test_no_other_stipulation_where_a_game_was_not_read(user):
