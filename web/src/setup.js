@@ -29,7 +29,8 @@ import {wordOf} from './wording.js';
  * @property {string[]} waits      the tables that are being built for it
  * @property {string} id      the document that it becomes, where that is a new one
  * @property {import('./turning.js').Turn[]} turns      of the whole diagram, so that the moves can come along
- * @property {string[]} past      states before, as a FEN, an aim and turns with | between them
+ * @property {string} base      the node whose position it began with: the moves below it can come along
+ * @property {string[]} past      states before, as a FEN, an aim, turns and a node with | between them
  * @property {string[]} future      states that were taken back
  */
 
@@ -68,9 +69,10 @@ export function closeSetup() {
 }
 /** @param {string} placed */
 function stateOf(placed) {
-  const [fen, aim = '', turns = ''] = placed.split('|'), [, mover, ...tail] = fen.split(' ');
+  const [fen, aim = '', turns = '', base = ''] = placed.split('|'), [, mover, ...tail] = fen.split(' ');
   return {
     turns: turns.split(' ').filter(isTurn),
+    base: /^\d+(\.\d+)*$/.test(base) ? base : 'root',
     men: menOf(fen),
     mover: mover === 'b' ? 'b' : 'w',
     tail: tail.join(' ') || '- - 0 1',
@@ -78,7 +80,7 @@ function stateOf(placed) {
   };
 }
 /** @param {Draft} d */
-const placedOf = d => `${draftFen()}|${d.aim}|${d.turns.join(' ')}`;
+const placedOf = d => `${draftFen()}|${d.aim}|${d.turns.join(' ')}|${d.base}`;
 export const draftFen = () => {
   const d = /** @type {Draft} */ (app.setup);
   return `${placement(d.men)} ${d.mover} ${d.tail}`;

@@ -4,10 +4,12 @@ import {$, button, h, put, smallButton} from './dom.js';
 import {manName, menOf} from './fen.js';
 import {app, node, services, study} from './state.js';
 import {manIcon} from './drawing.js';
+import {baseOf} from './ending.js';
 import {takeUp} from './board_input.js';
 import {aimView, messageAt} from './head_view.js';
 import {typedOr} from './node_view.js';
 import {closeSetup, draftFen, changeDraft, judgeDraft, turnDraft, setTypedFen} from './setup.js';
+import {hasTree} from './survey.js';
 import {surveyView} from './survey_view.js';
 import {takeOver} from './taking_over.js';
 import {moveName, readAim} from './words.js';
@@ -60,7 +62,7 @@ function fromNode(d) {
   const n = node();
   if (d.anew || !n || !n.parent) return null;
   const [placed, mover, ...tail] = n.fen.split(' ');
-  const take = () => changeDraft({men: menOf(placed), mover, tail: tail.join(' '), man: null});
+  const take = () => changeDraft({men: menOf(placed), mover, tail: tail.join(' '), man: null, turns: [], base: n.path});
   return h('p', {}, button(`The position after ${moveName(n)}`, 'set up these men instead', take, {id: 'fromNode'}));
 }
 const TURN_WORDS = /** @type {[import('./turning.js').Turn, string, string][]} */ ([
@@ -148,17 +150,17 @@ function judgedView(d) {
  * @param {boolean} behind
  */
 function startView(d, behind) {
-  const disabled = !d.judged || Boolean(d.judged.bad),
-        moved = !d.anew && app.view !== null && app.view.root.children.length > 0;
+  const disabled = !d.judged || Boolean(d.judged.bad), base = app.view && baseOf(app.view.root, d);
   const cancel = behind && button('Cancel', 'back to the study', closeSetup, {id: 'cancel'});
-  if (!moved)
+  if (!base || !hasTree(d))
     return [
       button(d.anew ? 'Start' : 'Take this position', 'play the solution from here', () => takeOver('anew'),
         {id: 'start', class: 'main', disabled}),
       cancel
     ];
   return [
-    button('Keep the moves', 'as much of the same tree as is legal on this position', () => takeOver('keep'),
+    button(base.parent ? `Keep the moves after ${moveName(base)}` : 'Keep the moves',
+      'as much of the same tree as is legal on this position', () => takeOver('keep'),
       {id: 'start', class: 'main', disabled}),
     button('Without the moves', 'an empty tree', () => takeOver('anew'), {id: 'startEmpty', disabled}), cancel
   ];

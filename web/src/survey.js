@@ -5,10 +5,10 @@
 import {track, work} from './actions.js';
 import {PAGES, app, services, say} from './state.js';
 import {fenWith, rowAt, treeAt} from './elsewhere.js';
+import {baseOf, treeFor} from './ending.js';
 import {sideOf, squareName} from './fen.js';
 import {readSurvey, refusalIn} from './parse_answers.js';
 import {draftFen} from './setup.js';
-import {bareOf, turnedTree} from './turning.js';
 import {readAim, reason} from './words.js';
 /** @typedef {import('./setup.js').Draft} Draft @typedef {import('./elsewhere.js').Spot} Spot */
 /** @typedef {import('./types.js').Stand} Stand */
@@ -114,7 +114,7 @@ export const treesRequested = spots => requested.has(spots);
  * Whether the set-up has a tree that could come along.
  * @param {Draft} d
  */
-export const hasTree = d => !d.anew && app.view !== null && app.view.root.children.length > 0;
+export const hasTree = d => !d.anew && app.view !== null && baseOf(app.view.root, d).children.length > 0;
 /** What the tree of the study would be on each square of the survey, the dots first. */
 export const lookAtTrees = () => track(trees()).catch(fault => {
   say('fen', `Not looked at: ${fault.message}.`);
@@ -123,7 +123,7 @@ export const lookAtTrees = () => track(trees()).catch(fault => {
 async function trees() {
   const d = app.setup, spots = d && d.survey, view = app.view;
   if (!d || !spots || !view || d.man === null || treesRequested(spots)) return;
-  const man = d.man, fen = draftFen(), tree = turnedTree(bareOf(view.root), d.turns);
+  const man = d.man, fen = draftFen(), tree = treeFor(view.root, d);
   const first = (/** @type {Spot} */ spot) => Number(spot.sign !== 'dot');
   requested.add(spots);
   services.showJudged();

@@ -6,21 +6,22 @@ import {change, track, sayOpened} from './actions.js';
 import {evaluate} from './running.js';
 import {app, doc, services, say} from './state.js';
 import {addStudy, replacePosition, withMoves} from './edits.js';
+import {baseOf, notesBehind, treeFor, wayTo} from './ending.js';
 import {notesMoved} from './notes.js';
 import {fensOf} from './script.js';
 import {closeSetup, draftFen} from './setup.js';
-import {bareOf, legalPart, turnedSan, turnedTree} from './turning.js';
+import {legalPart, turnedSan} from './turning.js';
 import {counted} from './words.js';
 /** @typedef {import('./types.js').Study} Study @typedef {import('./types.js').Doc} Doc */
 /** @typedef {import('./setup.js').Draft} Draft */
 
 /**
- * The moves of the study that is shown, as far as they are legal from the set-up.
+ * The moves of the study that is shown, or of its end, as far as they are legal from the set-up.
  * @param {Draft} d
  * @param {string} fen
  */
 async function movesFrom(d, fen) {
-  const tree = turnedTree(bareOf(/** @type {import('./types.js').View} */ (app.view).root), d.turns),
+  const tree = treeFor(/** @type {import('./types.js').View} */ (app.view).root, d),
         head = ['position ' + fen, 'stipulate ' + d.aim];
   await services.tables.ready(fensOf(head));
   return legalPart(tree, async lines => {
@@ -41,13 +42,34 @@ function fallenText(fallen) {
  */
 function anew(d, now, fen) {
   const s = now.studies[now.at];
-  if (!d.anew && s) return replacePosition(now.lines, s, fen, d.aim);
+  if (!d.anew && s) {
+    const {lines, study} = notesBehind(now.lines, s, wayBefore(d));
+    return replacePosition(lines, study, fen, d.aim);
+  }
   return {
     lines: addStudy(d.more ? now.lines : [], fen, d.aim, d.more ? now.studies[now.studies.length - 1] : undefined),
     at: d.more ? now.studies.length : 0,
     path: 'root',
     ...(d.more ? {} : {name: '', note: '', id: d.id})
   };
+}
+/**
+ * The moves before the position that was taken.
+ * @param {Draft} d
+ */
+const wayBefore = d => (app.view ? wayTo(baseOf(app.view.root, d)) : []);
+/**
+ * The study with the moves that were kept.
+ * @param {Draft} d
+ * @param {string[]} all
+ * @param {Study} s
+ * @param {string} fen
+ * @param {string[]} moves
+ */
+function withKept(d, all, s, fen, moves) {
+  const turned = (/** @type {string} */ text) => d.turns.reduce((words, turn) => turnedSan(turn, words), text);
+  const {lines, study} = notesBehind(notesMoved(all, s, turned, turned), s, wayBefore(d).map(turned));
+  return {...withMoves(lines, study, fen, d.aim, moves), ...(d.base === 'root' ? {} : {path: 'root'})};
 }
 /** @param {'anew' | 'keep'} how */
 export const takeOver = how => track(takeOverOnce(how));
@@ -63,9 +85,7 @@ async function takeOverOnce(how) {
   if (!kept || app.setup !== d) return;
   const done = await change(now => {
     const s = now.studies[now.at];
-    const turned = (/** @type {string} */ moves) => d.turns.reduce((text, turn) => turnedSan(turn, text), moves);
-    return how === 'keep' && s ? withMoves(notesMoved(now.lines, s, turned, turned), s, fen, d.aim, kept.lines)
-                               : anew(d, now, fen);
+    return how === 'keep' && s ? withKept(d, now.lines, s, fen, kept.lines) : anew(d, now, fen);
   }, 'fen');
   if (!done) return;
   closeSetup();

@@ -35,6 +35,11 @@ def script(user):
     return user.promise("studyboard.script()")
 
 
+def reload(user):
+    user.d.refresh()
+    user.idle()
+
+
 def opened(user):
     user.open_tables(TABLES, SMALL)
     user.promise("studyboard.open(a[0])", STUDY)
@@ -151,6 +156,31 @@ def test_trees_are_given_up_with_the_survey(user):
     user.choose("surveyMan", "15")
     user.until("document.getElementById('stands')", 30)
     assert not user.has("lookAtTrees")
+
+
+def test_an_ending_keeps_its_own_moves(user):
+    """The position after a move becomes the start: the moves below it stay, with the author's words."""
+    user.open_tables(TABLES, SMALL)
+    said = "#! note Kg3: $3\n#! note Kg3 Kf5 Kf3 Ke5 Ke3: the opposition\n"
+    moves = "insert root Kg3\ninsert 0 Kf5\ninsert 0.0 Kf3\ninsert 0.0.0 Ke5\ninsert 0.0.0.0 Ke3\n"
+    moves += "insert 0.0.0.0.0 Kd5\ninsert 0.0.0.0.0.0 Kd3\n"
+    user.promise("studyboard.open(a[0])", f"{said}position {FEN}\nstipulate white win\n{moves}")
+    user.settle()
+    user.go("0.0.0.0")
+    user.click("setUp")
+    user.click("fromNode")
+    user.until("!document.getElementById('start').disabled", 30)
+    assert user.text("start") == "Keep the moves after 2... Ke5"
+    for side in ("left", "right"):
+        user.press_on(f'[data-turn="{side}"]')
+    reload(user)
+    user.until("!document.getElementById('start').disabled", 30)
+    user.click("start")
+    user.settle()
+    after = "position 8/8/8/4k3/8/5K2/1P6/8 w - - 4 3\nstipulate white win\n"
+    after += "insert root Ke3\ninsert 0 Kd5\ninsert 0.0 Kd3"
+    assert script(user).strip() == "#! note Ke3: the opposition\n" + after, script(user)
+    assert user.text("stamp").split(";")[0] == "sound" and user.by("sayBoard").text == ""
 
 
 def test_what_is_typed_stays_in_its_field(user):
