@@ -26,7 +26,10 @@ import {numbersOf} from './numbering.js';
  *   study: Study | null, lines: string[], all: {study: Study, called: string}[]}} Version
  */
 
-/** @type {{sides: Version[]} | null} */
+/**
+ * The two that are compared, and the lines that the open document had then.
+ * @type {{sides: Version[], lines: string[]} | null}
+ */
 let pair = null;
 export const isComparing = () => pair !== null;
 export const endComparing = () => {
@@ -73,9 +76,15 @@ export const compare = chosen => work(async () => {
         sides = /** @type {Version[]} */ ([]);
   sides[first] = await versionOf(...chosen[first]);
   sides[second] = await versionOf(...chosen[second], sides[first].fen);
-  pair = {sides};
+  pair = {sides, lines: doc().lines};
   services.show();
 });
+/** Once the open document is another one, or has changed, the two are compared anew. */
+export function followDocument() {
+  if (!pair || pair.lines === doc().lines) return;
+  pair.lines = doc().lines;
+  compare(/** @type {[string, string][]} */ (pair.sides.map(({id, name}) => [id, name])));
+}
 /**
  * A button by which the open document takes a study over, behind its own.
  * @param {Version} version
@@ -92,7 +101,7 @@ function takeView({id, lines}, study) {
     }));
     if (!taken || !pair) return;
     say('board', `Taken over as No. ${numbersOf(doc()).slice(-1)[0]} of the open document.`, true);
-    await compare(/** @type {[string, string][]} */ (pair.sides.map(side => [side.id, side.name])));
+    services.show();
   };
   return isOther && study &&
     smallButton('Take over', 'one more study of the open document, behind its own', take, {'data-take': study.fen});

@@ -1,7 +1,7 @@
 // @ts-check
 // The documents that this browser keeps, as a list: opened, named, copied as versions, compared, sorted and removed.
 import {$, button, h, put, smallButton, panelHead} from './dom.js';
-import {comparingView, compare, endComparing, isComparing} from './comparing_view.js';
+import {comparingView, compare, endComparing, followDocument, isComparing} from './comparing_view.js';
 import {besideDiagram} from './drawing.js';
 import {copyKept, forget, isHere, list, openKept, otherPages, renameKept} from './documents.js';
 import {inOrder, nameInList} from './heads.js';
@@ -158,6 +158,7 @@ function drawPanel(/** @type {any[]} */...parts) {
 /** The list over the page, by its button in the bar. */
 export function showDocuments() {
   if ($('documents').hidden) return;
+  followDocument();
   const all = list(), comparing = isComparing();
   const end = () => {
     endComparing();

@@ -361,6 +361,9 @@ def test_several_are_removed(user):
     assert "Third" in user.text("head")
 
 
+TABLE = "return [...document.querySelectorAll('#documents tbody tr')].map(r => [...r.cells].map(c => c.innerText))"
+
+
 def test_versions(user):
     """A document has a diagram, a name and versions; two of them stand side by side with the moves that differ."""
     user.open_tables(TABLES, SMALL)
@@ -385,9 +388,7 @@ def test_versions(user):
         user.settle()
     user.click("compare")
     user.until("document.getElementById('sides')")
-    rows = user.js(
-        "return [...document.querySelectorAll('#documents tbody tr')].map(r => [...r.cells].map(c => c.innerText))"
-    )
+    rows = user.js(TABLE)
     assert len(rows) == 1 and rows[0][0] == "1. b4" and sorted(rows[0][1:]) == ["not given", "throws it away"], rows
     user.picture("versions", whole=False)
     before = user.promise("studyboard.script()")
@@ -396,6 +397,16 @@ def test_versions(user):
     after = user.promise("studyboard.script()")
     assert after.startswith(before.rstrip()) and after.count("position ") == before.count("position ") + 1, after
     user.until("document.getElementById('sayBoard').textContent.includes('Taken over as No. ')")
+    user.settle()
+    assert "No move differs in mark." in user.text("documents"), user.text("documents")
+    user.control("z")
+    user.settle()
+    assert user.js(TABLE) == rows, user.js(TABLE)
+    user.js("document.getElementById('on').click()")
+    user.settle()
+    user.js("document.getElementById('delete').click()")
+    user.settle()
+    assert sorted(row[0] for row in user.js(TABLE)) == ["1. Kg3", "1. b4"], user.js(TABLE)
     user.click("endComparing")
     user.keys(Keys.ESCAPE)
 
