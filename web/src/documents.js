@@ -10,6 +10,7 @@ import {knownFacts} from './list_facts.js';
 import {fensOf} from './script.js';
 import {begin, draftKept} from './setup.js';
 import {blank} from './state.js';
+import {makeUnfinished} from './unfinished.js';
 /** @typedef {import('./types.js').Doc} Doc */
 
 /**
@@ -160,4 +161,7 @@ export const forget = id => {
 const ownDraft = () => (app.setup && app.setup.anew && !app.setup.more ? app.setup.id : '');
 /** @param {string} id */
 export const isHere = id => [doc().id, ownDraft()].some(own => own && keeper.placeOf(own) === id);
+/** The place in which the document at hand is kept. */
+export const placeHere = () => doc().id && keeper.placeOf(doc().id);
+export const unfinished = makeUnfinished(session);
 export {local};

@@ -26,7 +26,7 @@ import {speakDraft, speakNode, speakState, speakVerdict} from './spoken.js';
 import {textsView} from './texts_view.js';
 import {faultsView, verdictView} from './verdict_view.js';
 import {keyView, listenToTree, markCurrent, showTree} from './tree_view.js';
-import {drawn, typeAgain, typedNow, watchTyping} from './typing.js';
+import {drawn, handOverKept, typeAgain, typedNow, watchTyping} from './typing.js';
 import {wordOf} from './wording.js';
 
 let pressing = false, tabbing = false;
@@ -168,6 +168,7 @@ export function show() {
     setTimeout(checkWhole);
   }
   refocus(kept);
+  handOverKept();
   speakNode();
   speakDraft();
   speakVerdict();

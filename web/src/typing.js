@@ -1,8 +1,9 @@
 // @ts-check
 // What is being typed stays in its field, whatever is drawn anew around it, and is handed over as the browser would.
-import {mended} from './documents.js';
-import {onDocument} from './dom.js';
-import {doc} from './state.js';
+import {idle} from './actions.js';
+import {mended, placeHere, unfinished} from './documents.js';
+import {$, onDocument} from './dom.js';
+import {app, doc} from './state.js';
 /** @typedef {HTMLInputElement | HTMLTextAreaElement} Field */
 /** @typedef {{id: string, value: string, start: number | null, end: number | null, of: string, at: number}} Typed */
 
@@ -10,11 +11,15 @@ import {doc} from './state.js';
 let typing = /** @type {Field | null} */ (null);
 /** Fields that were drawn with such words: the browser does not know that the user typed them. */
 const owed = /** @type {WeakSet<Field>} */ (new WeakSet());
+/** What the page had before it was loaded again, until its field is there. */
+let before = unfinished.kept();
 /** Whether the page is being drawn: a field that goes then was not left. */
 let drawing = false;
 /** @param {any} element */
 const isField = element => element instanceof HTMLTextAreaElement ||
   (element instanceof HTMLInputElement && /^(text|search)$/.test(element.type));
+/** @param {Field} field */
+const keepTyped = ({id, value}) => unfinished.keep({id, value, of: placeHere(), at: doc().at, path: doc().path});
 /** @param {Field} field */
 function handOver(field) {
   if (owed.has(field) && field.isConnected && !drawing) field.dispatchEvent(new Event('change', {bubbles: true}));
@@ -23,12 +28,16 @@ export function watchTyping() {
   // A browser hands over what stands in a field that is taken out while it is typed in.
   document.addEventListener('change', e => drawing && e.stopImmediatePropagation(), true);
   onDocument('input', e => {
-    if (isField(e.target)) typing = /** @type {Field} */ (e.target);
+    if (!isField(e.target)) return;
+    typing = /** @type {Field} */ (e.target);
+    keepTyped(typing);
   });
   onDocument('change', e => {
     const field = /** @type {Field} */ (e.target);
     owed.delete(field);
     if (typing === field) typing = null;
+    const {id, value} = field;
+    if (isField(field)) idle().then(() => unfinished.drop(id, value));
   });
   // Words that were neither handed over nor kept yet would be lost: the browser asks.
   addEventListener('beforeunload', e => {
@@ -63,4 +72,16 @@ export function typeAgain(field, typed) {
   field.setSelectionRange(typed.start, typed.end);
   typing = field;
   owed.add(field);
+  keepTyped(field);
+}
+/** What was typed before a reload is handed over once its field is drawn; elsewhere it is forgotten. */
+export function handOverKept() {
+  if (!before || !doc().id || app.setup) return;
+  const {id, value, of, at, path} = before, field = $(id);
+  const isThere = of === placeHere() && at === doc().at && path === doc().path;
+  if (isThere && !field) return;
+  before = null;
+  if (!isThere || field.value === value) return unfinished.drop(id, value);
+  field.value = value;
+  field.dispatchEvent(new Event('change', {bubbles: true}));
 }

@@ -297,6 +297,33 @@ def test_what_a_pgn_says_beside_its_moves_is_kept(user):
     assert user.promise("studyboard.pgn()") == own
 
 
+def test_words_in_a_field_that_was_not_left(user):
+    """What stands in a field when the page is loaded again is part of the study then; Undo takes it back."""
+    user.open_tables(TABLES, SMALL)
+    started(user, FEN, "Words")
+    user.play("Kg3")
+    for field, text, line in (
+        ("note", "The only move", "#! note Kg3: The only move"),
+        ("note", " of all", "#! note Kg3: The only move of all"),
+        ("tagSite", "Praha", "tag Site Praha"),
+        ("tagEvent", " again", "tag Event Words again"),
+    ):
+        before = script(user)
+        user.js("const e = document.getElementById(arguments[0]).closest('details'); if (e) e.open = true", field)
+        user.js("const e = document.getElementById(arguments[0]); e.focus(); e.setSelectionRange(999, 999)", field)
+        user.keys(text)
+        user.d.refresh()
+        user.until("document.getElementById('stamp')")
+        user.settle()
+        assert line in script(user).splitlines(), (field, script(user))
+        assert script(user) != before
+    user.click("undo")
+    user.settle()
+    assert script(user) == before
+    reload(user)
+    assert script(user) == before
+
+
 def test_a_refused_position_of_the_same_men(user):
     """After a right position a refused one of the same men, and the right one again: its tables are built and laid."""
     fen = "document.getElementById('judged').textContent"
