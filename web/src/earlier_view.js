@@ -4,13 +4,13 @@ import {$, button, h, put, smallButton, panelHead} from './dom.js';
 import {change, track} from './actions.js';
 import {app, doc, services, say, study} from './state.js';
 import {aimBefore, movesBefore} from './earlier.js';
-import {longest, ownMoves} from './introduction.js';
+import {introductionText, longest} from './introduction.js';
 import {withMoves} from './edits.js';
 import {control, other, sideOf, squareName} from './fen.js';
 import {notesMoved, plain} from './notes.js';
 import {bareOf, insertions} from './turning.js';
 import {hearNew} from './voice.js';
-import {clockText, counted, markSign} from './words.js';
+import {markSign} from './words.js';
 /** @typedef {import('./earlier.js').Before} Before */
 
 /** The moves chosen so far, the last one first; and those to choose from, or none while they are looked for. */
@@ -54,12 +54,7 @@ function stop() {
 function longestView(s) {
   const again = button('Longest introduction', 'search back as far as only moves go', searchLongest, {id: 'longest'});
   if (!intro && !going) return h('p', {}, again);
-  const hero = s.aim ? s.aim.hero : 'White', best = intro ? intro.best : [], own = ownMoves(best, hero),
-        seconds = intro ? Math.round((performance.now() - intro.began) / 1000) : 0,
-        looked = counted(intro ? intro.looked : 0, 'position');
-  const end = going ? '' : intro && intro.ended ? ', all there are' : '; stopped there';
-  const words = `${best.length ? `${counted(own, 'only move')} in front` : 'No only move in front'}${
-    going ? ' so far' : ''}; ${looked} looked at in ${clockText(seconds)}${end}.`;
+  const best = intro ? intro.best : [], words = introductionText(intro, s.aim ? s.aim.hero : 'White', going !== null);
   const take = () => {
     chosen = best;
     begin();

@@ -3,6 +3,7 @@
 // move of the opponent is a mistake. The way that goes back farthest is followed first.
 import {aimBefore, movesBefore} from './earlier.js';
 import {other, sideOf} from './fen.js';
+import {clockText, counted} from './words.js';
 /** @typedef {import('./earlier.js').Before} Before @typedef {import('./types.js').Aim} Aim */
 /**
  * @typedef {{best: Before[], looked: number, began: number, ended: boolean}} Introduction
@@ -18,6 +19,19 @@ const movers = moves => moves.map(move => sideOf(move.fen));
  * @param {import('./types.js').Side} hero
  */
 export const ownMoves = (moves, hero) => movers(moves).filter(side => side === hero).length;
+/**
+ * How far a search has come, in words.
+ * @param {Introduction | null} intro
+ * @param {import('./types.js').Side} hero
+ * @param {boolean} going
+ */
+export function introductionText(intro, hero, going) {
+  const {best, looked, began, ended} = intro || {best: [], looked: 0, began: performance.now(), ended: false},
+                              seconds = Math.round((performance.now() - began) / 1000);
+  const end = going ? '' : ended ? ', all there are without captures, castling and double steps' : '; stopped there';
+  return `${best.length ? `${counted(ownMoves(best, hero), 'only move')} in front` : 'No only move in front'}${
+    going ? ' so far' : ''}; ${counted(looked, 'position')} looked at in ${clockText(seconds)}${end}.`;
+}
 /**
  * @param {string} fen
  * @param {Aim} aim

@@ -1,7 +1,7 @@
 // The longest introduction, over a made-up list of the moves before a position.
 import test from 'node:test';
 import assert from 'node:assert/strict';
-import {longest, ownMoves} from '../src/introduction.js';
+import {introductionText, longest, ownMoves} from '../src/introduction.js';
 
 /** Moves by the position that they lead to, each with the position before and its mark; w or b is to move before. */
 const BEFORE = {
@@ -28,6 +28,16 @@ test('it goes back as far as only moves go, and never through a mistake or in a 
   assert.deepEqual(found.best.map(move => move.san), ['z3 w', 'z2 b', 'z1 w', 'z b']);
   assert.deepEqual([ownMoves(found.best, 'White'), found.ended, found.looked], [2, true, 7]);
   assert.equal(reports.length, found.looked);
+});
+test('it says what was not looked at once it has ended', () => {
+  const began = performance.now(), best = [{fen: 'x b - - 0 1', san: 'Kd5'}, {fen: 'x w - - 0 1', san: 'Kd4'}],
+        found = {best: [], looked: 2, began, ended: true},
+        text = (more, going) => introductionText({...found, ...more}, 'White', going);
+  assert.equal(text({}, false),
+    'No only move in front; 2 positions looked at in 0 s, all there are without captures, castling and double steps.');
+  assert.equal(text({best, ended: false}, false), '1 only move in front; 2 positions looked at in 0 s; stopped there.');
+  assert.equal(text({best, ended: false}, true), '1 only move in front so far; 2 positions looked at in 0 s.');
+  assert.equal(introductionText(null, 'White', true), 'No only move in front so far; 0 positions looked at in 0 s.');
 });
 test('it is stopped, and keeps what it found', async () => {
   const stop = new AbortController(), found = await longest('start w - - 0 1', AIM, now => {
