@@ -142,6 +142,10 @@ export function partText({at, of, ended}) {
 export function searchText({at, of, found, many, ended}, advice) {
   const whole = of > 0 && at >= of, first = `the first ${found.length} are listed${advice}`,
         end = {all: 'all there are', enough: whole ? `all there are, and ${first}` : first, stopped: 'stopped'}[ended];
-  const part = whole || !of ? '' : `; ${Math.floor(100 * at / of)} % looked at`;
+  const share = whole || !of ? '' : `${Math.floor(100 * at / of)} %`, part = share && `; ${share} looked at`;
+  // How many there were by then depends on the pace of the workers.
+  if (ended === 'enough' && share)
+    return `${many > found.length ? 'more than' : 'at least'} ${counted(found.length, 'position')} found; ` +
+      `stopped after ${share}: ${first}.`;
   return `${counted(many, 'position')} found${part}: ${end ? `${end}.` : 'searching …'}`;
 }

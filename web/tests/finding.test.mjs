@@ -78,7 +78,9 @@ test('how a search stands', () => {
   assert.equal(partText({...search, ended: 'enough'}), ' that are listed');
   assert.equal(partText({...search, ended: 'all'}), '');
   assert.equal(searchText({...search, ended: 'enough', many: 7}, advice),
-    '7 positions found; 50 % looked at: the first 3 are listed; narrow it down by squares.');
+    'more than 3 positions found; stopped after 50 %: the first 3 are listed; narrow it down by squares.');
+  assert.equal(searchText({...search, ended: 'enough'}, ''),
+    'at least 3 positions found; stopped after 50 %: the first 3 are listed.');
   assert.equal(searchText({...search, at: 100, ended: 'enough', many: 7}, narrowing('win N', 4)),
     '7 positions found: all there are, and the first 3 are listed; narrow it down by squares, or by more only moves.');
   assert.equal(searchText({...search, at: 100, ended: 'enough', many: 7}, narrowing('longest white', 4)),
