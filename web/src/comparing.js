@@ -4,8 +4,9 @@ import {allNodes} from './parse_answers.js';
 import {counted, markMeaning, moveName, numberedLine} from './words.js';
 /** @typedef {import('./types.js').TreeNode} TreeNode */
 /**
- * A move by its name and the line that leads to it, and what is said of it in each version.
- * @typedef {{name: string, line: string, said: [string, string]}} Row
+ * A move by its name and the line that leads to it; those moves of this line beside which others are given; and what is
+ * said of it in each version.
+ * @typedef {{name: string, line: string, after: string[], said: [string, string]}} Row
  */
 
 /**
@@ -35,12 +36,14 @@ function lineTo(n) {
  * @param {TreeNode} one
  * @param {TreeNode} two
  * @param {(import('./types.js').Aim | null)[]} aims
+ * @param {string[]} [after]
  * @returns {Row[]}
  */
-export function differences(one, two, aims) {
+export function differences(one, two, aims, after = []) {
   const [aim, otherAim] = aims, rows = /** @type {Row[]} */ ([]);
   const row = (/** @type {TreeNode} */ n, /** @type {string} */ first, /** @type {string} */ second) =>
-    rows.push({name: moveName(n), line: lineTo(n), said: [first, second]});
+    rows.push({name: moveName(n), line: lineTo(n), after, said: [first, second]});
+  const several = new Set([...one.children, ...two.children].map(({san}) => san)).size > 1;
   for (const n of one.children) {
     const same = two.children.find(({san}) => san === n.san);
     if (!same) {
@@ -49,7 +52,7 @@ export function differences(one, two, aims) {
     }
     const said = [saidOf(n, aim), saidOf(same, otherAim)];
     if (said[0] !== said[1]) row(n, said[0], said[1]);
-    rows.push(...differences(n, same, aims));
+    rows.push(...differences(n, same, aims, several ? [...after, moveName(n)] : after));
   }
   for (const n of two.children)
     if (!one.children.some(({san}) => san === n.san)) row(n, 'not given', only(n, otherAim));

@@ -113,26 +113,34 @@ const sideView = version => h('div', {class: 'side'}, h('h3', {}, version.name),
     h('b', {}, version.stamp)),
   takeView(version, version.study));
 /**
- * The studies that one document alone has.
+ * The studies that one document alone has, besides those that stand side by side.
  * @param {Version} here
  * @param {Version} there
  */
 function onlyHere(here, there) {
   const starts = new Set(there.all.map(({study}) => study.fen)),
-        own = here.all.filter(({study}) => !starts.has(study.fen));
+        own = here.all.filter(({study}) => !starts.has(study.fen) && study !== here.study);
   return own.length > 0 && there.all.length > 0 &&
     h('p', {class: 'note'}, `Only in ${here.name}: `,
       own.map(({study, called}, i) => [i > 0 && '; ', called, ' ', takeView(here, study)]), '.');
 }
+/**
+ * A move, with those before it that tell it apart from one of the same name.
+ * @param {string} name
+ * @param {string[]} after
+ */
+const moveIn = (name, after) => name + (after.length ? ` (after ${after.join(', ')})` : '');
 /** The two that are compared. */
 export function comparingView() {
   if (!pair) return null;
   const {sides} = pair, [one, two] = sides.map(({view}) => view);
-  const rows = one && two ? differences(one.root, two.root, [one.aim, two.aim]) : [];
+  const rows = one && two ? differences(one.root, two.root, [one.aim, two.aim]) : [],
+        same = sides[0].fen === sides[1].fen;
   return [
     h('div', {class: 'sides', id: 'sides'}, sides.map(sideView)),
+    !same && h('p', {class: 'note'}, 'The positions differ.'),
     rows.length > 0 ? table(['Move', ...sides.map(({name}) => name)], rows,
-                        ({name, line, said}) => [h('span', {title: line}, name), ...said])
+                        ({name, line, after, said}) => [h('span', {title: line}, moveIn(name, after)), ...said])
                     : h('p', {class: 'note'}, one && two ? 'No move differs in mark.' : ''),
     onlyHere(sides[0], sides[1]), onlyHere(sides[1], sides[0])
   ];

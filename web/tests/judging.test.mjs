@@ -181,13 +181,23 @@ test('the first press on the verdict puts the worst first, and equal ones stay a
   assert.deepEqual(
     sortEntries(rows, 'verdict', true).slice(0, 3).map(({title}) => title), ['sound', 'also sound', 'time']);
 });
+test('moves of a line that has no other need no move before them', () => {
+  const view = (...rows) =>
+    readView(`study ${FEN}\n${rows.map(row => `node ${row} 0 ${FEN}\n`).join('')}`.replace(/0 (7K)/g, '0 0 $1'));
+  const one = view('root - - draw reply', '0 Kg7 h8g7 draw only', '0.0 h4 h5h4 draw reply', '0.0.0 Kf6 g7f6 draw only'),
+        two = view('root - - draw reply', '0 Kg7 h8g7 draw only', '0.0 h4 h5h4 draw reply');
+  const [row] = differences(one.root, two.root, [WIN, WIN]);
+  assert.deepEqual([row.name, row.after], ['1. Kf6', []]);
+});
 test('two versions differ in these moves', () => {
   const view = (...rows) =>
     readView(`study ${FEN}\n${rows.map(row => `node ${row} 0 ${FEN}\n`).join('')}`.replace(/0 (7K)/g, '0 0 $1'));
   const one = view('root - - draw reply', '0 Kg7 h8g7 draw only', '0.0 h4 h5h4 draw reply', '1 c7 c6c7 loss 9 mistake'),
         two = view('root - - draw reply', '0 Kg7 h8g7 draw dual 1', '0.0 Kb6 a6b6 draw reply');
-  assert.deepEqual(differences(one.root, two.root, [WIN, WIN]).map(({name, said}) => [name, ...said]), [
-    ['1. Kg7', 'the only move that works', 'dual: one other move works too'], ['1. h4', 'given', 'not given'],
-    ['1. Kb6', 'not given', 'given'], ['1. c7', 'throws it away', 'not given']
-  ]);
+  assert.deepEqual(
+    differences(one.root, two.root, [WIN, WIN]).map(({name, after, said}) => [name, ...after, ...said]), [
+      ['1. Kg7', 'the only move that works', 'dual: one other move works too'],
+      ['1. h4', '1. Kg7', 'given', 'not given'], ['1. Kb6', '1. Kg7', 'not given', 'given'],
+      ['1. c7', 'throws it away', 'not given']
+    ]);
 });

@@ -434,6 +434,14 @@ def test_versions(user):
     user.js("document.getElementById('delete').click()")
     user.settle()
     assert sorted(row[0] for row in user.js(TABLE)) == ["1. Kg3", "1. b4"], user.js(TABLE)
+    assert "The positions differ" not in user.text("documents"), user.text("documents")
+    user.js("document.getElementById('setUp').click()")
+    user.fill("fen", FEN.replace("1P5K", "1P4K1"))
+    user.until("!document.getElementById('start').disabled")
+    user.js("document.getElementById('start').click()")
+    user.settle()
+    said = user.text("documents")
+    assert "The positions differ." in said and "Only in" not in said, said
     user.click("endComparing")
     user.keys(Keys.ESCAPE)
 
