@@ -163,5 +163,13 @@ const ownDraft = () => (app.setup && app.setup.anew && !app.setup.more ? app.set
 export const isHere = id => [doc().id, ownDraft()].some(own => own && keeper.placeOf(own) === id);
 /** The place in which the document at hand is kept. */
 export const placeHere = () => doc().id && keeper.placeOf(doc().id);
+/**
+ * The place in which a document of this page is kept; none, where it is not.
+ * @param {string} id
+ */
+export function keptPlace(id) {
+  const place = keeper.placeOf(id);
+  return headAt(place) ? place : '';
+}
 export const unfinished = makeUnfinished(session);
 export {local};

@@ -3,7 +3,7 @@
 // one before; and all of them as a script.
 import {button, h} from './dom.js';
 import {change, track} from './actions.js';
-import {openKept} from './documents.js';
+import {keptPlace, openKept} from './documents.js';
 import {rowAt} from './elsewhere.js';
 import {linesOf, opened, rowSought} from './finding.js';
 import {freshId} from './keep.js';
@@ -18,6 +18,8 @@ import {app, doc, services} from './state.js';
  */
 
 let hits = /** @type {Hits | null} */ (null);
+/** As which document each position was looked at last: it is kept if it was changed. */
+const looks = /** @type {WeakMap<Found, string>} */ (new WeakMap());
 /** What was found, if one of it is what is shown. */
 export const hitsHere = () => (hits && hits.id === doc().id ? hits : null);
 /**
@@ -33,19 +35,22 @@ async function studyOf(found, theme, words) {
   return linesOf(found, theme, words, row ? row.moves : []);
 }
 /**
- * Looks at one of the positions that were found.
+ * Looks at one of the positions that were found; one that was changed is shown as the document that it has become.
  * @param {{found: Found[], part: string, theme: string, words: string}} search
  * @param {number} at
  */
 export const openHit = ({found, part, theme, words}, at) => track((async () => {
   if (!found[at]) return;
-  const lines = await studyOf(found[at], theme, words), here = hitsHere(), id = freshId(),
+  const here = hitsHere(), own = keptPlace(looks.get(found[at]) || ''), id = own || freshId(),
         before = here    ? here.before
     : doc().lines.length ? doc().id
                          : '';
+  const lines = own ? [] : await studyOf(found[at], theme, words);
   app.setup = null;
-  app.looked = id;
   hits = {found, part, theme, words, at, id, before};
+  looks.set(found[at], id);
+  if (own) return void await openKept(own);
+  app.looked = id;
   await change(() => ({lines, name: '', note: '', id, at: 0, path: 'root', lenient: true}));
 })());
 /**
@@ -77,7 +82,7 @@ export function hitsView(openList) {
   if (!here) return null;
   const {found, part, words, at, before} = here;
   return h('p', {class: 'row', role: 'group', 'aria-label': 'Positions that were found'},
-    h('b', {}, `${words}: ${at + 1} of ${found.length}${part}`),
+    h('b', {}, `${words}: ${at + 1} of ${found.length}${part}${keptPlace(doc().id) ? ', kept as a document' : ''}`),
     button('Previous', 'Page Up', () => stepHit(-1), {id: 'hitBefore', disabled: at === 0}),
     button('Next', 'Page Down', () => stepHit(1), {id: 'hitNext', disabled: at + 1 === found.length}),
     button('List', 'all that were found', openList, {id: 'hitList'}),

@@ -71,7 +71,15 @@ def test_hits_are_looked_at_and_kept_once_changed(user):
     user.fill("tagWhite", "A. Composer")
     assert documents(user) == 2
     kept = script(user)
+    assert "2 of 15, kept as a document" in user.text("finds"), user.text("finds")
     user.click("hitNext")
+    user.settle()
+    assert "3 of 15 Previous" in user.text("finds").replace("\n", " "), user.text("finds")
+    user.keys(Keys.PAGE_UP)
+    user.settle()
+    assert script(user) == kept and "2 of 15, kept as a document" in user.text("finds"), user.text("finds")
+    assert not user.js("return document.getElementById('undo').disabled")
+    user.keys(Keys.PAGE_DOWN)
     user.settle()
     assert position(user) == fens[2] and documents(user) == 2
     user.click("hitList")
