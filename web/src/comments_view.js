@@ -7,7 +7,7 @@ import {messageAt} from './head_view.js';
 import {refuseLong} from './limits.js';
 import {typedOr} from './node_view.js';
 import {nodeAt} from './parse_answers.js';
-import {app, doc} from './state.js';
+import {app, doc, say as tell, services} from './state.js';
 import {moveName} from './words.js';
 /** @typedef {import('./types.js').Study} Study @typedef {import('./types.js').TreeNode} TreeNode */
 
@@ -54,8 +54,12 @@ function signView(s, n, kind) {
 export function commentView(s, n) {
   const text = wordsAt(s, n).comments.join(' '),
         name = n.parent ? `Your words on ${moveName(n)}` : 'Your words above the study';
-  const write = (/** @type {any} */ e) => {
-    if (!refuseLong({id: 'note', value: text}, e.target.value)) say(n.path, () => ({comment: e.target.value}));
+  const write = async (/** @type {any} */ e) => {
+    const typed = e.target.value;
+    if (refuseLong({id: 'note', value: text}, typed) || !await say(n.path, () => ({comment: typed}))) return;
+    if (!/[{}]/.test(typed) || app.say) return;
+    tell('note', 'A brace would end a comment of a PGN: it is written as ( or ).', true);
+    services.show();
   };
   const field = h('textarea', {id: 'note', rows: 1, 'aria-label': name, placeholder: name, onchange: write});
   field.value = typedOr('note', text);

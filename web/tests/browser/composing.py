@@ -197,6 +197,9 @@ def test_what_is_typed_stays_in_its_field(user):
     typed(Keys.TAB).perform()
     user.settle()
     assert [line for line in script(user).splitlines() if line[0] == "#"] == ["#! note Kg2: Not the king."]
+    assert "( or )" not in user.text("words")
+    user.fill("note", "Not the {white} king.")
+    assert "#! note Kg2: Not the (white) king." in script(user) and "written as ( or )." in user.text("words")
     user.by("san").click()
     typed("Kh4" + Keys.ENTER).perform()
     typed("Kf3" + Keys.ENTER).perform()
