@@ -15,7 +15,7 @@ let elsewhere = new Set();
 const ui = {
   sure: false,
   naming: '',
-  order: {by: '', back: false},
+  order: {by: 'time', back: false},
   ticked: /** @type {Set<string>} */ (new Set())
 };
 /** @param {Partial<typeof ui>} changes */

@@ -11,6 +11,7 @@ import re
 import subprocess
 import sys
 import tempfile
+import time
 
 from user import TOP, By, Keys, run
 
@@ -371,6 +372,21 @@ def test_many_documents(user):
     user.settle()
     assert user.js(f"return {rows}") == 76 and user.js("return document.getElementById('documents').scrollTop") > 0
     assert user.js(f"return {box}.checked")
+
+
+def test_the_document_that_was_changed_last_comes_first(user):
+    """Also if another one was looked at since; the heading says by what the list is sorted."""
+    user.open_tables(TABLES, SMALL)
+    for name in ("First", "Second"):
+        started(user, FEN, name)
+        time.sleep(0.05)
+    open_document(user, "First")
+    user.settle()
+    user.click("documentsButton")
+    user.settle()
+    names = "return [...document.querySelectorAll('#documents [data-kept]')].map(e => e.innerText)"
+    assert user.js(names) == ["Second", "First"], user.js(names)
+    assert user.js("return document.querySelector('#documents [data-sort=time]').innerText") == "Changed ↓"
 
 
 def test_several_are_removed(user):
