@@ -145,7 +145,7 @@ export const openAgain = id => openKept(keeper.placeOf(id));
  * @param {string} id
  */
 export function copyKept(id) {
-  if (!keeper.copy(id)) say('board', 'There is no room for a copy: remove other documents.');
+  if (!keeper.copy(id, isHere(id))) say('board', 'There is no room for a copy: remove other documents.');
 }
 /**
  * @param {string} id

@@ -217,15 +217,19 @@ export function makeKeeper({local, page, now = Date.now, factsOf = () => ({revie
       };
     },
     /**
-     * One more version of a document: a copy with its undo.
+     * One more version of a document: a copy with its undo. Where one goes on with the document itself, that one is the
+     * next version, and the copy keeps its number.
      * @param {string} id
+     * @param {boolean} goesOn
      * @returns {boolean} whether there was room for it
      */
-    copy(id) {
+    copy(id, goesOn = false) {
       const head = headAt(id), body = local.getItem(BODY + id), to = freshId();
       if (!head || !body) return false;
-      const next = {...head, page: '', seen: now(), time: now(), version: nextVersion(head, list())};
-      return write(BODY + to, body) && write(HEAD + to, JSON.stringify(next));
+      const version = nextVersion(head, list()), alike = {...head, page: '', seen: now()},
+            next = goesOn ? alike : {...alike, time: now(), version};
+      return write(BODY + to, body) && write(HEAD + to, JSON.stringify(next)) &&
+        (!goesOn || write(HEAD + id, JSON.stringify({...head, version})));
     },
     /**
      * Gives a document a name of its own; none: that of its first study.

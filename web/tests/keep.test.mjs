@@ -194,6 +194,16 @@ test('the verdict of a script that is opened again stays until its facts are fou
   keeper.keep(begin({...state, lines: [...lines, 'insert root Kb7'], studies: [...state.studies]}), null, []);
   assert.equal(verdict(), '1 fault …');
 });
+test('after a copy of the open document that one is the next version, and the copy is what it was before', () => {
+  let clock = 0;
+  const local = made(), keeper = makeKeeper({local, page: '1', now: () => ++clock});
+  keeper.keep(history('A', ['p']), null, []);
+  assert.ok(keeper.copy('A', true));
+  keeper.keep(history('A', ['p'], ['p', 'q']), null, []);
+  const heads = inOrder(keeper.list(), 'time');
+  assert.deepEqual(heads.map(({id, version}) => [version, keeper.linesOf(id)]), [[2, ['p', 'q']], [1, ['p']]]);
+  assert.deepEqual(heads.map(({id}) => id === 'A'), [true, false]);
+});
 test('copies are versions of one document, a name is kept, and the list can be sorted', () => {
   let clock = 0;
   const local = made(), keeper = makeKeeper({local, page: '1', now: () => ++clock});

@@ -413,13 +413,14 @@ def test_versions(user):
     started(user, FEN, "Pawn")
     user.play("Kg3")
     user.click("documentsButton")
+    user.until("document.querySelector('#documents [data-copy]')")
     user.press_on("#documents [data-copy]")
     user.settle()
     user.press_on("#documents [data-name]")
     user.fill("nameKept", "Draft of a pawn study")
     user.keys(Keys.ESCAPE)
     names = [row[0] for row in documents(user)]
-    assert len(names) == 2 and any(name.startswith("Draft of a pawn study, version") for name in names), names
+    assert sorted(names) == ["Draft of a pawn study, version 1", "Pawn, version 2"], names
     user.go("root")
     user.play("b4")
     user.go("root")
