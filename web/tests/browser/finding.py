@@ -8,6 +8,7 @@ TABLES has those of two and three men at least.
 import os
 import re
 import sys
+import time
 
 from user import By, Keys, run
 
@@ -45,6 +46,16 @@ def position(user):
     return script(user).split("\n")[0].replace("position ", "")
 
 
+def shown(user, fen):
+    """Waits for the hit that a key asked for."""
+    for _ in range(100):
+        user.settle()
+        if position(user) == fen:
+            return
+        time.sleep(0.1)
+    raise AssertionError(position(user))
+
+
 def test_hits_are_looked_at_and_kept_once_changed(user):
     user.promise("studyboard.open(a[0])", MINE)
     fens = find(user, "win N", "6")
@@ -58,10 +69,11 @@ def test_hits_are_looked_at_and_kept_once_changed(user):
     user.settle()
     user.keys(Keys.PAGE_DOWN)
     user.settle()
-    assert position(user) == fens[2] and user.text("stamp") == "sound", user.text("stamp")
+    shown(user, fens[2])
+    user.until("(document.getElementById('stamp') || {}).innerText === 'sound'", 20)
     user.keys(Keys.PAGE_UP)
-    user.settle()
-    assert position(user) == fens[1] and documents(user) == 1
+    shown(user, fens[1])
+    assert documents(user) == 1
     assert user.js("return document.getElementById('undo').disabled")
     user.click("new")
     user.settle()
