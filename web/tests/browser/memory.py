@@ -5,9 +5,9 @@
 TABLES has all 36; all are opened. The games, 3000 where no number is named, are those of examples/import again and
 again, or those of a file, each with a number for its title. Memory is what all processes of the browser have beside the
 pages of files (Pss_Anon and Pss_Shmem of /proc/PID/smaps_rollup; an empty page takes 160 MB of it), the largest of a
-sample each fifth of a second. Exit status 1 if it is more than 600 MB with up to 3000 games, or if with more games the
-process of the page, which the browser's own task manager shows for a tab, has more than 500 MB. A stall is the longest
-time in which the page took no input; `page` is the time of a processor that its own thread took.
+sample each fifth of a second. Exit status 1 if it is more than 600 MB with up to 3000 games, or if the process of the
+page, which the browser's own task manager shows for a tab, has more than 500 MB when more games are opened. A stall is
+the longest time in which the page took no input; `page` is the time of a processor that its own thread took.
 """
 import glob
 import os
@@ -151,7 +151,8 @@ def main():
         user.until("document.querySelectorAll('#studies option').length > 1", 600)
         user.until("document.getElementById('stamp')", 600)
 
-    rows.append(stage(user, watch, f"{MOST} games opened, {len(text) / 1000:.0f} kB", opened))
+    opening = stage(user, watch, f"{MOST} games opened, {len(text) / 1000:.0f} kB", opened)
+    rows.append(opening)
     rows.append(stage(user, watch, "a title changed", lambda: change(user)))
     rows.append(stage(user, watch, "100 studies one after the other", lambda: walk(user, 100)))
     if user.has("findFaults"):
@@ -164,8 +165,9 @@ def main():
         rows.append(stage(user, watch, "30 more studies", lambda: walk(user, 30)))
     watch.ended = True
     user.end()
-    print(f"{'the browser' if MOST <= 3000 else 'the page'}: at most {max(rows):.0f} MB, of {LIMIT}")
-    sys.exit(max(rows) > LIMIT)
+    most = max(rows) if MOST <= 3000 else opening
+    print(f"{'the browser' if MOST <= 3000 else 'the page, opening'}: at most {most:.0f} MB, of {LIMIT}")
+    sys.exit(most > LIMIT)
 
 
 main()
