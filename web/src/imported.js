@@ -65,9 +65,10 @@ const doubtNote = games =>
  * How many games and studies there were. Games that were left out are named with their reasons where there is no list,
  * which has a row for each.
  * @param {string[]} lines
+ * @param {{games: number, studies: number}} [counts]
  */
-export function importNote(lines) {
-  const [counts] = remarksOfKind(lines, 'total'), out = [...leftOut(lines), ...gamesWithoutPart(lines)];
+export function importNote(lines, counts = remarksOfKind(lines, 'total')[0]) {
+  const out = [...leftOut(lines), ...gamesWithoutPart(lines)];
   if (!counts) return '';
   return `${counted(counts.games, 'game')}, ${counted(counts.studies, 'study', 'studies')}.` +
     outNote(out, counts.studies) + doubtNote(doubtedGames(lines));

@@ -5,7 +5,8 @@ import {change, track} from './actions.js';
 import {learn} from './answer_cache.js';
 import {openAgain} from './documents.js';
 import {studyName} from './entries.js';
-import {numberedApart, numbersOf} from './numbering.js';
+import {joinedNote} from './joined_note.js';
+import {movedGames, numberedApart, numbersOf} from './numbering.js';
 import {app, doc, say, services} from './state.js';
 import {joinedLines} from './study_edits.js';
 import {counted} from './words.js';
@@ -24,6 +25,11 @@ export function offerJoining(before) {
 /** @param {Doc} d */
 const nameOf = d => d.name || studyName(d.studies[0]);
 /**
+ * What is said of a PGN, and the name of its file.
+ * @param {Doc} d
+ */
+const noteOf = d => ({note: d.note, name: d.name ? `${d.name.replace(/\.checked$/, '')}.pgn` : nameOf(d)});
+/**
  * The studies that are shown come behind those of the document before, which is shown then.
  * @param {Doc} second
  * @param {Doc} before
@@ -33,9 +39,10 @@ async function join(second, before) {
   if (doc().id === second.id || !doc().studies.length) return;
   const first = doc(), at = first.studies.length, lines = joinedLines(first, second);
   await learn(lines);
+  const anew = numberedApart(lines), note = joinedNote(noteOf(first), noteOf(second), anew, movedGames(lines, anew));
   const done = await change(now => (now.lines !== first.lines ? null : {
-    lines: numberedApart(lines),
-    note: [now.note, second.note].filter(Boolean).join(' '),
+    lines: anew,
+    note,
     name: now.note ? now.name : now.name && `${now.name}.joined`,
     at,
     path: 'root',

@@ -76,6 +76,13 @@ export function numberedApart(lines) {
   return by ? anew : lines;
 }
 /**
+ * The new number of each game that has one in lines with other numbers.
+ * @param {string[]} lines
+ * @param {string[]} anew
+ */
+export const movedGames = (lines, anew) =>
+  new Map(lines.flatMap((line, i) => (line === anew[i] ? [] : [[gameIn(line).game, gameIn(anew[i]).game]])));
+/**
  * The numbers of a study with several games, one for each.
  * @param {string} number
  * @param {number} many
