@@ -12,6 +12,7 @@ import {table} from './table.js';
 import {messageAt} from './head_view.js';
 import {diagramView} from './diagram.js';
 import {whyCut} from './left_out.js';
+import {unfinished} from './documents.js';
 import {limitOf} from './limits.js';
 import {openText} from './opening.js';
 import {counted, grouped, reason} from './words.js';
@@ -27,6 +28,12 @@ const open = {
 };
 /** What was typed in the script and not run yet stays there, as long as the document is the same. */
 let unrun = /** @type {{text: string, lines: string[]} | null} */ (null);
+/** Once the document is another it is gone. */
+function forgetUnrun() {
+  if (!unrun || unrun.lines === doc().lines) return;
+  unfinished.drop('script', unrun.text);
+  unrun = null;
+}
 /** @param {Study | undefined} s */
 export function textsView(s) {
   return [
@@ -72,6 +79,7 @@ function fieldText(s) {
 }
 /** @param {Study | undefined} s */
 function scriptView(s) {
+  forgetUnrun();
   const {isLong, isLate, note, text} = fieldText(s);
   const script = h('textarea', {
     id: 'script',
@@ -83,8 +91,7 @@ function scriptView(s) {
     }
   });
   const fill = () => {
-    const kept = unrun && unrun.lines === doc().lines ? unrun.text : null;
-    script.value = app.say && app.say.field === 'script' ? app.say.typed : kept ?? text();
+    script.value = app.say && app.say.field === 'script' ? app.say.typed : unrun ? unrun.text : text();
   };
   const isOpen = open.script || doc().refused.length > 0 || (app.say && app.say.where === 'script');
   if (isOpen || !isLate) fill();

@@ -36,8 +36,8 @@ export function watchTyping() {
     const field = /** @type {Field} */ (e.target);
     owed.delete(field);
     if (typing === field) typing = null;
-    const {id, value} = field;
-    if (isField(field)) idle().then(() => unfinished.drop(id, value));
+    const kept = unfinished.kept();
+    if (kept && kept.id === field.id && kept.id !== 'script') idle().then(() => unfinished.drop(kept.id, kept.value));
   });
   // Words that were neither handed over nor kept yet would be lost: the browser asks.
   addEventListener('beforeunload', e => {
@@ -74,14 +74,32 @@ export function typeAgain(field, typed) {
   owed.add(field);
   keepTyped(field);
 }
-/** What was typed before a reload is handed over once its field is drawn; elsewhere it is forgotten. */
+/**
+ * What was typed before a reload stands in its field again, as if it had just been typed there.
+ * @param {Field} field
+ * @param {string} value
+ */
+function typeOn(field, value) {
+  const box = field.closest('details');
+  if (box && !box.open) box.querySelector('summary')?.click();
+  field.value = value;
+  field.focus({preventScroll: true});
+  field.dispatchEvent(new Event('input', {bubbles: true}));
+  owed.add(field);
+}
+/**
+ * What was typed before a reload is handed over once its field is drawn, but for a move, and a script, which are not
+ * entered and not run before the user does so; elsewhere it is forgotten.
+ */
 export function handOverKept() {
-  if (!before || !doc().id || app.setup) return;
-  const {id, value, of, at, path} = before, field = $(id);
-  const isThere = of === placeHere() && at === doc().at && path === doc().path;
+  if (!before) return;
+  const {id, value, of, at, path} = before, field = $(id), isScript = id === 'script';
+  if (of && (!doc().id || (app.setup && !isScript))) return;
+  const isThere = of === placeHere() && (isScript || (at === doc().at && path === doc().path));
   if (isThere && !field) return;
   before = null;
   if (!isThere || field.value === value) return unfinished.drop(id, value);
+  if (isScript || id === 'san') return typeOn(field, value);
   field.value = value;
   field.dispatchEvent(new Event('change', {bubbles: true}));
 }

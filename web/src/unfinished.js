@@ -1,11 +1,12 @@
 // @ts-check
-// What was typed into a field of the study and not handed over yet: the page keeps it over a reload, with its place.
+// What was typed into a field of the study, for a move or for the script and not handed over yet: the page keeps it
+// over a reload, with its place.
 /**
  * `id` is the field, `of` the document, `at` its study and `path` the node that was looked at.
  * @typedef {{id: string, value: string, of: string, at: number, path: string}} Unfinished
  */
 
-const PLACE = 'studyboard.typed', FIELD = /^(note$|tag|other)/;
+const PLACE = 'studyboard.typed', FIELD = /^(note$|tag|other|san$|script$)/;
 /** @param {Pick<Storage, 'getItem' | 'setItem' | 'removeItem'>} session */
 export function makeUnfinished(session) {
   /** @returns {Unfinished | null} */
@@ -18,11 +19,11 @@ export function makeUnfinished(session) {
   return {
     kept,
     /**
-     * Only what belongs to a study is kept.
+     * Only what belongs to a study is kept, and a script, for which none needs to be there.
      * @param {Unfinished} typed
      */
     keep(typed) {
-      if (!FIELD.test(typed.id) || !typed.of) return;
+      if (!FIELD.test(typed.id) || !(typed.of || typed.id === 'script')) return;
       try {
         session.setItem(PLACE, JSON.stringify(typed));
       } catch { /* it is lost with the page */

@@ -28,9 +28,17 @@ test('the last words are kept for their field, document, study and move', () => 
   next.drop('note', 'Not the king');
   assert.equal(next.kept(), null);
 });
+test('a move and a script that are being typed are kept, the script on an empty board too', () => {
+  const page = makeUnfinished(storage());
+  page.keep({id: 'san', value: 'Kg3 K', ...place});
+  assert.equal(page.kept().value, 'Kg3 K');
+  page.keep({id: 'script', value: 'position', ...place, of: ''});
+  assert.deepEqual(page.kept(), {id: 'script', value: 'position', ...place, of: ''});
+});
 test('a field that is not of the study, and a board without a study, keep nothing', () => {
   const page = makeUnfinished(storage());
-  page.keep({id: 'san', value: 'Kg3', ...place});
+  page.keep({id: 'seek', value: 'Kg3', ...place});
+  page.keep({id: 'san', value: 'Kg3', ...place, of: ''});
   page.keep({id: 'notes', value: 'x', ...place});
   page.keep({id: 'tagSite', value: 'Praha', ...place, of: ''});
   assert.equal(page.kept(), null);

@@ -325,6 +325,51 @@ def test_words_in_a_field_that_was_not_left(user):
     assert script(user) == before
 
 
+def test_a_move_and_a_script_that_are_being_typed(user):
+    """After a reload they stand in their fields again, and are entered and run when the user says so, not before."""
+    value = "document.getElementById('{}')?.value"
+
+    def typed(field, text):
+        user.js("const e = document.getElementById(arguments[0]); e.focus(); e.setSelectionRange(9999, 9999)", field)
+        user.keys(text)
+        user.d.refresh()
+        user.until(value.format(field) + "?.endsWith('" + text.split("\n")[-1] + "')")
+        user.settle()
+
+    user.open_tables(TABLES, SMALL)
+    user.until("document.getElementById('scriptBox')")
+    user.press_on("#scriptBox > summary")
+    typed("script", "position 8/8/8/6k1")
+    assert user.js("return " + value.format("script")) == "position 8/8/8/6k1"
+    started(user, FEN, "Typed")
+    before = script(user)
+    typed("san", "Kg3 Kf5 Kf")
+    assert script(user) == before
+    user.keys("3", Keys.ENTER)
+    user.until("document.querySelectorAll('.tree [data-path]').length >= 3")
+    user.settle()
+    assert "insert 0.0 Kf3" in script(user) and user.js("return " + value.format("san")) == "", script(user)
+    reload(user)
+    assert user.js("return " + value.format("san")) == ""
+    before = script(user)
+    if not user.js("return document.getElementById('scriptBox').open"):
+        user.press_on("#scriptBox > summary")
+    typed("script", "\ntag White Nob")
+    user.keys("ody")
+    user.press_on("#first")
+    user.settle()
+    reload(user)
+    assert user.js("return document.getElementById('scriptBox').open") and script(user) == before
+    assert user.js("return " + value.format("script")).endswith("\ntag White Nobody")
+    user.click("runScript")
+    user.until("document.getElementById('head').innerText.includes('Nobody')")
+    user.settle()
+    user.fill("tagSite", "Praha")
+    before = script(user)
+    reload(user)
+    assert user.js("return " + value.format("script")).rstrip("\n") == before.rstrip("\n")
+
+
 def test_a_refused_position_of_the_same_men(user):
     """After a right position a refused one of the same men, and the right one again: its tables are built and laid."""
     fen = "document.getElementById('judged').textContent"
