@@ -4,7 +4,7 @@ import {h, smallButton} from './dom.js';
 import {track} from './actions.js';
 import {CODE_PAGES, textIn} from './code_pages.js';
 import {remedyOf} from './cut_game.js';
-import {joinView} from './joining.js';
+import {joinView, nameOf} from './joining.js';
 import {leftOutBy} from './left_out.js';
 import {asked, gamesWithoutAim, openHeld, readAs} from './mending.js';
 import {lastOpened, openPgn} from './opening.js';
@@ -116,6 +116,16 @@ function heldView(again) {
   return [row('upTo', 'Open up to the bad move', 'open'), row('toMend', 'Mend the text of', 'mend')];
 }
 /**
+ * Which PGN brought no study, and why; and that the study below is not of it.
+ * @param {Source} last
+ * @param {boolean} anew      whether a new set-up is shown
+ */
+function triedText({name, said}, anew) {
+  const below = !anew && doc().studies.length > 0;
+  return `${name || 'What was pasted'}: no study could be read. ${said}${
+    below ? ` What stands below is another document, ${nameOf(doc())}, as it was.` : ''}`;
+}
+/**
  * What of a PGN was left out and is not kept; and where games only lack a stipulation, the four that they can have,
  * also beside a set-up where no game was read yet.
  * @param {boolean} anew      whether a new set-up is shown
@@ -124,6 +134,6 @@ export function importView(anew) {
   const last = lastOpened(),
         parts = [gamesView(last), ...(last ? [...(last.id ? [] : heldView(last)), codesView(last)] : [])];
   if (last && !last.id && parts.some(Boolean))
-    return [h('p', {class: 'note', id: 'tried'}, last.said), ...parts, askView()];
+    return [h('p', {class: 'note', id: 'tried'}, triedText(last, anew)), ...parts, askView()];
   return anew ? null : [noteView(doc().note), ...parts, askView(), joinView()];
 }

@@ -22,13 +22,16 @@ export function offerJoining(before) {
   const isKept = before.studies.length > 0 && before.id !== '' && before.id !== app.looked;
   if (before.id !== doc().id) opened = isKept ? {id: doc().id, before} : null;
 }
-/** @param {Doc} d */
-const nameOf = d => d.name || studyName(d.studies[0]);
+/**
+ * The name of the file that a document was opened from, or its title.
+ * @param {Doc} d
+ */
+export const nameOf = d => d.name.replace(/\.checked$/, '') || studyName(d.studies[0]);
 /**
  * What is said of a PGN, and the name of its file.
  * @param {Doc} d
  */
-const noteOf = d => ({note: d.note, name: d.name ? `${d.name.replace(/\.checked$/, '')}.pgn` : nameOf(d)});
+const noteOf = d => ({note: d.note, name: d.name ? `${nameOf(d)}.pgn` : nameOf(d)});
 /**
  * The studies that are shown come behind those of the document before, which is shown then.
  * @param {Doc} second

@@ -237,8 +237,10 @@ export const openFiles = files => track((async () => {
     app.say = null;
     await openFile(file);
     const said = /** @type {import('./state.js').Say | null} */ (app.say);
+    const read = source !== before ? source : null;
     if (said && !said.good) bad.push(`${file.name}: ${said.text}`);
-    if (source && source !== before && source.foreign.length) coded.push(file.name);
+    else if (read && !read.id) bad.push(`${file.name}: no study could be read; open it alone to mend it.`);
+    if (read && read.foreign.length) coded.push(file.name);
   }
   if (files.length < 2) return;
   const opened = files.length - bad.length, text = `${opened} of ${files.length} files opened, each as a document.`;

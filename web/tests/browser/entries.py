@@ -399,6 +399,30 @@ def test_a_game_alone_with_a_bad_move(user):
     assert "stipulate white draw" in script(user) and not user.has("ask")
 
 
+def test_a_file_without_a_study_beside_a_document(user):
+    """It says which file that is, why, and that the study below is of another document, which stays as it was."""
+    user.open_tables(TABLES, SMALL)
+    opened(user, "mine.pgn", game("One", "A", "1. Kg3"))
+    user.settle()
+    before, bad = script(user), game("Seven", "B", "1. Kg3", fen=BAD)
+    opened(user, "seven.pgn", bad, "document.getElementById('tried')")
+    said = user.text("tried")
+    assert said.startswith("seven.pgn: no study could be read. 1 game, 0 studies.") and "6 men" in said, said
+    assert said.endswith("What stands below is another document, mine, as it was."), said
+    assert script(user) == before and user.js("return document.querySelector('[data-held]') !== null")
+    user.click("new")
+    assert "What stands below" not in user.text("tried")
+    user.click("cancel")
+    paths = []
+    for name, text in (("seven.pgn", bad), ("two.pgn", game("Two", "B", "1. Kg3"))):
+        paths.append(os.path.join(tempfile.mkdtemp(), name))
+        with open(paths[-1], "w", encoding="utf-8") as file:
+            file.write(text if isinstance(text, str) else text.decode())
+    user.by("file").send_keys("\n".join(paths))
+    user.until("document.getElementById('sayBoard').textContent.includes('1 of 2 files opened')", 60)
+    assert "seven.pgn: no study could be read" in user.text("sayBoard"), user.text("sayBoard")
+
+
 def test_sources_that_differ_are_a_filter(user):
     user.open_tables(TABLES, SMALL)
     text = "".join(
