@@ -33,6 +33,11 @@ export const nameOf = d => d.name.replace(/\.checked$/, '') || studyName(d.studi
  */
 const noteOf = d => ({note: d.note, name: d.name ? `${nameOf(d)}.pgn` : nameOf(d)});
 /**
+ * The joined document is saved under another name than either file.
+ * @param {string} name      of the first
+ */
+export const joinedName = name => name && `${name.replace(/\.(checked|joined)$/, '')}.joined`;
+/**
  * The studies that are shown come behind those of the document before, which is shown then.
  * @param {Doc} second
  * @param {Doc} before
@@ -46,7 +51,7 @@ async function join(second, before) {
   const done = await change(now => (now.lines !== first.lines ? null : {
     lines: anew,
     note,
-    name: now.note ? now.name : now.name && `${now.name}.joined`,
+    name: joinedName(now.name),
     at,
     path: 'root',
     lenient: true

@@ -409,6 +409,7 @@ def test_two_files_as_one_document(user):
     assert rows == [["1", "One"], ["3", "One"], ["2", "Two"], ["4", "Three"]], rows
     assert user.text("head").startswith("Three") and "from No. 4 on" in user.text("sayBoard"), user.text("sayBoard")
     assert user.text("notKept").startswith("first.pgn and second.pgn: 3 games, 4 studies."), user.text("notKept")
+    assert user.download("savePgn")[0] == "first.joined.pgn" and user.text("notKept").endswith("first.joined.pgn.")
     user.click("undo")
     user.settle()
     assert user.js("return document.querySelectorAll('#list tbody tr').length") == 3
