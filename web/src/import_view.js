@@ -133,7 +133,8 @@ function triedText({name, said}, anew) {
 export function importView(anew) {
   const last = lastOpened(),
         parts = [gamesView(last), ...(last ? [...(last.id ? [] : heldView(last)), codesView(last)] : [])];
+  const isCoded = last !== null && last.foreign.length > 0 && !last.how.code;
   if (last && !last.id && parts.some(Boolean))
     return [h('p', {class: 'note', id: 'tried'}, triedText(last, anew)), ...parts, askView()];
-  return anew ? null : [noteView(doc().note), ...parts, askView(), joinView()];
+  return anew ? null : [noteView(doc().note), ...parts, askView(), joinView(isCoded)];
 }

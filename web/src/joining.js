@@ -48,14 +48,9 @@ async function join(second, before) {
   const first = doc(), at = first.studies.length, lines = joinedLines(first, second);
   await learn(lines);
   const anew = numberedApart(lines), note = joinedNote(noteOf(first), noteOf(second), anew, movedGames(lines, anew));
-  const done = await change(now => (now.lines !== first.lines ? null : {
-    lines: anew,
-    note,
-    name: joinedName(now.name),
-    at,
-    path: 'root',
-    lenient: true
-  }));
+  const done = await change(now => (now.lines !== first.lines
+                                ? null
+                                : {lines: anew, note, name: joinedName(now.name), at, path: 'root', lenient: true}));
   if (!done || doc().studies.length <= at) return;
   const number = numbersOf(doc())[at];
   say('board',
@@ -64,13 +59,19 @@ async function join(second, before) {
     true);
   services.show();
 }
-/** What joins the document that was opened with the one before. */
-export function joinView() {
+/**
+ * What joins the document that was opened with the one before.
+ * @param {boolean} isCoded      whether its names have letters of an older code that was not chosen yet
+ */
+export function joinView(isCoded) {
   const second = doc();
   if (!opened || opened.id !== second.id || !second.studies.length || !second.judged) return null;
   const {before} = opened, n = counted(second.studies.length, 'study', 'studies');
   return h('p', {class: 'row', id: 'join', role: 'group', 'aria-label': 'The document before'},
     `Before stood ${nameOf(before)}, with ${counted(before.studies.length, 'study', 'studies')}. `,
     smallButton(`Put ${second.studies.length === 1 ? 'this study' : `these ${n}`} behind it`,
-      'one document of both files', () => track(join(second, before)), {id: 'joinFiles'}));
+      'one document of both files', () => track(join(second, before)), {id: 'joinFiles'}),
+    isCoded &&
+      h('span', {class: 'note', id: 'codeFirst'},
+        'Choose the code page of its letters first: not once they are joined.'));
 }

@@ -8,6 +8,7 @@ import hashlib
 import os
 import re
 import sys
+import tempfile
 import time
 from html.parser import HTMLParser
 
@@ -413,6 +414,30 @@ def test_two_files_as_one_document(user):
     user.click("undo")
     user.settle()
     assert user.js("return document.querySelectorAll('#list tbody tr').length") == 3
+
+
+def test_a_code_page_is_chosen_before_files_are_joined(user):
+    """Once they are joined it cannot be: the page says so beside the button, until a code page is chosen."""
+    game = '[Event "{}"]\n[White "{}"]\n[FEN "8/8/8/6k1/8/8/1P5K/8 w - - 0 1"]\n\n{{White to win}} 1. Kg3 *\n\n'
+    user.open_file("first.pgn", game.format("One", "A"))
+    user.until("document.getElementById('head').innerText.includes('One')", 60)
+    user.settle()
+    path = os.path.join(tempfile.mkdtemp(), "second.pgn")
+    with open(path, "wb") as file:
+        file.write(game.format("Two", "Троицкий").encode("cp1251"))
+    user.by("file").send_keys(path)
+    user.until("document.getElementById('codeFirst')", 60)
+    user.settle()
+    assert user.text("codeFirst").startswith("Choose the code page of its letters first"), user.text("join")
+    user.press_on('[data-code="windows-1251"]')
+    user.until("document.getElementById('head').innerText.includes('Троицкий')", 60)
+    user.settle()
+    assert user.has("joinFiles") and not user.has("codeFirst")
+    user.click("joinFiles")
+    user.until("document.querySelectorAll('#list tbody tr').length === 2", 60)
+    user.settle()
+    assert "The tags of game 2 have letters that are no UTF-8, read as Cyrillic" in user.text("notKept")
+    assert '[White "Троицкий"]' in user.download("savePgn")[1]
 
 
 def test_files_of_an_older_code_are_named(user):
