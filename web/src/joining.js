@@ -47,7 +47,9 @@ async function join(second, before) {
   if (doc().id === second.id || !doc().studies.length) return;
   const first = doc(), at = first.studies.length, lines = joinedLines(first, second);
   await learn(lines);
-  const anew = numberedApart(lines), note = joinedNote(noteOf(first), noteOf(second), anew, movedGames(lines, anew));
+  const anew = numberedApart(lines);
+  await learn(anew);
+  const note = joinedNote(noteOf(first), noteOf(second), anew, movedGames(lines, anew));
   const done = await change(now => (now.lines !== first.lines
                                 ? null
                                 : {lines: anew, note, name: joinedName(now.name), at, path: 'root', lenient: true}));
