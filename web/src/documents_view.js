@@ -5,6 +5,7 @@ import {comparingView, compare, endComparing, followDocument, isComparing} from 
 import {besideDiagram} from './drawing.js';
 import {copyKept, forget, isHere, list, openKept, otherPages, renameKept} from './documents.js';
 import {inOrder, nameInList} from './heads.js';
+import {joinKept} from './joining.js';
 import {tooLong} from './limits.js';
 import {sortHead, table} from './table.js';
 import {services} from './state.js';
@@ -121,6 +122,10 @@ function tickedView(all) {
           open = isHere(id) ? ', open here' : '';
     return /** @type {[string, string]} */ ([id, head ? nameInList(head, all) + file + open : '']);
   });
+  const join = () => {
+    close();
+    joinKept(all.filter(({id}) => ids.includes(id)));
+  };
   const remove = () => {
     if (!ui.sure) return set({sure: true});
     for (const id of gone) forget(id);
@@ -130,6 +135,8 @@ function tickedView(all) {
   return h('p', {class: 'row', role: 'group', 'aria-label': 'The documents that are chosen'},
     button(
       'Compare', 'two documents side by side', () => compare(names()), {id: 'compare', disabled: ids.length !== 2}),
+    button(
+      'Join', 'one more document, with the studies of all of them', join, {id: 'joinKept', disabled: ids.length < 2}),
     button(`Remove${gone.length ? ` ${gone.length}` : ''}${ui.sure ? ' for good' : ''}${
              gone.length < ids.length ? ', not the open one' : ''}`,
       'take them out of this browser', remove, {id: 'removeKept', disabled: !gone.length}));

@@ -243,7 +243,8 @@ export const openFiles = files => track((async () => {
     if (read && read.foreign.length) coded.push(file.name);
   }
   if (files.length < 2) return;
-  const opened = files.length - bad.length, text = `${opened} of ${files.length} files opened, each as a document.`;
+  const opened = files.length - bad.length, join = opened > 1 ? '; Documents can join them' : '',
+        text = `${opened} of ${files.length} files opened, each as a document${join}.`;
   say('board', [text, ...bad, codedText(coded)].filter(Boolean).join(' '), !bad.length);
   services.show();
 })());

@@ -416,6 +416,36 @@ def test_two_files_as_one_document(user):
     assert user.js("return document.querySelectorAll('#list tbody tr').length") == 3
 
 
+def test_several_files_as_one_document(user):
+    """Documents that are ticked become one more, in the order in which they were opened; each of them stays."""
+    game = '[Event "{}"]\n[White "{}"]\n[FEN "8/8/8/6k1/8/8/1P5K/8 w - - 0 1"]\n\n{{White to win}} 1. Kg3 *\n\n'
+    folder, paths = tempfile.mkdtemp(), []
+    for name, titles in (("a", ("One", "Two")), ("b", ("Three",)), ("c", ("Four", "Five"))):
+        paths.append(os.path.join(folder, name + ".pgn"))
+        with open(paths[-1], "w", encoding="utf-8") as file:
+            file.write("".join(game.format(title, "Somebody") for title in titles))
+    user.by("file").send_keys("\n".join(paths))
+    user.until("document.getElementById('sayBoard').textContent.includes('3 of 3 files opened')", 60)
+    user.settle()
+    assert "Documents can join them" in user.text("sayBoard")
+    user.click("documentsButton")
+    user.until("document.querySelectorAll('#documents [data-tick]').length === 3")
+    assert user.js("return document.getElementById('joinKept').disabled")
+    for at in range(3):
+        user.js("document.querySelectorAll('#documents [data-tick]')[arguments[0]].click()", at)
+    user.click("joinKept")
+    user.until("document.querySelectorAll('#list tbody tr').length === 5", 60)
+    user.settle()
+    cells = "row => [0, 1].map(i => row.cells[i].innerText)"
+    rows = user.js(f"return [...document.querySelectorAll('#list tbody tr')].map({cells})")
+    assert rows == [["1", "One"], ["2", "Two"], ["3", "Three"], ["4", "Four"], ["5", "Five"]], rows
+    assert user.text("sayBoard").startswith("One document of a, b, c, in this order"), user.text("sayBoard")
+    assert user.text("notKept").startswith("a.pgn and b.pgn and c.pgn: 5 games, 5 studies."), user.text("notKept")
+    assert user.download("savePgn")[0] == "a.joined.pgn"
+    user.click("documentsButton")
+    user.until("document.querySelectorAll('#documents tbody tr').length === 4")
+
+
 def test_a_code_page_is_chosen_before_files_are_joined(user):
     """Once they are joined it cannot be: the page says so beside the button, until a code page is chosen."""
     game = '[Event "{}"]\n[White "{}"]\n[FEN "8/8/8/6k1/8/8/1P5K/8 w - - 0 1"]\n\n{{White to win}} 1. Kg3 *\n\n'
