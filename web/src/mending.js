@@ -8,13 +8,13 @@ import {mended} from './documents.js';
 import {$} from './dom.js';
 import {documentOf, isOfFile, noteAfter, studiesIn} from './imported.js';
 import {freshId} from './keep.js';
-import {canBeCut, isCutLine, leftOut, leftOutBy, whyLeftOut, withoutCut} from './left_out.js';
+import {canBeCut, leftOut, leftOutBy, whyLeftOut} from './left_out.js';
 import {refuseLong} from './limits.js';
 import {once} from './once.js';
 import {checkedName, importPgn, withRemarks} from './opening.js';
 import {withOwnHead} from './own_head.js';
 import {app, doc, say, services, study} from './state.js';
-import {partHere} from './tails.js';
+import {endedHere, placeOf, wholeOf} from './whole_game.js';
 import {aimWords} from './words.js';
 /** @typedef {import('./types.js').Study} Study @typedef {import('./left_out.js').LeftOut} LeftOut */
 
@@ -130,32 +130,13 @@ export function unreadText() {
   return s ? textIn(doc().lines.slice(s.head, s.from)) : null;
 }
 /**
- * The lines of a study; of a part of a game those of the whole game, as far as its parts stand together.
- * @param {import('./types.js').Doc} d
- * @param {Study} s
- */
-function wholeOf({lines, studies}, s) {
-  const tail = partHere(s.origin),
-        isBeside = (/** @type {Study | undefined} */ other) =>
-          Boolean(tail && other && partHere(other.origin)?.game === tail.game);
-  let first = studies.indexOf(s), last = first, head = s.head;
-  while (isBeside(studies[first - 1])) first--;
-  while (isBeside(studies[last + 1])) last++;
-  if (tail) head = studies[first].head;
-  while (tail && head > 0 && (lines[head - 1] === '' || lines[head - 1].startsWith('#')) &&
-    !lines[head].startsWith('#! game '))
-    head--;
-  return {first, head, end: studies[last].end};
-}
-/**
  * Other lines take the place of the study that is looked at, or of the game that it is a part of.
  * @param {Study} s
  * @param {string[]} block
- * @param {boolean} [whole]
  */
-const replaceStudy = (s, block, whole = false) => change(now => {
+const replaceStudy = (s, block) => change(now => {
   if (now.studies[now.at] !== s) return null;
-  const {first, head, end} = whole ? wholeOf(now, s) : {first: now.at, head: s.head, end: s.end}, lines = [
+  const {first, head, end} = wholeOf(now, s), lines = [
     ...now.lines.slice(0, head), ...block, ...(end < now.lines.length ? [''] : []), ...now.lines.slice(end)
   ];
   return {lines, at: first, path: 'root', lenient: true};
@@ -197,14 +178,15 @@ const isOneGame = lines => lines.filter(line => line.startsWith('position ')).le
  * @param {string} text
  */
 export const readAgain = text => track((async () => {
-  const s = study(), cut = unreadText(), aim = s && s.aim && !isOfFile(s.origin) ? aimWords(s.aim) : undefined,
-        read = s ? await readMended(text, s.origin, 'cut', aim) : [];
-  if (!s || !cut || !read.length) return;
+  const s = study(), cut = unreadText(), aim = s && s.aim && !isOfFile(s.origin) ? aimWords(s.aim) : undefined;
+  if (!s || !cut) return;
+  const place = placeOf(doc().lines, s), read = await readMended(text, place, 'cut', aim);
+  if (!read.length) return;
   const {head, end} = wholeOf(doc(), s), now = doc().lines.slice(head, end),
-               then = await readMended(cut.text + cut.rest, s.origin, 'cut', aim),
+               then = await readMended(cut.text + cut.rest, place, 'cut', aim),
                lines = withOwnHead(withOwnWords(read, now, then), now, then);
   const same = lines.join('\n').trim() === now.join('\n').trim();
-  if (same || await replaceStudy(s, lines, true)) mended.drop(cut.text + cut.rest);
+  if (same || await replaceStudy(s, lines)) mended.drop(cut.text + cut.rest);
   if (!same) return;
   say('cut', 'It was read again, and ends at the same move.', true);
   services.show();
@@ -286,8 +268,7 @@ export const readLeftOut = text => track((async () => {
 })());
 /** The study ends where the game was read to. */
 export function endHere() {
-  const s = study(), {lines} = doc();
-  if (!s) return;
-  const gap = lines[s.end - 1] === '' ? 1 : 0, own = lines.slice(s.from, s.end - gap).filter(line => !isCutLine(line));
-  replaceStudy(s, [...withoutCut(lines.slice(s.head, s.from)), ...own]);
+  const s = study();
+  if (s)
+    change(now => (now.studies[now.at] === s ? {lines: endedHere(now.lines, s), path: 'root', lenient: true} : null));
 }
