@@ -6,8 +6,11 @@ import {counted} from './words.js';
 /** @typedef {import('./types.js').Study} Study */
 /** @typedef {{path: string, san: string, children: Node[]}} Node      of a tree, whether it is judged or not */
 
-/** @param {string} line */
-const movesOf = line => {
+/**
+ * The moves that lead to the dual which a line accepts; of another line none.
+ * @param {string} line
+ */
+export const tickedIn = line => {
   const {word, rest} = ownRemark(line);
   return word === 'accepted' ? cutAt(rest, ':')[0] : '';
 };
@@ -33,15 +36,28 @@ function movesTo(root, path) {
  * @param {string[]} paths
  */
 export function acceptedAmong(lines, study, root, paths) {
-  const ticked = new Set(lines.slice(study.head, study.from).map(movesOf).filter(Boolean));
+  const ticked = new Set(lines.slice(study.head, study.from).map(tickedIn).filter(Boolean));
   return ticked.size ? paths.filter(path => ticked.has(movesTo(root, path))) : [];
 }
+/**
+ * Whether the moves to a dual that a line accepts are in a tree.
+ * @param {Node} root
+ * @param {string} line
+ */
+export const hasTicked = (root, line) => hasLine(root, tickedIn(line).split(' '));
+/**
+ * @param {Node} node
+ * @param {string[]} moves
+ * @returns {boolean}
+ */
+const hasLine = ({children}, [move, ...behind]) =>
+  move === undefined || children.some(child => plain(child.san) === move && hasLine(child, behind));
 /**
  * Whether some dual of a study is accepted, whatever became of its moves.
  * @param {string[]} lines
  * @param {{head: number, from: number}} study
  */
-export const hasAccepted = (lines, study) => lines.slice(study.head, study.from).some(movesOf);
+export const hasAccepted = (lines, study) => lines.slice(study.head, study.from).some(tickedIn);
 /**
  * The lines of a script once a dual is accepted, or is not any more.
  * @param {string[]} lines
@@ -52,7 +68,8 @@ export const hasAccepted = (lines, study) => lines.slice(study.head, study.from)
  * @returns {import('./types.js').Change}
  */
 export function accept(lines, study, root, path, yes) {
-  const moves = movesTo(root, path), head = lines.slice(study.head, study.from).filter(line => movesOf(line) !== moves);
+  const moves = movesTo(root, path),
+        head = lines.slice(study.head, study.from).filter(line => tickedIn(line) !== moves);
   const tick = yes ? [`#! accepted ${moves}: dual`] : [];
   return {lines: [...lines.slice(0, study.head), ...head, ...tick, ...lines.slice(study.from)]};
 }

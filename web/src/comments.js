@@ -131,26 +131,3 @@ export function withWords(lines, study, root, n, {comment, glyphs}) {
 export const withGlyph =
   ({glyphs}, kind, glyph) => [...glyphs.filter(other => isOfMove(other) !== (kind === 0)), ...(glyph ? [glyph] : [])]
                                .sort((x, y) => Number(x.slice(1)) - Number(y.slice(1)));
-/**
- * The words above each position of lines, and those above none at the end.
- * @param {string[]} lines
- */
-function wordsByPart(lines) {
-  const parts = /** @type {string[][]} */ ([[]]);
-  for (const line of lines)
-    if (/^#! note\+? /.test(line)) parts[parts.length - 1].push(line);
-    else if (line.startsWith('position ')) parts.push([]);
-  return parts;
-}
-/**
- * The lines of a game that was read again, with the words that were written beside it since it was read before.
- * @param {string[]} block
- * @param {string[]} now      its lines until now
- * @param {string[]} then      as its text had them
- */
-export function withOwnWords(block, now, then) {
-  const read = wordsByPart(then),
-        own = wordsByPart(now).map((words, i) => words.filter(line => !read[i]?.includes(line)));
-  let part = 0;
-  return block.flatMap(line => (line.startsWith('position ') ? [...(own[part++] || []), line] : [line]));
-}

@@ -2,7 +2,6 @@
 // Games with a bad move, opened up to there, and others that were left out: mended, and read again.
 import {change, track, work} from './actions.js';
 import {learn} from './answer_cache.js';
-import {withOwnWords} from './comments.js';
 import {asGame, cutBlock, cutOf, hasPosition, leftOutText, remedyOf, textIn, whyGone} from './cut_game.js';
 import {mended} from './documents.js';
 import {$} from './dom.js';
@@ -12,7 +11,7 @@ import {canBeCut, leftOut, leftOutBy, whyLeftOut} from './left_out.js';
 import {refuseLong} from './limits.js';
 import {once} from './once.js';
 import {checkedName, importPgn, withRemarks} from './opening.js';
-import {withOwnHead} from './own_head.js';
+import {withOwn} from './own_head.js';
 import {app, doc, say, services, study} from './state.js';
 import {endedHere, placeOf, wholeOf} from './whole_game.js';
 import {aimWords} from './words.js';
@@ -184,11 +183,12 @@ export const readAgain = text => track((async () => {
   if (!read.length) return;
   const {head, end} = wholeOf(doc(), s), now = doc().lines.slice(head, end),
                then = await readMended(cut.text + cut.rest, place, 'cut', aim),
-               lines = withOwnHead(withOwnWords(read, now, then), now, then);
+               {lines, gone} = withOwn(read, now, then);
   const same = lines.join('\n').trim() === now.join('\n').trim();
   if (same || await replaceStudy(s, lines)) mended.drop(cut.text + cut.rest);
-  if (!same) return;
-  say('cut', 'It was read again, and ends at the same move.', true);
+  if (same) say('cut', 'It was read again, and ends at the same move.', true);
+  else if (gone.length) say('board', `Left out, since the game has the moves no more: ${gone.join('; ')}.`);
+  else return;
   services.show();
 })());
 

@@ -1,11 +1,16 @@
 // @ts-check
-// A game that is read again keeps its tags and its stipulation as they were set on the page.
+// A game that is read again keeps what was set on the page: its tags, its stipulation, the words beside its moves, and
+// the duals that were accepted; each part of it its own.
+import {hasTicked, tickedIn} from './accepted.js';
 import {assumeAccepted} from './assumed.js';
 import {setTag, stipulate} from './edits.js';
 import {byHand} from './imported.js';
+import {plain} from './notes.js';
 import {cutAt, ownRemark} from './remarks.js';
 import {TAGS} from './script.js';
-import {aimWords} from './words.js';
+import {partHere, wayTo} from './tails.js';
+import {bareTree} from './unmarked.js';
+import {aimWords, numberedLast} from './words.js';
 /** @typedef {import('./types.js').Study} Study */
 /** @typedef {(lines: string[], part: Study) => string[]} Edit      of one part of a game, in the lines of all */
 
@@ -66,18 +71,68 @@ const otherEdits =
                      return [...lines.slice(0, at), ...(line ? [line] : []), ...lines.slice(there ? at + 1 : at)];
                    });
 /**
- * The lines of a game that was read again, with the tags and the stipulation that were set since it was read before.
+ * The parts of a game, each with the moves that lead to it; a study that is the whole game has none.
+ * @param {string[]} lines
+ */
+const waysIn = lines => partsIn(lines).map(part => {
+  const tail = partHere(part.origin);
+  return {part, way: tail ? wayTo(lines, tail.node).map(plain).join(' ') : ''};
+});
+/**
+ * The remarks above a part that keep words, or an accepted dual.
+ * @param {string[]} lines
+ * @param {Study} part
+ */
+const saidIn = (lines, {head, from}) => lines.slice(head, from).filter(line => /^#! (note\+?|accepted) /.test(line));
+/**
+ * A part of a game with what was set for it since its text was read before.
+ * @param {string[]} now      the lines of the game until now
+ * @param {Study} own
+ * @param {string[]} then      as its text had them
+ * @param {Study} file
+ */
+const setFor = (now, own, then, file) => ({
+  edits: [...tagEdits(own, file), ...otherEdits(otherTags(now, own), otherTags(then, file)), ...aimEdits(own, file)],
+  said: saidIn(now, own).filter(line => !saidIn(then, file).includes(line))
+});
+/**
+ * The lines of a game with the remarks that were set for a part of it, as far as they do not stand there; of the duals
+ * that were accepted those whose moves are there.
+ * @param {string[]} lines
+ * @param {Study} part
+ * @param {string[]} said
+ */
+function withSaid(lines, part, said) {
+  const tree = bareTree(lines.slice(part.from, part.end)), there = saidIn(lines, part),
+        isGone = (/** @type {string} */ line) => tickedIn(line) !== '' && !hasTicked(tree, line),
+        own = said.filter(line => !isGone(line) && !there.includes(line));
+  return {
+    lines: [...lines.slice(0, part.from), ...own, ...lines.slice(part.from)],
+    gone: said.filter(isGone).map(line => `the accepted dual ${numberedLast(part.fen, tickedIn(line).split(' '))}`)
+  };
+}
+/**
+ * The lines of a game that was read again, with what was set on the page since it was read before, at the parts after
+ * the same moves; and in words, what of it has no place any more.
  * @param {string[]} block
  * @param {string[]} now      its lines until now
  * @param {string[]} then      as its text had them
  */
-export function withOwnHead(block, now, then) {
-  const file = partsIn(then);
-  return partsIn(now).reduce((all, own, i) => {
-    if (!file[i] || !partsIn(all)[i]) return all;
-    const edits = [
-      ...tagEdits(own, file[i]), ...otherEdits(otherTags(now, own), otherTags(then, file[i])), ...aimEdits(own, file[i])
-    ];
-    return edits.reduce((lines, edit) => edit(lines, partsIn(lines)[i]), all);
-  }, block);
+export function withOwn(block, now, then) {
+  const file = waysIn(then), read = waysIn(block), gone = /** @type {string[]} */ ([]);
+  let lines = block;
+  for (const {part: own, way} of waysIn(now)) {
+    const before = file.find(other => other.way === way), at = read.findIndex(other => other.way === way);
+    if (!before) continue;
+    const {edits, said} = setFor(now, own, then, before.part);
+    if (at < 0) {
+      if (edits.length || said.length) gone.push(`what was set for the part after ${partHere(own.origin)?.after}`);
+      continue;
+    }
+    const edited = edits.reduce((all, edit) => edit(all, partsIn(all)[at]), lines),
+          made = withSaid(edited, partsIn(edited)[at], said);
+    lines = made.lines;
+    gone.push(...made.gone);
+  }
+  return {lines, gone};
 }

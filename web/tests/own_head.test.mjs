@@ -1,10 +1,11 @@
-// A game with a bad move, whose tags and stipulation were set on the page, and whose text is mended and read again.
+// A game with a bad move, with tags, a stipulation, words and accepted duals that were set on the page: its text is
+// mended and read again.
 import './stand_in.mjs';
 import test from 'node:test';
 import assert from 'node:assert/strict';
 import {assumeAccepted} from '../src/assumed.js';
 import {setTag, stipulate} from '../src/edits.js';
-import {withOwnHead} from '../src/own_head.js';
+import {withOwn} from '../src/own_head.js';
 
 const THEN = [
   '#! game 1, line 1: stipulated by its comment', '#! tag Annotator an editor', '#! tag Result 1-0',
@@ -14,6 +15,7 @@ const THEN = [
 const READ = THEN.flatMap(line => (line === 'tag Event bad move' ? ['tag Event mended']
                               : /Kz9/.test(line)                 ? []
                                                                  : [line]));
+const withOwnHead = (...lines) => withOwn(...lines).lines;
 const only = lines => assumeAccepted(lines).studies[0];
 const edited = (lines, ...edits) => edits.reduce((all, edit) => edit(all, only(all)).lines, lines);
 const told = lines => {
@@ -42,9 +44,34 @@ test('a stipulation that the text does not state stays one that was set by hand'
   assert.equal(told(withOwnHead(read, now, asked)).source, 'hand');
   assert.equal(told(withOwnHead(read, now, read)).source, 'hand');
 });
-test('each part of a game keeps its own', () => {
-  const two = lines => [...lines, '', ...lines.map(line => line.replace('8/8/8/6k1', '8/8/8/7k'))], then = two(THEN),
-        [, second] = assumeAccepted(then).studies, now = setTag(then, second, 'White', 'Reti').lines,
-        names = assumeAccepted(withOwnHead(two(READ), now, then)).studies.map(({tags}) => tags.White);
-  assert.deepEqual(names, ['Bad, Author', 'Reti']);
+const GAME = [
+  '#! game 1, line 1: stipulated by its comment', '#> position 8/8/2P5/1Pr5/8/8/N7/k2K4 w - - 0 1',
+  '#> insert root Nc1', '#> insert 0 Rxb5', '#> insert root Nb4', '#> insert 1 Rxb5', ''
+];
+const PART = (heading, men) => [`#! tail ${heading}`, `position ${men} w - - 0 3`, 'stipulate white win',
+  'tag Event Liburkin', 'insert root c8=Q', 'pgn', ''];
+const TRY = PART('1 of 1 of game 1, node 1.0, after 1... Rxb5, beside the solution', '8/2P5/8/8/1r6/8/8/k2K4'),
+      MAIN = PART('1 of 2 of game 1, node 0.0, after 1... Rxb5', '8/2P5/8/8/8/3r4/8/k2K4'),
+      TRY_BEHIND = TRY.map(line => line.replace('tail 1 of 1', 'tail 2 of 2'));
+test('what is set for a part of a game stays with its moves, whichever number the part has', () => {
+  const then = [...GAME, ...TRY], parts = lines => assumeAccepted(lines).studies;
+  let now = [...GAME, TRY[0], '#! note -: this try is cheap', ...TRY.slice(1)];
+  now = setTag(now, parts(now)[0], 'Event', 'Try only').lines;
+  now = stipulate(now, parts(now)[0], 'white draw').lines;
+  const {lines, gone} = withOwn([...GAME, ...MAIN, ...TRY_BEHIND], now, then),
+                [main, attempt] = parts(lines).map(({head, from, tags, aim}) => [tags.Event, aim.goal,
+                                                     lines.slice(head, from).includes('#! note -: this try is cheap')]);
+  assert.deepEqual([main, attempt, gone], [['Liburkin', 'win', false], ['Try only', 'draw', true], []]);
+});
+test('what is set for a part that is there no more is left out, and said', () => {
+  const then = [...GAME, ...TRY], now = [...GAME, TRY[0], '#! note -: cheap', ...TRY.slice(1)],
+        block = [...GAME, ...MAIN];
+  assert.deepEqual(withOwn(block, now, then), {lines: block, gone: ['what was set for the part after 1... Rxb5']});
+  assert.deepEqual(withOwn(block, then, then), {lines: block, gone: []});
+});
+test('words and accepted duals stay, as long as the moves to the dual are there', () => {
+  const own = ['#! note Kg3: own', '#! accepted Kg3: dual', '#! accepted Kg3 Kf5 b4: dual'], at = THEN.indexOf(THEN[3]),
+        now = [...THEN.slice(0, at), ...own, ...THEN.slice(at)], {lines, gone} = withOwn(READ, now, THEN);
+  assert.deepEqual(lines, [...READ.slice(0, at), ...own.slice(0, 2), ...READ.slice(at)]);
+  assert.deepEqual(gone, ['the accepted dual 2. b4']);
 });

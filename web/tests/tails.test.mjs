@@ -5,7 +5,6 @@ import assert from 'node:assert/strict';
 import {asGame, cutBlock} from '../src/cut_game.js';
 import {notReadIn, remarksOf, saidInTail} from '../src/notes.js';
 import {assumeAccepted} from '../src/assumed.js';
-import {withOwnWords} from '../src/comments.js';
 import {entriesOf} from '../src/entries.js';
 import {numberedApart, numbersOf, placeAtRow, reportNumbers, withNumbers} from '../src/numbering.js';
 import {savedGames} from '../src/saved_games.js';
@@ -60,12 +59,6 @@ test('where the reading ended is known again when a saved game is opened', () =>
     notReadIn(`${tags}{White to win: not read: 2. Kf3, White mates\nin 9. Fine.} 1. c7 *`), ['insert root 2. Kf3']);
   assert.deepEqual(notReadIn(`${tags}{White to win. not read: 2... Kf3. Fine.} 1. c7 *`), ['insert root 2... Kf3']);
   assert.deepEqual(notReadIn(`${tags}{Fine.} 1. c7 {not read: 2. Kf3} *`), []);
-});
-test('words that were written beside a game stay when it is read again', () => {
-  const then = ['#! note -: from the file', 'position F', 'pgn'],
-        now = ['#! note -: from the file', '#! note Kd3: own', ...then.slice(1)];
-  assert.deepEqual(withOwnWords(['#! note -: from the file', 'position F', 'insert root Kd3', 'pgn'], now, then),
-    ['#! note -: from the file', '#! note Kd3: own', 'position F', 'insert root Kd3', 'pgn']);
 });
 test('a tail has what its game says behind the way to it', () => {
   const remarks = [
