@@ -5,8 +5,9 @@ import {hasTicked, tickedIn} from './accepted.js';
 import {assumeAccepted} from './assumed.js';
 import {setTag, stipulate} from './edits.js';
 import {byHand} from './imported.js';
-import {plain} from './notes.js';
+import {AT_MOVES, plain} from './notes.js';
 import {cutAt, ownRemark} from './remarks.js';
+import {squaresOf} from './saved_games.js';
 import {TAGS} from './script.js';
 import {partHere, wayTo} from './tails.js';
 import {bareTree} from './unmarked.js';
@@ -79,37 +80,74 @@ const waysIn = lines => partsIn(lines).map(part => {
   return {part, way: tail ? wayTo(lines, tail.node).map(plain).join(' ') : ''};
 });
 /**
- * The remarks above a part that keep words, or an accepted dual.
+ * The remarks above a part at moves, by the moves and by what they keep there: words, signs, or an accepted dual.
+ * @typedef {Map<string, string[]>} Said
  * @param {string[]} lines
  * @param {Study} part
  */
-const saidIn = (lines, {head, from}) => lines.slice(head, from).filter(line => /^#! (note\+?|accepted) /.test(line));
+function saidIn(lines, {head, from}) {
+  const said = /** @type {Said} */ (new Map());
+  for (const line of lines.slice(head, from)) {
+    const {word, rest} = ownRemark(line), [moves, text] = cutAt(rest, ': '),
+                 kind = word === 'accepted' ? word
+      : /^\$\d+$/.test(text)                ? 'sign'
+                                            : 'words',
+                 key = `${squaresOf(moves)} ${kind}`;
+    if (AT_MOVES.has(word)) said.set(key, [...(said.get(key) || []), line]);
+  }
+  return said;
+}
+/**
+ * The text of such remarks.
+ * @param {Said} said
+ * @param {string} key
+ */
+const textAt = (said, key) => (said.get(key) || []).map(line => cutAt(ownRemark(line).rest, ': ')[1]).join(' ');
+/**
+ * Where the page says something else than the text did. If other men were set up, its moves are not those of the text,
+ * and nothing was taken away at these.
+ * @param {Said} own
+ * @param {Said} file
+ * @param {boolean} isSame      whether the men are those of the text
+ */
+const changedAt = (own, file, isSame) => [...new Set([...own.keys(), ...(isSame ? file.keys() : [])])].filter(
+  key => textAt(own, key) !== textAt(file, key));
+/**
+ * The lines of a game with what was set at the moves of a part of it. Where its text has other words than before, they
+ * stand; of the duals that were accepted those whose moves are there.
+ * @param {string[]} lines
+ * @param {Study} part
+ * @param {{own: Said, file: Said, changed: string[]}} set
+ */
+function withSaid(lines, part, {own, file, changed}) {
+  const tree = bareTree(lines.slice(part.from, part.end)), there = saidIn(lines, part);
+  const isOwn = (/** @type {string} */ key) => {
+    const [mine, was, is] = [own, file, there].map(said => textAt(said, key));
+    return mine !== is && (!is || !was || is === was);
+  };
+  const isGone = (/** @type {string} */ line) => tickedIn(line) !== '' && !hasTicked(tree, line);
+  const keys = changed.filter(isOwn), put = keys.flatMap(key => own.get(key) || []),
+        taken = new Set(keys.filter(key => file.has(key)).flatMap(key => there.get(key) || []));
+  return {
+    lines: [
+      ...lines.slice(0, part.head), ...lines.slice(part.head, part.from).filter(line => !taken.has(line)),
+      ...put.filter(line => !isGone(line)), ...lines.slice(part.from)
+    ],
+    gone: put.filter(isGone).map(line => `the accepted dual ${numberedLast(part.fen, tickedIn(line).split(' '))}`)
+  };
+}
 /**
  * A part of a game with what was set for it since its text was read before.
  * @param {string[]} now      the lines of the game until now
- * @param {Study} own
- * @param {string[]} then      as its text had them
- * @param {Study} file
- */
-const setFor = (now, own, then, file) => ({
-  edits: [...tagEdits(own, file), ...otherEdits(otherTags(now, own), otherTags(then, file)), ...aimEdits(own, file)],
-  said: saidIn(now, own).filter(line => !saidIn(then, file).includes(line))
-});
-/**
- * The lines of a game with the remarks that were set for a part of it, as far as they do not stand there; of the duals
- * that were accepted those whose moves are there.
- * @param {string[]} lines
  * @param {Study} part
- * @param {string[]} said
+ * @param {string[]} then      as its text had them
+ * @param {Study} before
  */
-function withSaid(lines, part, said) {
-  const tree = bareTree(lines.slice(part.from, part.end)), there = saidIn(lines, part),
-        isGone = (/** @type {string} */ line) => tickedIn(line) !== '' && !hasTicked(tree, line),
-        own = said.filter(line => !isGone(line) && !there.includes(line));
-  return {
-    lines: [...lines.slice(0, part.from), ...own, ...lines.slice(part.from)],
-    gone: said.filter(isGone).map(line => `the accepted dual ${numberedLast(part.fen, tickedIn(line).split(' '))}`)
-  };
+function setFor(now, part, then, before) {
+  const own = saidIn(now, part), file = saidIn(then, before), edits = [
+    ...tagEdits(part, before), ...otherEdits(otherTags(now, part), otherTags(then, before)), ...aimEdits(part, before)
+  ];
+  return {edits, own, file, changed: changedAt(own, file, part.fen === before.fen)};
 }
 /**
  * The lines of a game that was read again, with what was set on the page since it was read before, at the parts after
@@ -124,13 +162,14 @@ export function withOwn(block, now, then) {
   for (const {part: own, way} of waysIn(now)) {
     const before = file.find(other => other.way === way), at = read.findIndex(other => other.way === way);
     if (!before) continue;
-    const {edits, said} = setFor(now, own, then, before.part);
+    const set = setFor(now, own, then, before.part);
     if (at < 0) {
-      if (edits.length || said.length) gone.push(`what was set for the part after ${partHere(own.origin)?.after}`);
+      if (set.edits.length || set.changed.some(key => set.own.has(key)))
+        gone.push(`what was set for the part after ${partHere(own.origin)?.after}`);
       continue;
     }
-    const edited = edits.reduce((all, edit) => edit(all, partsIn(all)[at]), lines),
-          made = withSaid(edited, partsIn(edited)[at], said);
+    const edited = set.edits.reduce((all, edit) => edit(all, partsIn(all)[at]), lines),
+          made = withSaid(edited, partsIn(edited)[at], set);
     lines = made.lines;
     gone.push(...made.gone);
   }

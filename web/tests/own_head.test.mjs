@@ -75,3 +75,28 @@ test('words and accepted duals stay, as long as the moves to the dual are there'
   assert.deepEqual(lines, [...READ.slice(0, at), ...own.slice(0, 2), ...READ.slice(at)]);
   assert.deepEqual(gone, ['the accepted dual 2. b4']);
 });
+test(
+  'words that were changed or taken away on the page stay so, and those that were changed in the text are the text\'s',
+  () => {
+    const at = THEN.indexOf(THEN[3]), put = (lines, notes) => [...lines.slice(0, at), ...notes, ...lines.slice(at)];
+    const notes = [
+      '#! note -: above', '#! note Kg3: first', '#! note Kg3: $1', '#! note Kg3 Kf5: second',
+      '#! note Kg3 Kf5 Kf3: third'
+    ];
+    const page = ['#! note -: New words', '#! note Kg3: $3', '#! note Kg3: first', '#! note Kg3 Kf5 Kf3: THIRD'],
+          text = notes.map(line => line.replace('third', 'another third').replace('first', 'the first')),
+          {lines, gone} = withOwn(put(READ, text), put(THEN, page), put(THEN, notes));
+    const {head, from} = only(lines), said = lines.slice(head, from).filter(line => line.startsWith('#! note'));
+    assert.deepEqual(said.sort(), [
+      '#! note -: New words', '#! note Kg3: the first', '#! note Kg3: $3', '#! note Kg3 Kf5 Kf3: another third'
+    ].sort());
+    assert.deepEqual(gone, []);
+  });
+test('a tick that was taken away stays away, and words of other men that were set up take away none', () => {
+  const at = THEN.indexOf(THEN[3]), put = (lines, notes) => [...lines.slice(0, at), ...notes, ...lines.slice(at)],
+        notes = ['#! note Kg3: first', '#! accepted Kg3: dual'], then = put(THEN, notes), block = put(READ, notes);
+  assert.deepEqual(withOwn(block, put(THEN, notes.slice(0, 1)), then).lines, put(READ, notes.slice(0, 1)));
+  const turned =
+    put(THEN.map(line => line.replace('8/8/8/6k1/8/8/1P5K/8', '8/8/8/1k6/8/8/K5P1/8')), ['#! note Kb3: first']);
+  assert.ok(withOwn(block, turned, then).lines.includes('#! note Kg3: first'));
+});
