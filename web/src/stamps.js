@@ -5,6 +5,7 @@ import {acceptedAmong, acceptedStamp, hasAccepted} from './accepted.js';
 import {faultKind} from './fault_kinds.js';
 import {other, sideOf} from './fen.js';
 import {isEdit, openingsBefore, wordsOf} from './script.js';
+import {unjudgedFor} from './tails.js';
 import {bareTree} from './unmarked.js';
 import {aimText} from './words.js';
 import {wordOf} from './wording.js';
@@ -101,10 +102,10 @@ export function faultyStamp({faults, stamp}) {
   };
 }
 /**
- * Whether the hero does not reach his goal in a part of a game beside the solution.
+ * Whether the hero does not reach his goal.
  * @param {Study} s
  */
-const isRefuted = s =>
+const isMissed = s =>
   s.aim !== null && s.verdict === 'wrong' && wrongText(s.aim, s.verdict, s.start, s.fen) === missesText(s.aim);
 /**
  * Whether two studies ask for the same.
@@ -125,7 +126,7 @@ function refutedIn(doc, {aim, origin}) {
                               before = tail && tail.game === game ? tail.node.split('.').slice(0, -1).join('.') : '';
     return tail !== null && tail.beside && before !== '' && node !== tail.node && node.startsWith(`${before}.`) &&
       !cut && !refusedIn(doc, other, isEdit) && sameGoal(aim, other.aim) && sideOf(other.fen) === aim?.hero &&
-      isRefuted(other);
+      isMissed(other);
   });
 }
 /**
@@ -136,7 +137,7 @@ function refutedIn(doc, {aim, origin}) {
  * @returns {{kind: string, text: string}}
  */
 function besideStamp(doc, s) {
-  if (isRefuted(s)) return {kind: 'refuted', text: wordOf('refuted')};
+  if (isMissed(s)) return {kind: 'refuted', text: wordOf('refuted')};
   const part = refutedIn(doc, s)?.origin.tail, text = wordOf('works');
   return part ? {kind: 'refuted', text: `${text}; the try is refuted in ${part.game}.${part.number}`}
               : {kind: 'works', text};
@@ -153,6 +154,23 @@ export function besideSentence({text}) {
   const [, refuted] = text.split('; ');
   return refuted ? `${WORKS}; but ${refuted.replace('the try', 'the try that leads to it')}.`
                  : `${WORKS}: a second solution, unless there is a better defence before.`;
+}
+/**
+ * Whether the hero does not reach his goal in a part of a game: a move before it may be the cause.
+ * @param {Study} s
+ */
+export const missesInPart = s => Boolean(s.origin && s.origin.tail && s.origin.tail.after) && isMissed(s);
+/**
+ * What a stamp of a part of a game means, where that is not what it means of a whole one.
+ * @param {{lines: string[]}} doc
+ * @param {Study} s
+ * @param {{text: string}} stamp
+ */
+export function partSentence({lines}, s, stamp) {
+  if (s.origin && s.origin.tail && s.origin.tail.beside) return besideSentence(stamp);
+  if (!s.aim || !missesInPart(s)) return '';
+  const before = `a move before, with ${unjudgedFor(lines, s)}, gave it away`;
+  return `From here ${s.aim.hero} ${missesText(s.aim)}: ${before}, or the stipulation is wrong.`;
 }
 /**
  * The stamp of a correct stipulation without a solution. Mate or stalemate on the board leaves nothing to give, and a

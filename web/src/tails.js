@@ -189,6 +189,12 @@ function whyUnjudged(fen) {
   return lettersOf(fen).length > 4 ? `${MEN} or ${CASTLING}` : CASTLING;
 }
 /**
+ * The same by the lines of its script.
+ * @param {string[]} lines
+ * @param {Part} part
+ */
+export const unjudgedFor = (lines, part) => whyUnjudged(wayOf(lines, part).fen);
+/**
  * Which part of its game a study is, where that has more than four men or a right to castle, and what of the game is
  * not judged.
  * @param {string[]} lines

@@ -8,7 +8,7 @@ import {app, doc} from './state.js';
 import {insert} from './board_input.js';
 import {variation} from './fault_kinds.js';
 import {stipulate} from './edits.js';
-import {acceptedOf, besideSentence, stampOf, unreadIn, verdictsBefore} from './stamps.js';
+import {acceptedOf, missesInPart, partSentence, stampOf, unreadIn, verdictsBefore} from './stamps.js';
 import {nodeAt, allNodes, judgedBy} from './parse_answers.js';
 import {promote, remove} from './node_view.js';
 import {
@@ -35,18 +35,24 @@ import {atStart, wordOf} from './wording.js';
  * @param {Study} s
  */
 const isBeside = ({origin}) => origin.tail !== null && origin.tail.beside;
+/**
+ * A study with the verdict of its view.
+ * @param {Study} s
+ * @param {import('./types.js').View} view
+ */
+const judgedAs = (s, view) => ({...s, verdict: view.verdict, start: view.start});
 const CUT_SHORT = 'The game was not read to its end, so there is no verdict. ';
 /** @param {Study} s */
 export function verdictView(s) {
   const view = app.view;
   if (!view) return notJudged();
   if (!s.aim || !view.verdict) return h('p', {class: 'say'}, 'No stipulation yet: choose who is to win or to draw.');
-  const stamp = stampOf(doc(), {...s, verdict: view.verdict, start: view.start}, judgedBy(app.review, view)),
-        {kind, text} = stamp, beside = isBeside(s) ? besideSentence(stamp) : '';
+  const judged = judgedAs(s, view), stamp = stampOf(doc(), judged, judgedBy(app.review, view)), {kind, text} = stamp;
   return [
     h('p', {class: 'verdict'}, h('span', {class: 'stamp ' + kind.replace(' ', '-'), id: 'stamp'}, text),
       h('span', {id: 'sentence'},
-        s.origin.cut ? `${CUT_SHORT}${atStart(view.start)}.` : verdictSentence(view, kind, beside))),
+        s.origin.cut ? `${CUT_SHORT}${atStart(view.start)}.`
+                     : verdictSentence(view, kind, partSentence(doc(), judged, stamp)))),
     beforeView(s)
   ];
 }
@@ -245,12 +251,13 @@ function timeView(s, root) {
                  : 'None remains.');
 }
 /**
- * What could be said of this position instead: of a try nothing, since it is to fail, and of a study without a verdict.
+ * What could be said of this position instead: of a try nothing, since it is to fail; nor of a part of a game that a
+ * move before it may have spoilt; nor of a study without a verdict.
  * @param {Study} s
  */
 function adviceView(s) {
   const view = app.view;
-  if (!view || !s.aim || isBeside(s) || unreadIn(doc(), s)) return null;
+  if (!view || !s.aim || isBeside(s) || missesInPart(judgedAs(s, view)) || unreadIn(doc(), s)) return null;
   const duals = app.review !== null && app.review.faults.some(f => f.kind === 'dual');
   const offers = otherAims(s.aim, view.verdict, sideOf(view.fen), view.root.value, duals);
   return offers.length > 0 && h('p', {class: 'act'}, 'Say instead: ', offers.map(words => [aimButton(words), ' ']));

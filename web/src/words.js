@@ -108,13 +108,13 @@ export function numberedLast(fen, sans) {
  * The verdict and the value of the start: the sentences of the core.
  * @param {import('./types.js').View} view
  * @param {string} kind      of the stamp
- * @param {string} [beside]      what the verdict means, of a part of a game beside its solution
+ * @param {string} [ofPart]      what the verdict means of a part of a game, if that is something else
  */
-export function verdictSentence(view, kind, beside = '') {
+export function verdictSentence(view, kind, ofPart = '') {
   const own = kind === 'not read' ? wordOf('unread-sentence')
     : kind === 'ends'             ? 'The stipulation is correct, and the line ends here.'
     : kind === 'over' ? `The stipulation is correct: ${view.over || 'mate'} stands on the board, and no move is left.`
-                      : beside;
+                      : ofPart;
   return own ? `${own} ${atStart(view.start)}.` : view.sentence;
 }
 /** @param {{mark: string}} move */

@@ -6,7 +6,7 @@ import {textRemarks} from '../src/cut_game.js';
 import {setTag} from '../src/edits.js';
 import {byCause, entriesOf, nameOf, newlyRefused, studyName, unreadNote, withFacts} from '../src/entries.js';
 import {numbersOf} from '../src/numbering.js';
-import {besideSentence, hasSolution, stampOf} from '../src/stamps.js';
+import {besideSentence, hasSolution, partSentence, stampOf} from '../src/stamps.js';
 import {countsOf, csvOf, isOfKind, menuText} from '../src/entry_list.js';
 import {judgedBy, readReview} from '../src/parse_answers.js';
 import {assumeAccepted} from '../src/assumed.js';
@@ -156,6 +156,17 @@ test('a part that comes after one of several defences says what is known of the 
     'This line is beside the solution, and from here it works: a second solution, unless there is a better defence ' +
       'before.');
   assert.deepEqual(countsOf([refuted, beside, other]), [['works', 1], ['refuted', 2]]);
+});
+test('a part that does not reach its goal may be spoilt by a move before it, with more than four men', () => {
+  const script = assumeAccepted(REPLIES), judged = (s, verdict) => ({...s, verdict, start: 'draw'}),
+        said = (s, verdict) => partSentence(script, judged(s, verdict), stampOf(script, judged(s, verdict), null));
+  assert.equal(said(script.studies[0], 'wrong'),
+    'From here White does not win: a move before, with more than four men, gave it away, or the stipulation is wrong.');
+  assert.equal(stampOf(script, judged(script.studies[0], 'wrong'), null).text, 'does not win');
+  assert.equal(said(script.studies[0], 'sound'), '');
+  assert.match(said(script.studies[1], 'wrong'), /beside the solution, and from here it is refuted/);
+  const [whole] = assumeAccepted(['position ' + FEN, 'stipulate white win', 'pgn']).studies;
+  assert.equal(said(whole, 'wrong'), '');
 });
 test('a refutation after moves of the hero that he need not make proves nothing of another defence', () => {
   const lines = REPLIES.map(line => line.replace('node 1.0, after 1... Rf8', 'node 1.0.0.0, after 2... Kxf8')),
