@@ -79,18 +79,24 @@ function variationItem(s, n) {
   return {key: 'li ' + n.path, make: () => h('li', {}), kids: [...items, ...lineItems(s, n, items.length > 2)]};
 }
 /**
- * The author's words above the study, and its moves.
+ * The author's words above the study.
+ * @param {Study} s
+ * @param {TreeNode} root
+ * @returns {import('./dom.js').Wanted[]}
+ */
+function aboveItems(s, root) {
+  const {comments} = wordsAt(s, root), said = commentText(comments);
+  return said ? [{key: `said ${comments.join(' ')}`, make: () => h('p', {class: 'above'}, said)}] : [];
+}
+/**
+ * The same, and its moves.
  * @param {Study} s
  * @param {TreeNode} root
  * @returns {import('./dom.js').Wanted[]}
  */
 function treeItems(s, root) {
-  const {comments} = wordsAt(s, root), said = commentText(comments);
   const tree = () => h('div', {class: 'tree', role: 'group', 'aria-labelledby': 'solution'});
-  return [
-    ...(said ? [{key: `said ${comments.join(' ')}`, make: () => h('p', {class: 'above'}, said)}] : []),
-    {key: 'tree', make: tree, kids: lineItems(s, root, true)}
-  ];
+  return [...aboveItems(s, root), {key: 'tree', make: tree, kids: lineItems(s, root, true)}];
 }
 /**
  * The same for paper.
@@ -158,7 +164,8 @@ export function showTree(s) {
   const none = () => h('p', {class: 'note'}, 'Play a move on the board, choose one below it, or type it.');
   patch($('tree'), [
     {key: `solution ${nodes}`, make: title},
-    ...(nodes ? [...treeItems(s, view.root), {key: 'key', make: keyView}] : [{key: 'none', make: none}])
+    ...(nodes ? [...treeItems(s, view.root), {key: 'key', make: keyView}]
+              : [...aboveItems(s, view.root), {key: 'none', make: none}])
   ]);
 }
 /** A press on a move of the tree leads to it. */

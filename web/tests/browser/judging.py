@@ -173,6 +173,18 @@ def test_words(user):
     assert "Black goes" not in user.text("tree") and "Quiet." in user.text("tree")
 
 
+def test_words_above_a_study_without_moves(user):
+    """They are shown as soon as they are written, and go when they are deleted."""
+    user.open_tables(TABLES, SMALL)
+    user.open_file("two.script", f"position {FEN}\nstipulate white win\n\nposition {FEN}\nstipulate white win\n")
+    user.until("document.getElementById('note')")
+    user.settle()
+    user.fill("note", "A first thought")
+    assert "A first thought" in user.text("tree"), user.text("tree")
+    user.fill("note", "")
+    assert "A first thought" not in user.text("tree"), user.text("tree")
+
+
 def test_the_list(user):
     """It sorts by each column, finds names, filters by kinds of faults, and says which have the same position."""
     opened(user)
