@@ -38,18 +38,41 @@ const keeper = makeKeeper({local, page, factsOf: knownFacts});
 export const {list, headAt, linesOf} = keeper;
 export const mended = makeMended(local);
 
-/** Each page holds a lock of its name for as long as it stands open. */
-export function holdLock() {
-  if (navigator.locks) navigator.locks.request(LOCK + page, () => new Promise(() => {})).catch(() => {});
+let said = '', leave = () => {};
+/**
+ * Each page holds a lock for as long as it stands open: its name says which page it is, and the places of the documents
+ * that it has open.
+ * @param {string[]} [places]
+ */
+export function holdLock(places = []) {
+  const name = [LOCK + page, ...places.filter(Boolean)].join(' ');
+  if (!navigator.locks || name === said) return;
+  said = name;
+  const hold = () => {
+    leave();
+    return new Promise(done => {
+      leave = () => done(undefined);
+    });
+  };
+  navigator.locks.request(name, hold).catch(() => {});
 }
-/** The other pages that stand open now, as far as the browser says. */
+/**
+ * The other pages that stand open now, as far as the browser says, with the places of what each has open.
+ * @returns {Promise<Map<string, string[]>>}
+ */
 export async function otherPages() {
   const held = navigator.locks ? (await navigator.locks.query().catch(() => ({held: []}))).held || [] : [];
-  return new Set(held.map(lock => lock.name || '')
-                   .filter(name => name.startsWith(LOCK))
-                   .map(name => name.slice(LOCK.length))
-                   .filter(name => name !== page));
+  const names = held.map(lock => lock.name || '').filter(name => name.startsWith(LOCK));
+  return new Map(names.map(name => name.slice(LOCK.length).split(' ')).filter(([other]) => other !== page).map(([
+    other, ...places
+  ]) => [other, places]));
 }
+/**
+ * Whether one of them has a document open.
+ * @param {Map<string, string[]>} pages
+ * @param {import('./heads.js').Head} head
+ */
+export const isOpenIn = (pages, head) => (pages.get(head.page) || []).includes(head.id);
 
 /**
  * Whether the document was only looked at so far.
@@ -69,9 +92,11 @@ export function keep() {
   if (own && draft) kept = keeper.keep(firstOf({...blank, id: own}), draft, []) && kept;
   else if (own && headAt(keeper.placeOf(own))) keeper.remove(keeper.placeOf(own));
   $('unkept').hidden = kept;
-  const before = looked ? (pointer() || {id: ''}).id : doc().id && keeper.placeOf(doc().id);
+  const before = looked ? (pointer() || {id: ''}).id : doc().id && keeper.placeOf(doc().id),
+        place = own && draft ? keeper.placeOf(own) : '';
+  holdLock([before, place]);
   try {
-    session.setItem(SESSION, JSON.stringify({id: before, draft: own && draft ? keeper.placeOf(own) : ''}));
+    session.setItem(SESSION, JSON.stringify({id: before, draft: place}));
   } catch { /* a new page then */
   }
 }
@@ -123,7 +148,7 @@ export async function firstDocument() {
  * @param {string} id
  */
 export const openKept = id => work(async () => {
-  const head = headAt(id), copy = Boolean(head && (await otherPages()).has(head.page)), kept = keeper.open(id, copy);
+  const head = headAt(id), copy = head !== null && isOpenIn(await otherPages(), head), kept = keeper.open(id, copy);
   if (!kept) {
     say('board', 'This document is not kept any more.');
     return services.show();

@@ -3,7 +3,7 @@
 import {$, button, h, put, smallButton, panelHead} from './dom.js';
 import {comparingView, compare, endComparing, followDocument, isComparing} from './comparing_view.js';
 import {besideDiagram} from './drawing.js';
-import {copyKept, forget, isHere, list, openKept, otherPages, renameKept} from './documents.js';
+import {copyKept, forget, isHere, isOpenIn, list, openKept, otherPages, renameKept} from './documents.js';
 import {inOrder, nameInList} from './heads.js';
 import {joinKept} from './joining.js';
 import {tooLong} from './limits.js';
@@ -12,7 +12,7 @@ import {services} from './state.js';
 import {counted} from './words.js';
 /** @typedef {import('./heads.js').Head} Head */
 
-let elsewhere = new Set();
+let elsewhere = /** @type {Map<string, string[]>} */ (new Map());
 const ui = {
   sure: false,
   naming: '',
@@ -49,7 +49,7 @@ function nameField(head) {
  * @param {Head[]} all
  */
 function nameView(head, all) {
-  const here = isHere(head.id), other = elsewhere.has(head.page),
+  const here = isHere(head.id), other = isOpenIn(elsewhere, head),
         where = here ? 'open here'
     : other          ? 'open in another window'
                      : '';

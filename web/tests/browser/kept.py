@@ -116,6 +116,32 @@ def test_two_tabs_and_a_copied_one(user):
         assert script(user) == copied
 
 
+def test_what_another_window_has_open(user):
+    """A second window says so of the one document that the first shows; the others it opens without a copy."""
+    user.open_tables(TABLES, SMALL)
+    first = user.d.current_window_handle
+    started(user, FEN, "First")
+    started(user, FEN, "Second")
+    second = user.tab()
+    said = {row[0]: row[2] for row in documents(user)}
+    assert "open in another window" in said["Second"] and "open" not in said["First"], said
+    open_document(user, "First")
+    said = {row[0]: row[2] for row in documents(user)}
+    assert len(said) == 2 and "open here" in said["First"], said
+    assert "copy of it" not in user.text("sayBoard")
+    user.play("Kg3")
+    own = script(user)
+    user.to(first)
+    said = {row[0]: row[2] for row in documents(user)}
+    assert "open in another window" in said["First"] and "open here" in said["Second"], said
+    open_document(user, "First")
+    assert "this is a copy of it" in user.text("sayBoard")
+    user.play("Kf5")
+    user.to(second)
+    reload(user)
+    assert script(user) == own
+
+
 def test_another_document_and_a_closed_browser(user):
     user.end()
     profile = "--user-data-dir=" + tempfile.mkdtemp()
