@@ -28,9 +28,10 @@ const aimOf = ({aim}) => (aim ? aimWords(aim) : '');
 function aimEdits(own, then) {
   const words = aimOf(own), {source} = own.origin;
   if (!words || (words === aimOf(then) && source === then.origin.source)) return [];
-  const isChosen = (/** @type {Study} */ part) => part.origin.source === 'option' && source !== 'option';
+  const isOther = (/** @type {Study} */ part) =>
+    part.origin.source !== source && (part.origin.source === 'option' || source === 'hand');
   return [
-    (lines, part) => (isChosen(part) ? lines.map(line => byHand(line, 'option')) : lines),
+    (lines, part) => (isOther(part) ? lines.map(line => byHand(line)) : lines),
     (lines, part) => stipulate(lines, part, words).lines
   ];
 }

@@ -53,21 +53,33 @@ const PART = (heading, men) => [`#! tail ${heading}`, `position ${men} w - - 0 3
 const TRY = PART('1 of 1 of game 1, node 1.0, after 1... Rxb5, beside the solution', '8/2P5/8/8/1r6/8/8/k2K4'),
       MAIN = PART('1 of 2 of game 1, node 0.0, after 1... Rxb5', '8/2P5/8/8/8/3r4/8/k2K4'),
       TRY_BEHIND = TRY.map(line => line.replace('tail 1 of 1', 'tail 2 of 2'));
+test('a stipulation is the user\'s once the comment is deleted that stated it', () => {
+  const then = THEN.map(line => (/Annotator/.test(line) ? '#! note -: White wins. Fine' : line)),
+        read = READ.map(line => (/Annotator/.test(line) ? '#! note -: White wins. Fine' : line)),
+        now = then.map(line => line.replace('by its comment', 'by hand').replace('White wins. Fine', 'Other words'));
+  const lines = withOwnHead(read, now, then);
+  assert.equal(told(lines).source, 'hand');
+  assert.deepEqual(lines.filter(line => line.startsWith('#! note')), ['#! note -: Other words']);
+});
 test('what is set for a part of a game stays with its moves, whichever number the part has', () => {
   const then = [...GAME, ...TRY], parts = lines => assumeAccepted(lines).studies;
   let now = [...GAME, TRY[0], '#! note -: this try is cheap', ...TRY.slice(1)];
   now = setTag(now, parts(now)[0], 'Event', 'Try only').lines;
   now = stipulate(now, parts(now)[0], 'white draw').lines;
-  const {lines, gone} = withOwn([...GAME, ...MAIN, ...TRY_BEHIND], now, then),
-                [main, attempt] = parts(lines).map(({head, from, tags, aim}) => [tags.Event, aim.goal,
-                                                     lines.slice(head, from).includes('#! note -: this try is cheap')]);
+  const {lines, gone, places} = withOwn([...GAME, ...MAIN, ...TRY_BEHIND], now, then), [main,
+    attempt] = parts(lines).map(({head,
+    from,
+    tags,
+    aim}) => [tags.Event, aim.goal, lines.slice(head, from).includes('#! note -: this try is cheap')]);
+  assert.deepEqual(places, [1]);
   assert.deepEqual([main, attempt, gone], [['Liburkin', 'win', false], ['Try only', 'draw', true], []]);
 });
 test('what is set for a part that is there no more is left out, and said', () => {
   const then = [...GAME, ...TRY], now = [...GAME, TRY[0], '#! note -: cheap', ...TRY.slice(1)],
         block = [...GAME, ...MAIN];
-  assert.deepEqual(withOwn(block, now, then), {lines: block, gone: ['what was set for the part after 1... Rxb5']});
-  assert.deepEqual(withOwn(block, then, then), {lines: block, gone: []});
+  assert.deepEqual(
+    withOwn(block, now, then), {lines: block, gone: ['what was set for the part after 1... Rxb5'], places: [-1]});
+  assert.deepEqual(withOwn(block, then, then), {lines: block, gone: [], places: [-1]});
 });
 test('words and accepted duals stay, as long as the moves to the dual are there', () => {
   const own = ['#! note Kg3: own', '#! accepted Kg3: dual', '#! accepted Kg3 Kf5 b4: dual'], at = THEN.indexOf(THEN[3]),
