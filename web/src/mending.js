@@ -132,13 +132,14 @@ export function unreadText() {
  * Other lines take the place of the study that is looked at, or of the game that it is a part of.
  * @param {Study} s
  * @param {string[]} block
+ * @param {number} [place]      among the studies of the block, of the one that is looked at then
  */
-const replaceStudy = (s, block) => change(now => {
+const replaceStudy = (s, block, place = 0) => change(now => {
   if (now.studies[now.at] !== s) return null;
   const {first, head, end} = wholeOf(now, s), lines = [
     ...now.lines.slice(0, head), ...block, ...(end < now.lines.length ? [''] : []), ...now.lines.slice(end)
   ];
-  return {lines, at: first, path: 'root', lenient: true};
+  return {lines, at: first + Math.max(0, place), path: 'root', lenient: true};
 });
 /**
  * The mended text of a game is read; where it has another bad move, up to there. What cannot be read is said.
@@ -181,11 +182,11 @@ export const readAgain = text => track((async () => {
   if (!s || !cut) return;
   const place = placeOf(doc().lines, s), read = await readMended(text, place, 'cut', aim);
   if (!read.length) return;
-  const {head, end} = wholeOf(doc(), s), now = doc().lines.slice(head, end),
-               then = await readMended(cut.text + cut.rest, place, 'cut', aim),
-               {lines, gone} = withOwn(read, now, then);
+  const {first, head, end} = wholeOf(doc(), s), now = doc().lines.slice(head, end),
+                      then = await readMended(cut.text + cut.rest, place, 'cut', aim),
+                      {lines, gone, places} = withOwn(read, now, then);
   const same = lines.join('\n').trim() === now.join('\n').trim();
-  if (same || await replaceStudy(s, lines)) mended.drop(cut.text + cut.rest);
+  if (same || await replaceStudy(s, lines, places[doc().at - first])) mended.drop(cut.text + cut.rest);
   if (same) say('cut', 'It was read again, and ends at the same move.', true);
   else if (gone.length) say('board', `Left out, since the game has the moves no more: ${gone.join('; ')}.`);
   else return;

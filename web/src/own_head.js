@@ -152,16 +152,18 @@ function setFor(now, part, then, before) {
 }
 /**
  * The lines of a game that was read again, with what was set on the page since it was read before, at the parts after
- * the same moves; and in words, what of it has no place any more.
+ * the same moves; in words, what of it has no place any more; and the place of each part among those of the block,
+ * or -1.
  * @param {string[]} block
  * @param {string[]} now      its lines until now
  * @param {string[]} then      as its text had them
  */
 export function withOwn(block, now, then) {
-  const file = waysIn(then), read = waysIn(block), gone = /** @type {string[]} */ ([]);
+  const file = waysIn(then), read = waysIn(block), gone = /** @type {string[]} */ ([]), parts = waysIn(now),
+        places = parts.map(({way}) => read.findIndex(other => other.way === way));
   let lines = block;
-  for (const {part: own, way} of waysIn(now)) {
-    const before = file.find(other => other.way === way), at = read.findIndex(other => other.way === way);
+  for (const [i, {part: own, way}] of parts.entries()) {
+    const before = file.find(other => other.way === way), at = places[i];
     if (!before) continue;
     const set = setFor(now, own, then, before.part);
     if (at < 0) {
@@ -174,5 +176,5 @@ export function withOwn(block, now, then) {
     lines = made.lines;
     gone.push(...made.gone);
   }
-  return {lines, gone};
+  return {lines, gone, places};
 }

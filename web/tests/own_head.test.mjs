@@ -66,11 +66,9 @@ test('what is set for a part of a game stays with its moves, whichever number th
   let now = [...GAME, TRY[0], '#! note -: this try is cheap', ...TRY.slice(1)];
   now = setTag(now, parts(now)[0], 'Event', 'Try only').lines;
   now = stipulate(now, parts(now)[0], 'white draw').lines;
-  const {lines, gone, places} = withOwn([...GAME, ...MAIN, ...TRY_BEHIND], now, then), [main,
-    attempt] = parts(lines).map(({head,
-    from,
-    tags,
-    aim}) => [tags.Event, aim.goal, lines.slice(head, from).includes('#! note -: this try is cheap')]);
+  const {lines, gone, places} = withOwn([...GAME, ...MAIN, ...TRY_BEHIND], now, then);
+  const isCheap = ({head, from}) => lines.slice(head, from).includes('#! note -: this try is cheap'),
+        [main, attempt] = parts(lines).map(part => [part.tags.Event, part.aim.goal, isCheap(part)]);
   assert.deepEqual(places, [1]);
   assert.deepEqual([main, attempt, gone], [['Liburkin', 'win', false], ['Try only', 'draw', true], []]);
 });
