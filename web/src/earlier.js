@@ -2,7 +2,7 @@
 // A study begins earlier: the moves that can have led to its start, each found by the program as a legal move of the
 // position before. Captures are not looked for: they would need one man more.
 import {services, PAGES} from './state.js';
-import {isWhite, menOf, placement} from './fen.js';
+import {isWhite, menOf, placement, samePosition} from './fen.js';
 import {readView} from './parse_answers.js';
 import {toText} from './script.js';
 import {aimWords} from './words.js';
@@ -40,12 +40,6 @@ export function placesBefore(fen) {
  */
 export const aimBefore = (aim, movers) =>
   aimWords({...aim, k: aim.k && aim.k + movers.filter(side => side === aim.hero).length});
-/**
- * Whether two FEN have the same men, side to move and square of a pawn's double step.
- * @param {string} one
- * @param {string} other
- */
-const samePosition = (one, other) => one.split(' ').slice(0, 4).join(' ') === other.split(' ').slice(0, 4).join(' ');
 /**
  * The moves that can have led to a position, those first that are the only ones to hold.
  * @param {string} fen

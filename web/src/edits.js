@@ -1,11 +1,13 @@
 // @ts-check
 // What the user does, as a change of the script's lines. Each function gives the lines to be run; the program takes or
 // refuses them.
-import {originalsIn, restated} from './imported.js';
+import {samePosition} from './fen.js';
+import {namesOfGame, originalsIn, restated} from './imported.js';
 import {isCutLine, withoutCut} from './left_out.js';
 import {aimWords} from './words.js';
 import {TAGS, isEdit, isGame, oneGame, wordsOf} from './script.js';
 import {allNodes} from './parse_answers.js';
+import {tailIn} from './tails.js';
 import {insertions} from './tree_room.js';
 /** @typedef {import('./types.js').Study} Study @typedef {import('./types.js').Change} Change */
 /** @typedef {import('./types.js').TreeNode} TreeNode */
@@ -111,6 +113,19 @@ export function stipulate(lines, study, words) {
  */
 const headAnew = (lines, study) => restated(lines.slice(study.head, study.from));
 /**
+ * The same for a position: a part of a game with more than four men that begins elsewhere is a study by itself, which
+ * keeps its names.
+ * @param {string[]} lines
+ * @param {Study} study
+ * @param {string} fen
+ */
+function headOfPosition(lines, study, fen) {
+  const head = headAnew(lines, study);
+  if (!head.some(tailIn) || samePosition(fen, study.fen)) return head;
+  const rest = head.filter(line => !tailIn(line));
+  return [...rest, ...namesOfGame(rest, study)];
+}
+/**
  * What the PGN Standard writes where a tag is not known.
  * @param {string} name
  */
@@ -212,7 +227,7 @@ export const replacePosition = (lines, study, fen, aim) => ({...withMoves(lines,
  */
 export function withMoves(lines, study, fen, aim, moves) {
   const all = lines.slice(study.from + 1, study.end), cut = moves.length > 0 && study.origin && study.origin.cut,
-        head = headAnew(lines, study);
+        head = headOfPosition(lines, study, fen);
   const own = all.filter(l => !/^ *(insert|delete|promote|shift|mark|moves|fen|solve|stipulate)( |$)/.test(l));
   const rest = oneGame(own), games = rest.findIndex(isGame), at = games < 0 ? rest.length : games;
   const gap = games < 0 && rest.length && !rest[rest.length - 1].trim() ? 1 : 0;

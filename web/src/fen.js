@@ -17,6 +17,13 @@ export const squareAt = name => 8 * (Number(name[1]) - 1) + FILES.indexOf(name[0
  * @param {string} fen
  */
 export const lettersOf = fen => [...fen.trim().split(' ')[0].replace(/[^a-z]/gi, '')].sort().join('');
+/**
+ * Whether two FEN have the same men, side to move and square of a pawn's double step.
+ * @param {string} one
+ * @param {string} other
+ */
+export const samePosition = (one, other) =>
+  one.split(' ').slice(0, 4).join(' ') === other.split(' ').slice(0, 4).join(' ');
 /** @param {string} letter */
 export const isWhite = letter => letter === letter.toUpperCase();
 /**

@@ -5,6 +5,7 @@ import assert from 'node:assert/strict';
 import {asGame, cutBlock} from '../src/cut_game.js';
 import {notReadIn, remarksOf, saidInTail} from '../src/notes.js';
 import {assumeAccepted} from '../src/assumed.js';
+import {replacePosition, withMoves} from '../src/edits.js';
 import {entriesOf} from '../src/entries.js';
 import {numberedApart, numbersOf, placeAtRow, reportNumbers, withNumbers} from '../src/numbering.js';
 import {savedGames} from '../src/saved_games.js';
@@ -140,6 +141,21 @@ test('a study comes to the row of the list that is typed, left-out games counted
   const rows = [0, -1, 1, 2].map(at => ({at}));
   assert.deepEqual(
     [placeAtRow(rows, 0, 4), placeAtRow(rows, 2, 1), placeAtRow(rows, 2, 3), placeAtRow(rows, 1, 3)], [2, 0, 1, 1]);
+});
+test('a part of a game with other men is a study by itself with its names', () => {
+  const d = czech(CZECH), [, , part] = d.studies, other = '8/8/8/8/8/8/1k6/K1R5 w - - 0 4';
+  const [alone] = czech(copiedLines(d.lines, part)).studies, copy = copiedLines(d.lines, part);
+  for (const [lines, s] of [[d.lines, part], [copy, alone]])
+    for (const moves of [[], ['insert root Rc2+']]) {
+      const made = czech(withMoves(lines, s, other, 'white win', moves).lines), [last] = made.studies.slice(-1);
+      assert.deepEqual([tailText(made.lines, last), last.origin.tail, last.origin.game], ['', null, 0]);
+      assert.equal(last.originals.White, 'Fritz, Jindřich');
+      assert.equal(stampOf(made, {...last, verdict: 'sound', start: 'White mates in 9'}, null).kind, 'correct');
+      assert.doesNotMatch(made.lines.slice(last.head).join(), / tail /);
+    }
+  assert.deepEqual(numbersOf(czech(replacePosition(d.lines, part, other, 'white win').lines)), ['7.1', '7.2', '8']);
+  const same = czech(replacePosition(d.lines, part, part.fen, 'white draw').lines);
+  assert.deepEqual(numbersOf(same), ['7.1', '7.2', '7.3']);
 });
 /** A saved game is opened again: what stands above its position. */
 const openedAgain = game => [`#! game 1, line 1: stipulated by its comment`, ...remarksOf(game)];
