@@ -100,6 +100,12 @@ export function keep() {
   } catch { /* a new page then */
   }
 }
+/** A document that is only looked at is kept from now on. */
+export function keepLooked() {
+  if (!doc().id || doc().id !== app.looked) return;
+  app.looked = '';
+  keep();
+}
 /** @returns {{id: string, draft: string} | null} */
 function pointer() {
   try {

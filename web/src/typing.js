@@ -1,7 +1,7 @@
 // @ts-check
 // What is being typed stays in its field, whatever is drawn anew around it, and is handed over as the browser would.
 import {idle} from './actions.js';
-import {mended, placeHere, unfinished} from './documents.js';
+import {keepLooked, mended, placeHere, unfinished} from './documents.js';
 import {$, onDocument} from './dom.js';
 import {app, doc} from './state.js';
 /** @typedef {HTMLInputElement | HTMLTextAreaElement} Field */
@@ -18,8 +18,13 @@ let drawing = false;
 /** @param {any} element */
 const isField = element => element instanceof HTMLTextAreaElement ||
   (element instanceof HTMLInputElement && /^(text|search)$/.test(element.type));
-/** @param {Field} field */
-const keepTyped = ({id, value}) => unfinished.keep({id, value, of: placeHere(), at: doc().at, path: doc().path});
+/**
+ * Words that are typed at a position which was only looked at make it a document.
+ * @param {Field} field
+ */
+function keepTyped({id, value}) {
+  if (unfinished.keep({id, value, of: placeHere(), at: doc().at, path: doc().path})) keepLooked();
+}
 /** @param {Field} field */
 function handOver(field) {
   if (owed.has(field) && field.isConnected && !drawing) field.dispatchEvent(new Event('change', {bubbles: true}));

@@ -19,15 +19,16 @@ export function makeUnfinished(session) {
   return {
     kept,
     /**
-     * Only what belongs to a study is kept, and a script, for which none needs to be there.
+     * Only what belongs to a study is kept, and a script, for which none needs to be there. Whether this does.
      * @param {Unfinished} typed
      */
     keep(typed) {
-      if (!FIELD.test(typed.id) || !(typed.of || typed.id === 'script')) return;
+      if (!FIELD.test(typed.id) || !(typed.of || typed.id === 'script')) return false;
       try {
         session.setItem(PLACE, JSON.stringify(typed));
       } catch { /* it is lost with the page */
       }
+      return true;
     },
     /**
      * What a field has handed over is kept no more; what was typed since stays.

@@ -145,6 +145,24 @@ def test_a_reload_shows_the_document_before_a_look(user):
     assert script(user).strip() == MINE.strip() and documents(user) == 1, script(user)
 
 
+def test_words_at_a_hit_that_are_being_typed(user):
+    """A reload shows the hit with them, as a document."""
+    user.promise("studyboard.open(a[0])", MINE)
+    fens = find(user, "win N", "6")
+    user.press_on("[data-found]")
+    user.settle()
+    user.click("hitNext")
+    user.settle()
+    user.by("note").click()
+    user.keys("A lone pawn")
+    user.d.refresh()
+    user.until("document.getElementById('stamp')")
+    user.settle()
+    lines = script(user).split("\n")
+    assert lines[:2] == ["#! note -: A lone pawn", "position " + fens[1]], lines
+    assert documents(user) == 2
+
+
 def test_all_hits_as_a_script(user):
     fens = find(user, "win N", "6")
     user.click("findAll")
