@@ -11,13 +11,13 @@ const KINDS = [
   'not read', 'left out', 'not judged'
 ];
 /** The words of kinds, where they are others than the kind itself. */
-const KIND_WORDS = /** @type {Record<string, () => string>} */ ({
+const KIND_WORDS = /** @type {Record<string, (n: number) => string>} */ ({
   time: () => wordOf('time'),
   accepted: () => 'sound but for accepted duals',
   duals: () => 'with duals',
   faults: () => 'with faults',
   mistake: () => 'whose own move fails',
-  works: () => 'beside a solution that work from here',
+  works: n => `beside a solution that ${n === 1 ? 'works' : 'work'} from here`,
   correct: () => wordOf('correct'),
   ends: () => 'whose line ends where four men are left',
   over: () => 'beginning in mate or stalemate'
@@ -40,10 +40,11 @@ const MORE = /** @type {More[]} */ ([
 ]);
 const moreOf = (/** @type {string} */ kind) => MORE.find(more => more.kind === kind);
 /**
- * The words of a kind in the menu.
+ * The words of a kind behind the number of its entries.
  * @param {string} kind
+ * @param {number} n
  */
-export const kindWords = kind => KIND_WORDS[kind] ? KIND_WORDS[kind]() : (moreOf(kind) || {words: kind}).words;
+export const kindWords = (kind, n) => KIND_WORDS[kind] ? KIND_WORDS[kind](n) : (moreOf(kind) || {words: kind}).words;
 /**
  * Whether an entry is of a kind: by its verdict, or whatever its verdict by its faults, its sources or its men.
  * @param {Kinds} entry

@@ -42,7 +42,7 @@ export function summary(doc, reviews = [], open = []) {
         out = Array.from({length: howManyLeftOut(doc)}, () => ({kind: 'left out'}));
   const counts = countsOf([...stamps, ...out])
                    .filter(([kind]) => kind !== 'not judged')
-                   .map(([kind, n]) => `${n} ${kindWords(kind)}`)
+                   .map(([kind, n]) => `${n} ${kindWords(kind, n)}`)
                    .join('; ');
   const made = {
     title: (studies[0] ? studyName(studies[0]) : '') +

@@ -81,8 +81,9 @@ export const studyBeside = by => besideIn(shownStudies(), doc().at, by, stood, c
 /** Why no row is shown. */
 function noneText() {
   const [, n = 0] = countsOf(knownEntries(doc())).find(([kind]) => kind === ui.filter) || [];
-  return n ? `None of the ${n} ${kindWords(ui.filter)} has this name; one more press on that count shows all entries.`
-           : 'No entry has this name.';
+  return n
+    ? `None of the ${n} ${kindWords(ui.filter, n)} has this name; one more press on that count shows all entries.`
+    : 'No entry has this name.';
 }
 /**
  * That rows have kept their places since the list was sorted.
@@ -155,7 +156,7 @@ function findAllView() {
 function kindsView() {
   const counts = countsOf(knownEntries(doc()));
   if (!counts.some(([kind]) => kind === ui.filter)) ui.filter = '';
-  return counts.map(([kind, n]) => button(`${n} ${kindWords(kind)}`, 'show these alone', () => toggleFilter(kind), {
+  return counts.map(([kind, n]) => button(`${n} ${kindWords(kind, n)}`, 'show these alone', () => toggleFilter(kind), {
     class: `chip act${ui.filter === kind ? ' on' : ''}`,
     'data-kind': kind,
     'aria-pressed': `${ui.filter === kind}`
@@ -207,9 +208,9 @@ export function drawList() {
 }
 /** What the entries that are shown have been chosen by, if these are not all. */
 function chosenView() {
-  const by =
-          [ui.filter && kindWords(ui.filter), ui.find.trim() && `with “${ui.find.trim()}” in title, author or number`],
-        all = knownEntries(doc()).length, shown = shownEntries().length;
+  const all = knownEntries(doc()).length, shown = shownEntries().length,
+        named = ui.find.trim() && `with “${ui.find.trim()}” in title, author or number`,
+        by = [ui.filter && kindWords(ui.filter, shown), named];
   return shown < all &&
     h('p', {class: 'note'}, `${shown} of ${counted(all, 'entry', 'entries')}: ${by.filter(Boolean).join(', ')}.`);
 }

@@ -7,7 +7,7 @@ import {setTag} from '../src/edits.js';
 import {byCause, entriesOf, nameOf, newlyRefused, studyName, unreadNote, withFacts} from '../src/entries.js';
 import {numbersOf} from '../src/numbering.js';
 import {besideSentence, hasSolution, partSentence, stampOf} from '../src/stamps.js';
-import {countsOf, csvOf, isOfKind, menuText} from '../src/entry_list.js';
+import {countsOf, csvOf, isOfKind, kindWords, menuText} from '../src/entry_list.js';
 import {judgedBy, readReview} from '../src/parse_answers.js';
 import {assumeAccepted} from '../src/assumed.js';
 import {readScript} from '../src/script.js';
@@ -156,6 +156,8 @@ test('a part that comes after one of several defences says what is known of the 
     'This line is beside the solution, and from here it works: a second solution, unless there is a better defence ' +
       'before.');
   assert.deepEqual(countsOf([refuted, beside, other]), [['works', 1], ['refuted', 2]]);
+  assert.deepEqual([1, 2].map(n => `${n} ${kindWords('works', n)}`),
+    ['1 beside a solution that works from here', '2 beside a solution that work from here']);
 });
 test('a part that does not reach its goal may be spoilt by a move before it, with more than four men', () => {
   const script = assumeAccepted(REPLIES), judged = (s, verdict) => ({...s, verdict, start: 'draw'}),
