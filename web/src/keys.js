@@ -56,7 +56,8 @@ export function closeMenu() {
  */
 function inField(e, field) {
   if (e.key === 'Escape') {
-    if (field.tagName === 'INPUT') field.value = field.defaultValue;
+    if (field.tagName === 'INPUT') field.value = field.id === 'san' ? '' : field.defaultValue;
+    if (field.id === 'san') field.dispatchEvent(new Event('change', {bubbles: true}));
     focusBoard();
   }
   if (e.key === 'Enter' && field.id === 'fen' && field.value === draftFen()) start(e);

@@ -46,6 +46,23 @@ export function endOf(n) {
  */
 export const typedOr = (id, text) => (app.say && app.say.field === id ? app.say.typed : text);
 
+/** The moves that were typed in a document and are not entered: they stay in their field. */
+let unentered = {text: '', of: ''};
+/** @param {string} text */
+const stays = text => {
+  unentered = {text, of: doc().id};
+};
+/**
+ * Typed moves are entered by Enter; a field that is left keeps them.
+ * @param {HTMLInputElement} field
+ */
+function handIn(field) {
+  const text = field.value;
+  if (document.activeElement !== field) return stays(text);
+  field.value = '';
+  stays('');
+  typedMoves(text);
+}
 /** @param {TreeNode} n */
 export function navView(n) {
   const view = app.view, up = n.parent, next = n.children[0] || null, root = view ? view.root : null;
@@ -57,12 +74,13 @@ export function navView(n) {
     autocomplete: 'off',
     autocapitalize: 'off',
     spellcheck: 'false',
-    value: typedOr('san', ''),
-    onchange: (/** @type {any} */ e) => {
-      const text = e.target.value;
-      e.target.value = '';
-      typedMoves(text);
-    }
+    value: unentered.of === doc().id ? unentered.text : '',
+    onkeydown: (/** @type {KeyboardEvent} */ e) => {
+      const field = /** @type {HTMLInputElement} */ (e.target);
+      if (e.key === 'Enter' && field.value && field.value === unentered.text)
+        field.dispatchEvent(new Event('change', {bubbles: true}));
+    },
+    onchange: (/** @type {any} */ e) => handIn(e.target)
   });
   return [
     h('div', {class: 'group'},
@@ -96,11 +114,15 @@ async function enter(text) {
   const sans = movesIn(text), [first] = sans,
         named =
           app.view && app.view.moves.find(m => squareName(m.from) + squareName(m.to) + m.promoted === squares(first));
+  if (!sans.length && text.trim()) {
+    stays(text);
+    services.show();
+  }
   if (!sans.length) return;
   const moves = named ? [named.san, ...sans.slice(1)] : sans, view = app.view, from = node();
   await insert(doc().path, moves);
   if (app.say) {
-    Object.assign(app.say, {field: 'san', typed: text});
+    stays(text);
     if (view && from && moves.length > 1) sayWhich(movesTo(view.root, from.path, moves, app.say.line || ''), from.fen);
     services.show();
   }

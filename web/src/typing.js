@@ -42,7 +42,8 @@ export function watchTyping() {
     owed.delete(field);
     if (typing === field) typing = null;
     const kept = unfinished.kept();
-    if (kept && kept.id === field.id && kept.id !== 'script') idle().then(() => unfinished.drop(kept.id, kept.value));
+    const stays = field.id === 'script' || (field.id === 'san' && field.value);
+    if (kept && kept.id === field.id && !stays) idle().then(() => unfinished.drop(kept.id, kept.value));
   });
   // Words that were neither handed over nor kept yet would be lost: the browser asks.
   addEventListener('beforeunload', e => {
@@ -100,7 +101,7 @@ export function handOverKept() {
   if (!before) return;
   const {id, value, of, at, path} = before, field = $(id), isScript = id === 'script';
   if (of && (!doc().id || (app.setup && !isScript))) return;
-  const isThere = of === placeHere() && (isScript || (at === doc().at && path === doc().path));
+  const isThere = of === placeHere() && (isScript || (at === doc().at && (id === 'san' || path === doc().path)));
   if (isThere && !field) return;
   before = null;
   if (!isThere || field.value === value) return unfinished.drop(id, value);

@@ -221,6 +221,55 @@ def test_which_of_several_typed_moves_is_refused(user):
     assert script(user).splitlines()[-2:] == ["insert 0.0.0.0 Kg3", "insert 0.0.0.0.1 Kd5"], script(user)
 
 
+def test_a_half_typed_line_stays_at_any_step(user):
+    """By the buttons, by a move of the mouse and over a reload, until Enter takes it or Escape drops it."""
+    value = "return document.getElementById('san').value"
+    opened(user)
+    before = script(user)
+    for text in ("Kg", "Kg3 K"):
+        user.by("san").click()
+        user.keys(text)
+        for button in ("on", "back"):
+            user.click(button)
+            user.settle()
+            assert user.js(value) == text and script(user) == before, (text, button, user.js(value))
+        user.by("san").click()
+        user.keys(Keys.ESCAPE)
+        user.click("on")
+        user.settle()
+        assert user.js(value) == "", text
+        user.click("back")
+        user.settle()
+    user.by("san").click()
+    user.keys("Kg2 Kf")
+    user.play("Kh1")
+    assert user.js(value) == "Kg2 Kf" and script(user) == before + "insert root Kh1\n", script(user)
+    user.click("back")
+    reload(user)
+    assert user.js(value) == "Kg2 Kf"
+    user.by("san").click()
+    user.keys(Keys.END, "4", Keys.ENTER)
+    user.settle()
+    assert script(user).splitlines()[-2:] == ["insert root Kg2", "insert 2 Kf4"] and user.js(value) == ""
+
+
+def test_refused_moves_stay_and_are_entered_elsewhere(user):
+    """Moves that are not legal here stay in their field; Enter at another position plays them."""
+    opened(user)
+    user.by("san").click()
+    user.keys("Kh6", Keys.ENTER)
+    user.settle()
+    assert user.text("sayBoard").startswith("Kh6")
+    user.click("on")
+    user.settle()
+    assert user.js("return document.getElementById('san').value") == "Kh6"
+    user.by("san").click()
+    user.keys(Keys.ENTER)
+    user.settle()
+    assert script(user).splitlines()[-1] == "insert 0 Kh6", script(user)
+    assert user.js("return document.getElementById('san').value") == ""
+
+
 def test_what_a_remedy_takes_away(user):
     opened(user)
     user.until("document.querySelector('[data-cut]')", 30)
