@@ -5,10 +5,11 @@ import {services, PAGES} from './state.js';
 import {isWhite, menOf, placement, samePosition} from './fen.js';
 import {readView} from './parse_answers.js';
 import {toText} from './script.js';
+import {wordOf} from './wording.js';
 import {aimWords} from './words.js';
 /**
  * @typedef {{fen: string, san: string, from: number, mark: string}} Before
- *   a position, and the move that leads from it; its mark in the study
+ *   a position, and the move that leads from it; its mark in the study, or of a mistake, if the stipulation is wrong
  */
 
 /**
@@ -41,7 +42,8 @@ export function placesBefore(fen) {
 export const aimBefore = (aim, movers) =>
   aimWords({...aim, k: aim.k && aim.k + movers.filter(side => side === aim.hero).length});
 /**
- * The moves that can have led to a position, those first that are the only ones to hold.
+ * The moves that can have led to a position, those first that are the only ones to hold, and last those before which
+ * the stipulation is wrong.
  * @param {string} fen
  * @param {string} aim      words of a stipulation
  * @param {import('./engine.js').Core} [core]
@@ -61,7 +63,9 @@ export async function movesBefore(fen, aim, core = services.core) {
     const move = view &&
       view.moves.find(
         m => m.from === place.from && m.to === place.to && m.promoted === place.promoted && samePosition(m.fen, fen));
-    if (move) found.push({fen: place.fen, san: move.san, from: place.from, mark: move.mark});
+    if (!move) continue;
+    const mark = view.stamp === wordOf('correct') ? move.mark : 'mistake';
+    found.push({fen: place.fen, san: move.san, from: place.from, mark});
   }
   const rank = (/** @type {Before} */ m) => ['only', 'reply', 'dual', 'idle', 'mistake'].indexOf(m.mark);
   return {moves: found.sort((x, y) => rank(x) - rank(y)), lacking: [...lacking]};

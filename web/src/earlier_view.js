@@ -133,8 +133,9 @@ const moveView = move => h('button',
  */
 function marksIn(list, mine) {
   const has = (/** @type {string} */ mark) => list.some(move => move.mark === mark);
-  if (mine) return has('only') ? '; first those that are the only ones to work' : '; none is the only one that works';
-  return has('mistake') ? '; before one with ? the stipulation is wrong' : '';
+  const wrong = has('mistake') ? '; before one with ? the stipulation is wrong' : '';
+  if (!mine) return wrong;
+  return (has('only') ? '; first those that are the only ones to work' : '; none is the only one that works') + wrong;
 }
 function draw() {
   if ($('earlier').hidden) return;

@@ -270,6 +270,26 @@ def test_refused_moves_stay_and_are_entered_elsewhere(user):
     assert user.js("return document.getElementById('san').value") == ""
 
 
+def test_a_mate_in_n_that_begins_two_moves_earlier(user):
+    """? stands at those of White's moves, and at no others, before which the mate does not take as long."""
+    user.open_tables(TABLES, SMALL)
+    user.promise("studyboard.open(a[0])", "position 8/8/8/2K5/8/k7/1R6/8 w - - 0 1\nstipulate white mate 6\n")
+    user.settle()
+    moves = "[...document.querySelectorAll('#earlier [data-before]')]"
+    for name in ("Kc5 from c6", "Kc5 from d6", "Rb2? from b1", "Kc5? from c4"):
+        user.click("beginEarlier")
+        for text in ("Ka3 from a4", name):
+            move = f"{moves}.find(e => e.innerText.replace(/\\s+/g, ' ').trim() === '{text}')"
+            user.until(move, 60)
+            said = user.text("earlierState")
+            user.js(f"{move}.click()")
+            user.settle()
+        assert said.endswith("; before one with ? the stipulation is wrong:"), said
+        assert user.text("stamp").startswith("wrong: White mates in ") == ("?" in name), (name, user.text("stamp"))
+        user.control("z")
+        user.settle()
+
+
 def test_what_a_remedy_takes_away(user):
     opened(user)
     user.until("document.querySelector('[data-cut]')", 30)
