@@ -7,8 +7,8 @@ import {wordOf} from './wording.js';
 /** @typedef {import('./entries.js').Entry} Entry */
 
 const KINDS = [
-  'sound', 'time', 'accepted', 'duals', 'faults', 'mistake', 'wrong', 'works', 'refuted', 'correct', 'ends', 'over',
-  'not read', 'left out', 'not judged'
+  'sound', 'time', 'accepted', 'duals', 'faults', 'mistake', 'wrong', 'more', 'works', 'refuted', 'correct', 'ends',
+  'over', 'not read', 'left out', 'not judged'
 ];
 /** The words of kinds, where they are others than the kind itself. */
 const KIND_WORDS = /** @type {Record<string, (n: number) => string>} */ ({
@@ -17,6 +17,7 @@ const KIND_WORDS = /** @type {Record<string, (n: number) => string>} */ ({
   duals: () => 'with duals',
   faults: () => 'with faults',
   mistake: () => 'whose own move fails',
+  more: () => 'from which more is reached than is asked',
   works: n => `beside a solution that ${n === 1 ? 'works' : 'work'} from here`,
   correct: () => wordOf('correct'),
   ends: () => 'whose line ends where four men are left',
@@ -85,8 +86,8 @@ export function findEntries(entries, text) {
 }
 const collator = new Intl.Collator(undefined, {numeric: true});
 const WORST_FIRST = [
-  'left out', 'not read', 'not judged', 'wrong', 'mistake', 'works', 'duals', 'faults', 'time', 'accepted', 'refuted',
-  'correct', 'ends', 'over', 'sound'
+  'left out', 'not read', 'not judged', 'wrong', 'mistake', 'more', 'works', 'duals', 'faults', 'time', 'accepted',
+  'refuted', 'correct', 'ends', 'over', 'sound'
 ];
 /**
  * How far behind an entry comes in a list with the worst first: by its verdict, then by its worst fault, then by how

@@ -197,7 +197,7 @@ function saidIn(movetext) {
 }
 const VALUE = '(draw|mate|(White|Black) mates in \\d+)',
       WORDS = '(wrong|sound|unsound|does not|fails at|cook|\\d+ duals?|correct|not read|refuted|a second|works|' +
-  'begins in)\\b[^{}]*?',
+  'from here|begins in)\\b[^{}]*?',
       VERDICT = `(White|Black) to (win|draw|mate in \\d+): ${WORDS}, ${VALUE}`,
       OPENING = new RegExp(`^${VERDICT}(\\. |$)`), SAID = new RegExp(`\\{${VERDICT}(?=[.}])`, 'g'),
       OURS = new RegExp(`(^|; |(?<=[.!?:,\\])]) )${VALUE}(; dual \\d+(; accepted)?)?$`);

@@ -156,10 +156,10 @@ export function besideSentence({text}) {
                  : `${WORKS}: a second solution, unless there is a better defence before.`;
 }
 /**
- * Whether the hero does not reach his goal in a part of a game: a move before it may be the cause.
+ * Whether the stipulation is not that of the tables in a part of a game: a move before it may be the cause.
  * @param {Study} s
  */
-export const missesInPart = s => Boolean(s.origin && s.origin.tail && s.origin.tail.after) && isMissed(s);
+export const isWrongInPart = s => Boolean(s.origin && s.origin.tail && s.origin.tail.after) && s.verdict === 'wrong';
 /**
  * What a stamp of a part of a game means, where that is not what it means of a whole one.
  * @param {{lines: string[]}} doc
@@ -168,9 +168,12 @@ export const missesInPart = s => Boolean(s.origin && s.origin.tail && s.origin.t
  */
 export function partSentence({lines}, s, stamp) {
   if (s.origin && s.origin.tail && s.origin.tail.beside) return besideSentence(stamp);
-  if (!s.aim || !missesInPart(s)) return '';
-  const before = `a move before, with ${unjudgedFor(lines, s)}, gave it away`;
-  return `From here ${s.aim.hero} ${missesText(s.aim)}: ${before}, or the stipulation is wrong.`;
+  if (!s.aim || !isWrongInPart(s)) return '';
+  const before = `move before, with ${unjudgedFor(lines, s)},`;
+  return isMissed(s)
+    ? `From here ${s.aim.hero} ${missesText(s.aim)}: a ${before} gave it away, or the stipulation is wrong.`
+    : `${stamp.text.replace('from', 'From')}, more than is asked: a weak ${before} may have allowed it, or the ` +
+      'stipulation asks for too little.';
 }
 /**
  * The stamp of a correct stipulation without a solution. Mate or stalemate on the board leaves nothing to give, and a
@@ -209,6 +212,7 @@ export function stampOf(doc, s, review) {
   if (unread) return {kind: 'not read', text: `${unreadAt(unread)}, ${refusedText(unread)}`};
   if (!kind) return {kind: 'not judged', text: 'not judged'};
   if (s.origin && s.origin.tail && s.origin.tail.beside) return besideStamp(doc, s);
+  if (wrong && isWrongInPart(s) && !isMissed(s)) return {kind: 'more', text: wrong.replace(/^\w+: /, 'from here ')};
   if (wrong || kind === 'wrong') return {kind: 'wrong', text: wrong || kind};
   if (kind === 'sound')
     return hasSolution(doc.lines, s, review) ? {kind, text: (review && review.stamp) || kind} : unsolved(s, review);

@@ -8,7 +8,7 @@ import {app, doc} from './state.js';
 import {insert} from './board_input.js';
 import {variation} from './fault_kinds.js';
 import {stipulate} from './edits.js';
-import {acceptedOf, missesInPart, partSentence, stampOf, unreadIn, verdictsBefore} from './stamps.js';
+import {acceptedOf, isWrongInPart, partSentence, stampOf, unreadIn, verdictsBefore} from './stamps.js';
 import {nodeAt, allNodes, judgedBy} from './parse_answers.js';
 import {promote, remove} from './node_view.js';
 import {
@@ -257,7 +257,7 @@ function timeView(s, root) {
  */
 function adviceView(s) {
   const view = app.view;
-  if (!view || !s.aim || isBeside(s) || missesInPart(judgedAs(s, view)) || unreadIn(doc(), s)) return null;
+  if (!view || !s.aim || isBeside(s) || isWrongInPart(judgedAs(s, view)) || unreadIn(doc(), s)) return null;
   const duals = app.review !== null && app.review.faults.some(f => f.kind === 'dual');
   const offers = otherAims(s.aim, view.verdict, sideOf(view.fen), view.root.value, duals);
   return offers.length > 0 && h('p', {class: 'act'}, 'Say instead: ', offers.map(words => [aimButton(words), ' ']));

@@ -159,6 +159,14 @@ test('a part that comes after one of several defences says what is known of the 
   assert.deepEqual([1, 2].map(n => `${n} ${kindWords('works', n)}`),
     ['1 beside a solution that works from here', '2 beside a solution that work from here']);
 });
+test('a part from which more is reached than is asked may come after a weak move', () => {
+  const script = assumeAccepted(REPLIES.map(line => line.replace('white win', 'white draw'))), [part] = script.studies,
+        won = {...part, verdict: 'wrong', start: 'White mates in 9'}, stamp = stampOf(script, won, null);
+  assert.equal(stamp.kind, 'more');
+  assert.match(stamp.text, /^from here /);
+  assert.match(
+    partSentence(script, won, stamp), /^From here .*, more than is asked: a weak move before, with more than/);
+});
 test('a part that does not reach its goal may be spoilt by a move before it, with more than four men', () => {
   const script = assumeAccepted(REPLIES), judged = (s, verdict) => ({...s, verdict, start: 'draw'}),
         said = (s, verdict) => partSentence(script, judged(s, verdict), stampOf(script, judged(s, verdict), null));
