@@ -46,11 +46,12 @@ export function acceptedAmong(lines, study, root, paths) {
  */
 export const hasTicked = (root, line) => hasLine(root, tickedIn(line).split(' '));
 /**
+ * Whether a line of moves is in a tree.
  * @param {Node} node
  * @param {string[]} moves
  * @returns {boolean}
  */
-const hasLine = ({children}, [move, ...behind]) =>
+export const hasLine = ({children}, [move, ...behind]) =>
   move === undefined || children.some(child => plain(child.san) === move && hasLine(child, behind));
 /**
  * Whether some dual of a study is accepted, whatever became of its moves.

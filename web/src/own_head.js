@@ -1,7 +1,7 @@
 // @ts-check
 // A game that is read again keeps what was set on the page: its tags, its stipulation, the words beside its moves, and
 // the duals that were accepted; each part of it its own.
-import {hasTicked, tickedIn} from './accepted.js';
+import {hasLine, hasTicked, tickedIn} from './accepted.js';
 import {assumeAccepted} from './assumed.js';
 import {setTag, stipulate} from './edits.js';
 import {byHand} from './imported.js';
@@ -114,6 +114,21 @@ const textAt = (said, key) => (said.get(key) || []).map(line => cutAt(ownRemark(
 const changedAt = (own, file, isSame) => [...new Set([...own.keys(), ...(isSame ? file.keys() : [])])].filter(
   key => textAt(own, key) !== textAt(file, key));
 /**
+ * The moves at which a line has words or signs, or accepts a dual; none at the start.
+ * @param {string} line
+ */
+function movesOf(line) {
+  const {word, rest} = ownRemark(line), [moves] = cutAt(rest, ': ');
+  return AT_MOVES.has(word) && moves !== '-' ? moves.split(' ') : [];
+}
+/**
+ * What has no place any more, by its line.
+ * @param {string} fen
+ * @param {string} line
+ */
+const goneText = (fen, line) =>
+  `${tickedIn(line) ? 'the accepted dual' : 'what you wrote at'} ${numberedLast(fen, movesOf(line))}`;
+/**
  * The lines of a game with what was set at the moves of a part of it. Where its text has other words than before, they
  * stand; of the duals that were accepted those whose moves are there.
  * @param {string[]} lines
@@ -127,6 +142,7 @@ function withSaid(lines, part, {own, file, changed}) {
     return mine !== is && (!is || !was || is === was);
   };
   const isGone = (/** @type {string} */ line) => tickedIn(line) !== '' && !hasTicked(tree, line);
+  const isHidden = (/** @type {string} */ line) => movesOf(line).length > 0 && !hasLine(tree, movesOf(line));
   const keys = changed.filter(isOwn), put = keys.flatMap(key => own.get(key) || []),
         taken = new Set(keys.filter(key => file.has(key)).flatMap(key => there.get(key) || []));
   return {
@@ -134,7 +150,7 @@ function withSaid(lines, part, {own, file, changed}) {
       ...lines.slice(0, part.head), ...lines.slice(part.head, part.from).filter(line => !taken.has(line)),
       ...put.filter(line => !isGone(line)), ...lines.slice(part.from)
     ],
-    gone: put.filter(isGone).map(line => `the accepted dual ${numberedLast(part.fen, tickedIn(line).split(' '))}`)
+    gone: [...new Set(put.filter(line => isGone(line) || isHidden(line)).map(line => goneText(part.fen, line)))]
   };
 }
 /**

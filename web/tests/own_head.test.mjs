@@ -53,6 +53,13 @@ const PART = (heading, men) => [`#! tail ${heading}`, `position ${men} w - - 0 3
 const TRY = PART('1 of 1 of game 1, node 1.0, after 1... Rxb5, beside the solution', '8/2P5/8/8/1r6/8/8/k2K4'),
       MAIN = PART('1 of 2 of game 1, node 0.0, after 1... Rxb5', '8/2P5/8/8/8/3r4/8/k2K4'),
       TRY_BEHIND = TRY.map(line => line.replace('tail 1 of 1', 'tail 2 of 2'));
+test('what was written at moves that the game has no more is said to have no place', () => {
+  const now =
+    THEN.flatMap(line => (/^position/.test(line) ? ['#! note Kg3 Kf5: mine', '#! note Kg3: kept', line] : [line]));
+  const {lines, gone} = withOwn(READ, now, THEN);
+  assert.deepEqual(gone, ['what you wrote at 1... Kf5']);
+  assert.ok(lines.includes('#! note Kg3: kept') && lines.includes('#! note Kg3 Kf5: mine'));
+});
 test('a stipulation is the user\'s once the comment is deleted that stated it', () => {
   const then = THEN.map(line => (/Annotator/.test(line) ? '#! note -: White wins. Fine' : line)),
         read = READ.map(line => (/Annotator/.test(line) ? '#! note -: White wins. Fine' : line)),
