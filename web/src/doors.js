@@ -48,12 +48,14 @@ function onPaste(e, openFiles) {
   openFiles([...data.files]);
 }
 /**
+ * What is being typed elsewhere is handed over first, before another study takes the place of its own.
  * @param {DragEvent} e
  * @param {OpenFiles} openFiles
  */
 function onDrop(e, openFiles) {
-  const data = e.dataTransfer;
+  const data = e.dataTransfer, field = document.activeElement;
   document.body.classList.remove('dropping');
+  if (field instanceof HTMLElement && field !== e.target) field.blur();
   if (!data || !data.files.length) return takeText(e, data ? data.getData('text/plain') : '');
   e.preventDefault();
   openFiles([...data.files]);

@@ -344,4 +344,30 @@ def test_a_fen_and_pictures(user):
     assert user.download("saveSvg") == (name, text)
 
 
+def test_words_are_handed_over_before_a_file_is_dropped(user):
+    """What is being typed when a file is dropped on the board stays with its own study."""
+    user.open_tables(TABLES, SMALL)
+    user.set_up("8/8/8/6k1/8/8/1P5K/8 w - - 0 1", "white win")
+    user.play("Kg3")
+    user.by("note").click()
+    user.by("note").send_keys("My words")
+    game = '[Event "Dropped"]\n[FEN "8/8/8/8/8/1k6/8/K1R5 w - - 0 1"]\n\n{White to win} 1. Rc8 Kb4 *\n'
+    user.js(
+        """const data = new DataTransfer();
+        data.items.add(new File([arguments[0]], 'dropped.pgn'));
+        const drop = new DragEvent('drop', {dataTransfer: data, bubbles: true, cancelable: true});
+        document.querySelector('#board').dispatchEvent(drop)""",
+        game,
+    )
+    user.until("document.getElementById('head').innerText.includes('Dropped')", 60)
+    user.settle()
+    assert "My words" not in user.promise("studyboard.script()")
+    user.click("documentsButton")
+    user.settle()
+    user.js("[...document.querySelectorAll('#documents tbody button')].find(b => /Pb2/.test(b.innerText)).click()")
+    user.until("document.getElementById('note')", 60)
+    user.settle()
+    assert "#! note Kg3: My words" in user.promise("studyboard.script()"), user.promise("studyboard.script()")
+
+
 run(globals(), sys.argv[2:])
