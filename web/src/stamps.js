@@ -4,6 +4,7 @@
 import {acceptedAmong, acceptedStamp, hasAccepted} from './accepted.js';
 import {faultKind} from './fault_kinds.js';
 import {other, sideOf} from './fen.js';
+import {isCutLine} from './left_out.js';
 import {isEdit, openingsBefore, wordsOf} from './script.js';
 import {unjudgedFor} from './tails.js';
 import {bareTree} from './unmarked.js';
@@ -209,7 +210,11 @@ export function stampOf(doc, s, review) {
   const unread = refusedIn(doc, s, isEdit), [kind, n] = s.verdict.split(' '),
         wrong = s.aim ? wrongText(s.aim, s.verdict, s.start, s.fen) : '';
   if (s.origin && s.origin.cut) return {kind: 'not read', text: unreadIn(doc, s)};
-  if (unread) return {kind: 'not read', text: `${unreadAt(unread)}, ${refusedText(unread)}`};
+  if (unread)
+    return {
+      kind: 'not read',
+      text: isCutLine(unread.text) ? unreadIn(doc, s) : `${unreadAt(unread)}, ${refusedText(unread)}`
+    };
   if (!kind) return {kind: 'not judged', text: 'not judged'};
   if (s.origin && s.origin.tail && s.origin.tail.beside) return besideStamp(doc, s);
   if (wrong && isWrongInPart(s) && !isMissed(s)) return {kind: 'more', text: wrong.replace(/^\w+: /, 'from here ')};

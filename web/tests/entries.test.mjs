@@ -159,6 +159,14 @@ test('a part that comes after one of several defences says what is known of the 
   assert.deepEqual([1, 2].map(n => `${n} ${kindWords('works', n)}`),
     ['1 beside a solution that works from here', '2 beside a solution that work from here']);
 });
+test('the bad move of a saved game is named without a line of the script', () => {
+  const lines = ['position ' + FEN, 'stipulate white win', 'insert root 6. Ke3', 'pgn'], script = {
+    ...assumeAccepted(lines),
+    refused: [{line: 2, text: 'insert root 6. Ke3', reply: 'error BadArguments'}]
+  },
+        [study] = script.studies, stamp = stampOf(script, {...study, verdict: 'sound', start: 'draw'}, null);
+  assert.deepEqual(stamp, {kind: 'not read', text: 'not read: 6. Ke3'});
+});
 test('a part from which more is reached than is asked may come after a weak move', () => {
   const script = assumeAccepted(REPLIES.map(line => line.replace('white win', 'white draw'))), [part] = script.studies,
         won = {...part, verdict: 'wrong', start: 'White mates in 9'}, stamp = stampOf(script, won, null);
