@@ -173,8 +173,8 @@ export function remarksOf(game) {
   return out.map(short);
 }
 /**
- * The remarks that keep a comment before the first move, of which the page writes some words again by itself; of a part
- * of a game its heading.
+ * The remarks that keep a comment before the first move, without the words that the page writes again by itself; of a
+ * part of a game its heading.
  * @param {string} words
  */
 function openingLines(words) {

@@ -8,7 +8,7 @@ import {ownRemark, remarkOf} from './remarks.js';
 import {numberedLine} from './words.js';
 /**
  * A tail: its number in the game, the node at which it begins and the move that leads there, and whether the solution
- * leads elsewhere. `alone`: it stands without its game, of whose file the number is; it is no part of a game here.
+ * leads elsewhere. `alone`: it is a study by itself here, and its number is that of its game in another file.
  * @typedef {{game: number, number: number, node: string, after: string, beside: boolean, alone: boolean}} Tail
  */
 /**
